@@ -1,0 +1,77 @@
+-- The grid of 10^-9 has what the laws ask of a grid: the constants are tested against Taylor brackets of order 60, all by
+-- one computed test.
+use mathlib.Core.Path.{_≡_, refl}
+use mathlib.Core.Bool.{Bool, true, false}
+use Prim.Native.Nat.{ℕ, zero, suc, _*_, _≤_, _<_}
+use lib.Dec.{T, leb, ltb, leb→le, ltb→lt, lit≤, lit<}
+use lib.ListN.{length, getD}
+use Rattle.taylor.specs.Taylor.{taylorDen, taylorNum, stretchedDen, stretchedNum, gap, factorial}
+use Rattle.alternating.specs.Alternating.{double}
+use Rattle.expo.specs.Grid.{Grid}
+use Rattle.expo.specs.Exponential.{constantLower, constantUpper, total}
+use Rattle.expo.specs.Billionths.{billionths, wholeParts}
+use Rattle.expo.specs.Facts.{Sound}
+use Rattle.expo.specs.Terms.{slack}
+use Rattle.expo.specs.WidthFacts.{Narrow, slackUpper, slackLower, expWidth}
+use Rattle.whole.specs.Table.{at}
+
+-- the order of the test
+abbrev tested : ℕ
+tested = 60
+
+-- c is at most unit/(s + r) at n, and what stands for its upper end, the unit at n = 0 and c + 1 after it, at least unit/s
+holdsBelow : ℕ → ℕ → Bool
+holdsBelow n c = leb (c * stretchedNum n 1 tested) (1000000000 * stretchedDen n 1 tested)
+
+upperOf : ℕ → ℕ → ℕ
+upperOf zero c = 1000000000
+upperOf (suc n) c = suc c
+
+holdsAbove : ℕ → ℕ → Bool
+holdsAbove n c = leb (1000000000 * taylorDen 1 tested) (upperOf n c * taylorNum n 1 tested)
+
+below : (n : ℕ) → n < length wholeParts → constantLower billionths n * stretchedNum n 1 tested ≤ 1000000000 * stretchedDen n 1 tested
+unfolding holdsBelow wholeParts constantLower taylorDen taylorNum stretchedDen stretchedNum gap
+below n l = leb→le _ _ (at holdsBelow 0 wholeParts tt n l)
+
+above : (n : ℕ) → n < length wholeParts → 1000000000 * taylorDen 1 tested ≤ constantUpper billionths n * taylorNum n 1 tested
+unfolding holdsAbove upperOf wholeParts constantLower constantUpper taylorDen taylorNum
+above zero l = leb→le _ _ (at holdsAbove 0 wholeParts tt zero l)
+above (suc n) l = leb→le _ _ (at holdsAbove 0 wholeParts tt (suc n) l)
+
+pub billionths-sound : Sound billionths
+unfolding constantLower taylorDen taylorNum double wholeParts
+billionths-sound =
+    record {
+      unit-positive = lit< tt;
+      steps-positive = lit< tt;
+      whole-step = refl;
+      upperPairs = 6;
+      upper-last = refl;
+      lowerPairs = 6;
+      lower-last = refl;
+      order = tested;
+      upper-order = lit≤ tt;
+      constants-all = refl;
+      constant-first = refl;
+      constant-below = below;
+      constant-above = above;
+      cutoff-far = lit≤ tt;
+    }
+
+pub billionths-narrow : Narrow billionths billionths-sound
+unfolding billionths-sound slackUpper slackLower slack total taylorDen taylorNum factorial double
+billionths-narrow =
+    record {
+      upper-rest = lit≤ tt;
+      lower-rest = lit≤ tt;
+      lower-order = lit≤ tt;
+      upper-slack = lit≤ tt;
+      lower-slack = lit≤ tt;
+      fine = lit< tt;
+    }
+
+-- the ends at one z lie at most 30 units apart
+pub billionths-width : expWidth billionths ≡ 30
+unfolding expWidth slackUpper slackLower slack total
+billionths-width = refl

@@ -1,0 +1,22 @@
+-- The table of the exponential's edges on the grid of 10^-9: at each z the two ends, by computing the definition.
+use mathlib.Core.Path.{_≡_, refl}
+use Prim.Native.Nat.{ℕ}
+use Rattle.whole.specs.Division.{ceilDivℕ}
+use Rattle.alternating.specs.Alternating.{double}
+use Rattle.expo.specs.Grid.{Ends}
+use Rattle.expo.specs.Exponential.{nextLower, nextUpper, termLower, termUpper, total, evens, odds, sumLower, sumUpper}
+use Rattle.expo.specs.Exponential.{constantLower, constantUpper, expLower, expUpper, expBetween}
+use Rattle.expo.specs.Billionths.{billionths, wholeParts}
+
+-- the ends of the exponential of −z, at a z whose own ends are equal, are l and u
+abbrev pub Row : ℕ → ℕ → ℕ → Type 0
+Row z l u = expBetween billionths (record { lower = z; upper = z }) ≡ record { lower = l; upper = u }
+
+-- z = 0, exactly 1; z = 1; one unit before the cut-off; the cut-off, z = 21
+pub edges : Row 0 1000000000 1000000000
+    × Row 1000000000 367879441 367879442
+    × Row 20999999999 0 2
+    × Row 21000000000 0 1
+unfolding nextLower nextUpper termLower termUpper total evens odds sumLower sumUpper
+    constantLower constantUpper expLower expUpper expBetween wholeParts double ceilDivℕ
+edges = (refl, refl, refl, refl)

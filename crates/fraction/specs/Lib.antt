@@ -1,0 +1,11 @@
+-- definitions
+pub mod Ratio
+pub mod Fraction
+
+-- examples
+pub mod Rows
+
+-- laws
+pub mod RatioLaws
+pub mod FractionLaws
+pub mod Places

@@ -1,0 +1,1 @@
+// Taylor sums of the exponential: definitions and laws, no code.

@@ -1,0 +1,22 @@
+-- `ceil_div_u` meets its contract: the sum fits by what is required, and the quotient is the definition's.
+use mathlib.Core.Path.{refl}
+use borrow.Author.Needs.{needs}
+use Rattle.whole.specs.Division.{ceilDivℕ}
+use Rattle.whole.proofs.ceil_div_u.Statement.{statement}
+use Rattle.whole.proofs.ceil_div_u.Tie as tie
+
+sub-result : tie.Need-sub-result
+sub-result c = search needs
+
+add-result : tie.Need-add-result
+add-result c = search needs
+
+div-result : tie.Need-div-result
+div-result c = search needs
+
+returns : tie.Need-returns
+unfolding ceilDivℕ
+returns c = refl
+
+pub ceil-div-u-spec : {M : Type 1} → statement M
+ceil-div-u-spec = tie.close (tie.spec sub-result add-result div-result returns)

@@ -1,0 +1,12 @@
+-- definitions
+pub mod Division
+pub mod SignedEnds
+-- examples
+pub mod Rows
+-- laws
+pub mod Split
+pub mod Difference
+pub mod Order
+pub mod DivisionLaws
+pub mod Bound
+pub mod Table

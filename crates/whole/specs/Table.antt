@@ -1,0 +1,38 @@
+-- A rule of a table, proved at all of its entries by one test that is computed over the whole table.
+use mathlib.Core.Path.{subst, sym, _∙_}
+use mathlib.Core.Bool.{Bool, true, false}
+use mathlib.Core.List.{List, [], _∷_}
+use Prim.Native.Nat.{ℕ, zero, suc, _+_, _<_}
+use native.Mathlib.Nat.{add-zero, zero-add, add-suc, suc-add, le-of-suc-le-suc, not-suc-le-zero}
+use lib.Dec.{T}
+use lib.ListN.{length, getD}
+
+abbrev pub both : Bool → Bool → Bool
+both true b = b
+both false b = false
+
+both-left : (a b : Bool) → T (both a b) → T a
+both-left true b t = tt
+both-left false b t = t
+
+both-right : (a b : Bool) → T (both a b) → T b
+both-right true b t = t
+both-right false b t = absurd t
+
+-- the test passes at each entry of the list and its place, counted from i
+abbrev pub every : {A : Type 0} → (ℕ → A → Bool) → ℕ → List A → Bool
+every test i [] = true
+every test i (x ∷ xs) = both (test i x) (every test (suc i) xs)
+
+module _ {A : Type 0} (test : ℕ → A → Bool) (d : A) where
+  from : (xs : List A) (i : ℕ) → T (every test i xs) → (k : ℕ) → k < length xs → T (test (i + k) (getD xs k d))
+  from [] i t k h = absurd (not-suc-le-zero h)
+  from (x ∷ xs) i t zero h =
+      subst (λ (m : ℕ). T (test m x)) (sym (add-zero i)) (both-left (test i x) (every test (suc i) xs) t)
+  from (x ∷ xs) i t (suc k) h =
+      subst (λ (m : ℕ). T (test m (getD xs k d))) (suc-add i k ∙ sym (add-suc i k))
+      (from xs (suc i) (both-right (test i x) (every test (suc i) xs) t) k (le-of-suc-le-suc h))
+
+  -- the test holds of the k-th entry
+  pub at : (xs : List A) → T (every test 0 xs) → (k : ℕ) → k < length xs → T (test k (getD xs k d))
+  at xs t k h = subst (λ (m : ℕ). T (test m (getD xs k d))) (zero-add k) (from xs 0 t k h)
