@@ -1,0 +1,3 @@
+pub mod NumberLengths
+pub mod Overwritten
+pub mod OverwrittenLaws

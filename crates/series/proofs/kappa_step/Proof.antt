@@ -1,0 +1,54 @@
+-- `kappa_step` meets its contract: the products of the ends with a fit, and are divided outward.
+use borrow.Author.Needs.{needs}
+use mir.Syntax.{w64}
+use mir.Val.{SFits}
+use mir.Facts.{toZ-ofZ}
+use Rattle.whole.specs.Bound.{fits}
+use Rattle.whole.specs.SignedEnds.{leastProduct, greatestProduct, outward}
+use Rattle.series.specs.Series.{rateUnit, kappaStep}
+use Rattle.series.specs.Code.{endsOf}
+use Rattle.series.specs.EndLaws.{least-under, greatest-under}
+use Rattle.series.proofs.Signed.{read, read-floor, read-ceil, ends}
+use Rattle.series.proofs.kappa_step.Statement.{statement}
+use Rattle.series.proofs.kappa_step.Tie as tie
+
+least-fits : (s : tie.Start) → SFits w64 (leastProduct (s .args .a) (endsOf (s .args .e)))
+least-fits s = fits (least-under (s .pre .0) (s .pre .1)) tt
+
+greatest-fits : (s : tie.Start) → SFits w64 (greatestProduct (s .args .a) (endsOf (s .args .e)))
+greatest-fits s = fits (greatest-under (s .pre .0) (s .pre .1)) tt
+
+least-product-requires : tie.Need-least-product-requires
+least-product-requires c κs = rw (toZ-ofZ (c .fits .a)) (least-fits c)
+
+per-rate-requires : tie.Need-per-rate-requires
+per-rate-requires c κs = search needs
+
+greatest-product-requires : tie.Need-greatest-product-requires
+greatest-product-requires c κs = let s = c .before .before in rw (toZ-ofZ (s .fits .a)) (greatest-fits s)
+
+per-rate-requires-2 : tie.Need-per-rate-requires-2
+per-rate-requires-2 c κs = search needs
+
+returns : tie.Need-returns
+unfolding kappaStep outward
+returns c =
+    let g = c .before in
+    let f = g .before in
+    let l = f .before in
+    let s = l .before in
+    let a = toZ-ofZ (s .fits .a) in
+    let low = read (rw a at (l .least-product .ensures)) (least-fits s) in
+    let high = read (rw a at (g .greatest-product .ensures)) (greatest-fits s) in
+    ends (read-floor rateUnit low (least-fits s) (f .per-rate .ensures))
+    (read-ceil rateUnit high (greatest-fits s) (c .per-rate2 .ensures))
+
+pub kappa-step-spec : {M : Type 1} → statement M
+kappa-step-spec =
+    tie.close
+    (tie.spec
+    least-product-requires
+    per-rate-requires
+    greatest-product-requires
+    per-rate-requires-2
+    returns)

@@ -1,0 +1,95 @@
+-- How far from zero the time series and the log force lie, for a set in its limits and the years of a quote: each number
+-- that is formed on the way fits a signed 64-bit number.
+use Prim.Native.Nat.{ℕ, zero, suc, _+_, _*_, _≤_, _<_}
+use native.Mathlib.Nat.{mul-le-mul-right}
+use lib.Dec.{T, lit<, lit≤}
+use lib.IntN.{ℤ, pos, negsuc, _+ℤ_, _*ℤ_}
+use Rattle.whole.specs.Split.{split, split-add, split-scale-left}
+use Rattle.whole.specs.Bound.{Under, under-between, under-low, under-high, under-add, under-mul}
+use Rattle.whole.specs.SignedEnds.{SignedEnds, leastProduct, greatestProduct}
+use Rattle.sheet.specs.declared.Params.{Params}
+use Rattle.sheet.specs.Set.{B, alpha, beta, ages}
+use Rattle.sheet.specs.Limits.{levelLimit, slopeLimit, aLimit, periodLimit, kappaLimit, lastYears, inLimits}
+use Rattle.series.specs.Series.{periodIndex, kappaStep, kappa, cellForce, logForce}
+use Rattle.series.specs.EndLaws.{EndsUnder, least-under, greatest-under, outward-under}
+use Rattle.sheet.specs.LimitsLaws.{SeriesWithin, AgeWithin, in-limits-series, in-limits-age}
+
+-- k + n·t lies between k and k + m·t
+between : (k t : ℤ) {n m b : ℕ} → n ≤ m → Under k b → Under (k +ℤ pos m *ℤ t) b → Under (k +ℤ pos n *ℤ t) b
+between k (pos t) {n} {m} {b} h u v =
+    let l = under-low u in
+    let r = under-high v in
+    let g = mul-le-mul-right t h in
+    under-between (omega (split, split-add k (pos (n * t))))
+    (omega (split, split-add k (pos (n * t)), split-add k (pos (m * t))))
+between k (negsuc t) {n} {m} {b} h u v =
+    let l = under-low v in
+    let r = under-high u in
+    let g = mul-le-mul-right (suc t) h in
+    let z = negsuc t in
+    let a = split-add k (pos n *ℤ z) in
+    let s = split-scale-left n z in
+    under-between (omega (split, split-add k (pos m *ℤ z), split-scale-left m z)) (omega split)
+
+-- the period's index in a year of a quote
+pub periodIndex-under : (p : Params) {n : ℕ} → SeriesWithin p → n ≤ lastYears → Under (periodIndex p n) periodLimit
+unfolding periodIndex
+periodIndex-under p l h = between (p .period) (p .theta) h (l .period) (l .last)
+
+-- kappa, in every year
+pub kappaStep-under : {a : ℤ} {e : SignedEnds} → Under a aLimit → EndsUnder e kappaLimit
+    → EndsUnder (kappaStep a e) kappaLimit
+unfolding kappaStep
+kappaStep-under u v = outward-under kappaLimit (lit< tt) (lit≤ tt) (least-under u v) (greatest-under u v)
+
+pub kappa-under : (p : Params) (n : ℕ) → SeriesWithin p → EndsUnder (kappa p n) kappaLimit
+unfolding kappa
+kappa-under p zero l = record { lower = l .kappa; upper = l .kappa }
+kappa-under p (suc n) l = kappaStep-under (l .a) (kappa-under p n l)
+
+-- ---- the log force of a cell
+
+-- B·K + beta·kappa, that over the rate's unit, and the log force
+abbrev pub sumLimit : ℕ
+sumLimit = slopeLimit * periodLimit + slopeLimit * kappaLimit
+
+abbrev pub quotientLimit : ℕ
+quotientLimit = 55000000000
+
+abbrev pub forceLimit : ℕ
+forceLimit = levelLimit + levelLimit + quotientLimit
+
+-- what the log force of a cell is formed of is in its limits
+pub record CellLimits (p : Params) (x : ℕ) (k : ℤ) (e : SignedEnds) : Type 0 where
+  pub age : AgeWithin p x
+  pub period : Under k periodLimit
+  pub kappas : EndsUnder e kappaLimit
+
+-- so it is for a set in its limits, in every year of a quote
+pub cell-limits : (p : Params) → T (inLimits p) → {x n : ℕ} → x < ages → n ≤ lastYears
+    → CellLimits p x (periodIndex p n) (kappa p n)
+cell-limits p t {x} {n} hx hn =
+    let l = in-limits-series p t in
+    record { age = in-limits-age p t x hx; period = periodIndex-under p l hn; kappas = kappa-under p n l }
+
+-- so each step is
+pub least-sum-under : {p : Params} {x : ℕ} {k : ℤ} {e : SignedEnds} → CellLimits p x k e
+    → Under (B p x *ℤ k +ℤ leastProduct (beta p x) e) sumLimit
+least-sum-under c = under-add (under-mul (c .age .slope) (c .period)) (least-under (c .age .beta) (c .kappas))
+
+pub greatest-sum-under : {p : Params} {x : ℕ} {k : ℤ} {e : SignedEnds} → CellLimits p x k e
+    → Under (B p x *ℤ k +ℤ greatestProduct (beta p x) e) sumLimit
+greatest-sum-under c = under-add (under-mul (c .age .slope) (c .period)) (greatest-under (c .age .beta) (c .kappas))
+
+pub cellForce-under : {p : Params} {x : ℕ} {k : ℤ} {e : SignedEnds} → CellLimits p x k e
+    → EndsUnder (cellForce p x k e) forceLimit
+unfolding cellForce
+cellForce-under c =
+    let u = under-add (c .age .level) (c .age .alpha) in
+    let q = outward-under quotientLimit (lit< tt) (lit≤ tt) (least-sum-under c) (greatest-sum-under c) in
+    record { lower = under-add u (q .lower); upper = under-add u (q .upper) }
+
+pub logForce-under : (p : Params) → T (inLimits p) → {x n : ℕ} → x < ages → n ≤ lastYears
+    → EndsUnder (logForce p x n) forceLimit
+unfolding logForce
+logForce-under p t hx hn = cellForce-under (cell-limits p t hx hn)

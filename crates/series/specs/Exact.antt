@@ -1,0 +1,22 @@
+-- The time series and the log force exactly (paper 01, "The exact value"): fractions, in the parameters' units of 10^-9.
+use Prim.Native.Nat.{ℕ, zero, suc, _<_}
+use lib.Dec.{lit<}
+use lib.IntN.{ℤ, pos, _+ℤ_, _*ℤ_}
+use Rattle.fraction.specs.Fraction.{Fraction, wholeℚ, _+ℚ_, scaleℚ, quotientℚ}
+use Rattle.sheet.specs.declared.Params.{Params}
+use Rattle.sheet.specs.Set.{A, B, alpha, beta}
+use Rattle.series.specs.Series.{rateUnit, periodIndex}
+
+-- x/10^8
+unfoldable pub perRate : Fraction → Fraction
+perRate x = quotientℚ x rateUnit (lit< tt)
+
+-- kappa in year n: k·(a/10^8)^n
+unfoldable pub exactKappa : Params → ℕ → Fraction
+exactKappa p zero = wholeℚ (p .kappa)
+exactKappa p (suc n) = perRate (scaleℚ (p .a) (exactKappa p n))
+
+-- A + alpha + (B·K + beta·kappa)/10^8
+unfoldable pub exactLogForce : Params → ℕ → ℕ → Fraction
+exactLogForce p x n =
+    wholeℚ (A p x +ℤ alpha p x) +ℚ perRate (wholeℚ (B p x *ℤ periodIndex p n) +ℚ scaleℚ (beta p x) (exactKappa p n))

@@ -1,0 +1,85 @@
+-- A log force m in range, negated: the ends of z = −m are natural numbers from 700,000,000 to 30,000,000,000, the lower
+-- end of m gives the upper end of z, and z is as wide as m. They hold the exact log force, negated.
+use mathlib.Core.Path.{_≡_, refl}
+use Prim.Native.Nat.{ℕ, _+_, _≤_, _<_}
+use lib.Dec.{T}
+use lib.Ieee.Fits.{and-l, and-r}
+use lib.IntN.{ℤ, pos, negsuc, negℤ}
+use lib.Signed.{_≤ℤ_, _<ℤ_, leZ, leZ-yes, ltZ-yes}
+use Rattle.whole.specs.Split.{above, below, split, split-add}
+use Rattle.whole.specs.SignedEnds.{SignedEnds}
+use Rattle.fraction.specs.Fraction.{Fraction, _≤ℚ_, _<ℚ_, wholeℚ, negℚ}
+use Rattle.fraction.specs.FractionLaws.{≤ℚ-trans, ≤ℚ-<ℚ-trans, negℚ-reverse, wholeℚ-≤ℚ, wholeℚ-<ℚ, wholeℚ-negℚ}
+use Rattle.sheet.specs.declared.Params.{Params}
+use Rattle.sheet.specs.Set.{ages}
+use Rattle.sheet.specs.Limits.{lastYears, inLimits}
+use Rattle.series.specs.Series.{logForce, lowestForce, highestForce, inRange}
+use Rattle.series.specs.Exact.{exactLogForce}
+use Rattle.series.specs.EndLaws.{Holds, Wide}
+use Rattle.series.specs.SeriesLaws.{logForce-holds}
+use Rattle.series.specs.WidthLaws.{logForceWidth, logForce-wide}
+
+-- lower end at least −30,000,000,000, upper end at most −700,000,000
+pub record InRange (m : SignedEnds) : Type 0 where
+  pub low : lowestForce ≤ℤ m .lower
+  pub high : m .upper ≤ℤ highestForce
+
+pub in-range : (m : SignedEnds) → T (inRange m) → InRange m
+unfolding inRange
+in-range m t =
+    let l = leZ lowestForce (m .lower) in
+    let h = leZ (m .upper) highestForce in
+    record { low = leZ-yes (and-l l h t); high = leZ-yes (and-r l h t) }
+
+-- the ends of z = −m
+pub record Negated (m : SignedEnds) (w : ℕ) : Type 0 where
+  pub least : 700000000 ≤ below (m .upper)
+  pub most : below (m .lower) ≤ 30000000000
+  pub ordered : below (m .upper) ≤ below (m .lower)
+  pub width : below (m .lower) ≤ below (m .upper) + w
+  pub lower : negℤ (m .lower) ≡ pos (below (m .lower))
+  pub upper : negℤ (m .upper) ≡ pos (below (m .upper))
+
+-- a number below zero is its part below zero, negated
+negative : (z : ℤ) → z <ℤ pos 0 → (negℤ z ≡ pos (below z)) × (above z ≡ 0)
+negative (pos n) h = absurd (omega split)
+negative (negsuc n) h = (refl, refl)
+
+pub negated : {m : SignedEnds} {w : ℕ} → InRange m → Wide (m .lower) (m .upper) w → Negated m w
+negated {m} {w} r h =
+    let l = negative (m .lower) (omega split) in
+    let u = negative (m .upper) (omega split) in
+    let s = split-add (m .lower) (pos w) in
+    record {
+      least = omega split;
+      most = omega split;
+      ordered = omega split;
+      width = omega split;
+      lower = l .0;
+      upper = u .0;
+    }
+
+-- the negated ends hold −y where the ends hold y
+pub negated-holds : {m : SignedEnds} {w : ℕ} {y : Fraction} → Negated m w → Holds m y
+    → (wholeℚ (pos (below (m .upper))) ≤ℚ negℚ y) × (negℚ y ≤ℚ wholeℚ (pos (below (m .lower))))
+negated-holds {m} n h = (
+  rw (← n .upper, wholeℚ-negℚ (m .upper)) (negℚ-reverse (h .high)),
+  rw (← n .lower, wholeℚ-negℚ (m .lower)) (negℚ-reverse (h .low)),
+)
+
+-- ---- of a log force
+
+-- in a year of a quote, the ends of −m for a set in its limits
+pub logForce-negated : (p : Params) → T (inLimits p) → {x n : ℕ} → x < ages → n ≤ lastYears
+    → T (inRange (logForce p x n)) → Negated (logForce p x n) logForceWidth
+logForce-negated p t {x} {n} hx hn r = negated (in-range (logForce p x n) r) (logForce-wide p t hx hn)
+
+-- the exact log force is at most the upper end, and so at most −700,000,000 and negative
+pub exactLogForce-high : (p : Params) (x n : ℕ) → T (inRange (logForce p x n))
+    → exactLogForce p x n ≤ℚ wholeℚ highestForce
+exactLogForce-high p x n r =
+    ≤ℚ-trans (logForce-holds p x n .high) (wholeℚ-≤ℚ .0 (in-range (logForce p x n) r .high))
+
+pub exactLogForce-negative : (p : Params) (x n : ℕ) → T (inRange (logForce p x n))
+    → exactLogForce p x n <ℚ wholeℚ (pos 0)
+exactLogForce-negative p x n r = ≤ℚ-<ℚ-trans (exactLogForce-high p x n r) (wholeℚ-<ℚ .0 (ltZ-yes tt))

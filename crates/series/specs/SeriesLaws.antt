@@ -1,0 +1,51 @@
+-- The time series and the log force on the grid hold the exact ones, for every set and year.
+use Prim.Native.Nat.{ℕ, zero, suc}
+use lib.Dec.{lit<}
+use lib.IntN.{ℤ, _+ℤ_, _*ℤ_}
+use Rattle.whole.specs.SignedEnds.{SignedEnds, leastProduct, greatestProduct, outward}
+use Rattle.fraction.specs.Fraction.{Fraction, _≤ℚ_, wholeℚ, _+ℚ_, scaleℚ}
+use Rattle.fraction.specs.FractionLaws.{≤ℚ-refl, ≤ℚ-trans, +ℚ-mono, wholeℚ-+ℚ}
+use Rattle.sheet.specs.declared.Params.{Params}
+use Rattle.sheet.specs.Set.{A, B, alpha, beta}
+use Rattle.series.specs.Series.{rateUnit, periodIndex, kappaStep, kappa, cellForce, logForce}
+use Rattle.series.specs.Exact.{perRate, exactKappa, exactLogForce}
+use Rattle.series.specs.EndLaws.{Holds, least-product, greatest-product, outward-holds}
+
+-- one year holds a·y/10^8
+pub kappaStep-holds : (a : ℤ) {e : SignedEnds} {y : Fraction} → Holds e y → Holds (kappaStep a e) (perRate (scaleℚ a y))
+unfolding kappaStep perRate
+kappaStep-holds a {e} h =
+    outward-holds (leastProduct a e) (greatestProduct a e) (lit< tt) (least-product a h) (greatest-product a h)
+
+-- kappa holds k·(a/10^8)^n in year n
+pub kappa-holds : (p : Params) (n : ℕ) → Holds (kappa p n) (exactKappa p n)
+unfolding kappa exactKappa
+kappa-holds p zero = record { low = ≤ℚ-refl (wholeℚ (p .kappa)); high = ≤ℚ-refl (wholeℚ (p .kappa)) }
+kappa-holds p (suc n) = kappaStep-holds (p .a) (kappa-holds p n)
+
+-- c + z lies between the sums of c with the ends
+sum-low : (c l : ℤ) {z : Fraction} → wholeℚ l ≤ℚ z → wholeℚ (c +ℤ l) ≤ℚ wholeℚ c +ℚ z
+sum-low c l h = ≤ℚ-trans (wholeℚ-+ℚ c l .below) (+ℚ-mono (≤ℚ-refl (wholeℚ c)) h)
+
+sum-high : (c u : ℤ) {z : Fraction} → z ≤ℚ wholeℚ u → wholeℚ c +ℚ z ≤ℚ wholeℚ (c +ℤ u)
+sum-high c u h = ≤ℚ-trans (+ℚ-mono (≤ℚ-refl (wholeℚ c)) h) (wholeℚ-+ℚ c u .above)
+
+-- the log force of a cell holds A + alpha + (B·K + beta·y)/10^8 where the ends of kappa hold y
+pub cellForce-holds : (p : Params) (x : ℕ) (period : ℤ) {e : SignedEnds} {y : Fraction} → Holds e y
+    → Holds (cellForce p x period e)
+    (wholeℚ (A p x +ℤ alpha p x) +ℚ perRate (wholeℚ (B p x *ℤ period) +ℚ scaleℚ (beta p x) y))
+unfolding cellForce perRate
+cellForce-holds p x period {e} h =
+    let b = B p x *ℤ period in
+    let l = leastProduct (beta p x) e in
+    let g = greatestProduct (beta p x) e in
+    let q = outward (b +ℤ l) (b +ℤ g) rateUnit in
+    let c = A p x +ℤ alpha p x in
+    let d = outward-holds (b +ℤ l) (b +ℤ g) (lit< tt) (sum-low b l (least-product (beta p x) h))
+    (sum-high b g (greatest-product (beta p x) h)) in
+    record { low = sum-low c (q .lower) (d .low); high = sum-high c (q .upper) (d .high) }
+
+-- the log force holds the exact one
+pub logForce-holds : (p : Params) (x n : ℕ) → Holds (logForce p x n) (exactLogForce p x n)
+unfolding logForce exactLogForce
+logForce-holds p x n = cellForce-holds p x (periodIndex p n) (kappa-holds p n)

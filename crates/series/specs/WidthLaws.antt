@@ -1,0 +1,69 @@
+-- How wide the time series and the log force are, for a set in its limits: kappa widens by at most a unit a year, and in
+-- no year of a quote is a log force wider than 19 units.
+use Prim.Native.Nat.{ℕ, zero, suc, _+_, _*_, _≤_, _<_}
+use native.Mathlib.Omega.{arith}
+use lib.Dec.{T, lit<}
+use lib.IntN.{ℤ, pos, _+ℤ_, _*ℤ_}
+use lib.Signed.{_≤ℤ_}
+use Rattle.whole.specs.Split.{split, split-add}
+use Rattle.whole.specs.Bound.{Under}
+use Rattle.whole.specs.SignedEnds.{SignedEnds}
+use Rattle.sheet.specs.declared.Params.{Params}
+use Rattle.sheet.specs.Set.{A, B, alpha, beta, ages}
+use Rattle.sheet.specs.Limits.{slopeLimit, aLimit, lastYears, inLimits}
+use Rattle.series.specs.Series.{rateUnit, periodIndex, kappaStep, kappa, cellForce, logForce}
+use Rattle.series.specs.EndLaws.{Wide, product-width, outward-width}
+use Rattle.sheet.specs.LimitsLaws.{in-limits-series, in-limits-age}
+
+-- the greatest width of a log force in the years of a quote, in units
+abbrev pub logForceWidth : ℕ
+logForceWidth = 19
+
+-- a year widens kappa by at most one unit
+pub kappaStep-wide : {a : ℤ} {e : SignedEnds} {w : ℕ} → Under a aLimit → Wide (e .lower) (e .upper) w
+    → Wide (kappaStep a e .lower) (kappaStep a e .upper) (suc w)
+unfolding kappaStep
+kappaStep-wide {w} u h = outward-width (suc w) (lit< tt) (product-width u h) (omega arith)
+
+pub kappa-wide : (p : Params) (n : ℕ) → Under (p .a) aLimit → Wide (kappa p n .lower) (kappa p n .upper) n
+unfolding kappa
+kappa-wide p zero u =
+    record { ordered = omega split; width = omega (split, split-add (p .kappa) (pos 0)) }
+kappa-wide p (suc n) u = kappaStep-wide u (kappa-wide p n u)
+
+-- a sum with one number is as wide
+sum-wide : (c : ℤ) {l u : ℤ} {w : ℕ} → Wide l u w → Wide (c +ℤ l) (c +ℤ u) w
+sum-wide c {l} {u} {w} h = record {
+  ordered = omega (split, split-add c l, split-add c u);
+  width = omega (split, split-add c l, split-add c u, split-add l (pos w), split-add (c +ℤ l) (pos w));
+}
+
+-- the log force of a cell is at most w wide where kappa is at most n wide and n/10 + 1 ≤ w
+pub cellForce-wide : (p : Params) (x : ℕ) (period : ℤ) {e : SignedEnds} {n : ℕ} (w : ℕ) → Under (beta p x) slopeLimit
+    → Wide (e .lower) (e .upper) n → slopeLimit * n + rateUnit ≤ w * rateUnit + 1
+    → Wide (cellForce p x period e .lower) (cellForce p x period e .upper) w
+unfolding cellForce
+cellForce-wide p x period w u h l =
+    let b = B p x *ℤ period in
+    sum-wide (A p x +ℤ alpha p x) (outward-width w (lit< tt) (sum-wide b (product-width u h)) l)
+
+pub logForce-wide : (p : Params) → T (inLimits p) → {x n : ℕ} → x < ages → n ≤ lastYears
+    → Wide (logForce p x n .lower) (logForce p x n .upper) logForceWidth
+unfolding logForce
+logForce-wide p t {x} {n} hx hn = cellForce-wide p x (periodIndex p n) logForceWidth (in-limits-age p t x hx .beta)
+    (kappa-wide p n (in-limits-series p t .a)) (omega arith)
+
+-- the lower end is at most the upper one, and that at most n above it for kappa, 19 above it for the log force
+pub kappa-ordered : (p : Params) → T (inLimits p) → (n : ℕ) → kappa p n .lower ≤ℤ kappa p n .upper
+kappa-ordered p t n = kappa-wide p n (in-limits-series p t .a) .ordered
+
+pub kappa-width : (p : Params) → T (inLimits p) → (n : ℕ) → kappa p n .upper ≤ℤ (kappa p n .lower +ℤ pos n)
+kappa-width p t n = kappa-wide p n (in-limits-series p t .a) .width
+
+pub logForce-ordered : (p : Params) → T (inLimits p) → {x n : ℕ} → x < ages → n ≤ lastYears
+    → logForce p x n .lower ≤ℤ logForce p x n .upper
+logForce-ordered p t hx hn = logForce-wide p t hx hn .ordered
+
+pub logForce-width : (p : Params) → T (inLimits p) → {x n : ℕ} → x < ages → n ≤ lastYears
+    → logForce p x n .upper ≤ℤ (logForce p x n .lower +ℤ pos logForceWidth)
+logForce-width p t hx hn = logForce-wide p t hx hn .width

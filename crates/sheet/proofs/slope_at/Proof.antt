@@ -1,0 +1,19 @@
+-- `slope_at` meets its contract: the element at x of the run of B.
+use borrow.Author.Needs.{needs}
+use mir.Facts.{toZ-ofZ}
+use Rattle.sheet.specs.Set.{B}
+use Rattle.sheet.proofs.slope_at.Statement.{statement}
+use Rattle.sheet.proofs.slope_at.Tie as tie
+
+mul-result : tie.Need-mul-result
+mul-result c = search needs
+
+element-copy-out-result : tie.Need-element-copy-out-result
+element-copy-out-result c = search needs
+
+returns : tie.Need-returns
+unfolding B
+returns c = toZ-ofZ (record { sfits = c .result .given })
+
+pub slope-at-spec : {M : Type 1} → statement M
+slope-at-spec = tie.close (tie.spec mul-result element-copy-out-result returns)

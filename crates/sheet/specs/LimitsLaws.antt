@@ -1,0 +1,78 @@
+-- What being in limits says of each parameter.
+use mathlib.Core.Path.{_≡_}
+use mathlib.Core.Bool.{Bool, false, _&&_, and-false}
+use mathlib.Core.Logic.{⊎-elim}
+use Prim.Native.Nat.{ℕ, zero, suc, _<_}
+use native.Mathlib.Nat.{eq-or-lt-of-le, le-of-suc-le-suc}
+use native.Mathlib.Omega.{arith}
+use lib.Dec.{T}
+use lib.Ieee.Fits.{and-l, and-r}
+use lib.IntN.{pos, _+ℤ_, _*ℤ_}
+use Rattle.whole.specs.Bound.{Under, under-lit}
+use Rattle.sheet.specs.declared.Params.{Params}
+use Rattle.sheet.specs.Set.{A, B, alpha, beta, ages}
+use Rattle.sheet.specs.Limits.{levelLimit, slopeLimit, aLimit, thetaLimit, periodLimit, kappaLimit, lastYears}
+use Rattle.sheet.specs.Limits.{within, ageInLimits, agesInLimits, seriesInLimits, inLimits}
+
+-- the four parameters of an age
+pub record AgeWithin (p : Params) (x : ℕ) : Type 0 where
+  pub level : Under (A p x) levelLimit
+  pub slope : Under (B p x) slopeLimit
+  pub alpha : Under (alpha p x) levelLimit
+  pub beta : Under (beta p x) slopeLimit
+
+-- a, theta, K, K + 171·theta and k
+pub record SeriesWithin (p : Params) : Type 0 where
+  pub a : Under (p .a) aLimit
+  pub theta : Under (p .theta) thetaLimit
+  pub period : Under (p .period) periodLimit
+  pub last : Under (p .period +ℤ pos lastYears *ℤ p .theta) periodLimit
+  pub kappa : Under (p .kappa) kappaLimit
+
+both : (a b : Bool) → T (a && b) → T a × T b
+both a b t = (and-l a b t, and-r a b t)
+
+age-within : (p : Params) (x : ℕ) → T (ageInLimits p x) → AgeWithin p x
+unfolding ageInLimits
+age-within p x t =
+    let (l, t₁) = both (within levelLimit (A p x)) _ t in
+    let (s, t₂) = both (within slopeLimit (B p x)) _ t₁ in
+    let (al, be) = both (within levelLimit (alpha p x)) (within slopeLimit (beta p x)) t₂ in
+    record { level = under-lit l; slope = under-lit s; alpha = under-lit al; beta = under-lit be }
+
+ages-within : (p : Params) (n : ℕ) → T (agesInLimits p n) → (x : ℕ) → x < n → AgeWithin p x
+unfolding agesInLimits
+ages-within p zero t x h = absurd (omega arith)
+ages-within p (suc n) t x h =
+    let (before, here) = both (agesInLimits p n) (ageInLimits p n) t in
+    ⊎-elim (λ e. rw e (age-within p n here)) (λ l. ages-within p n before x l) (eq-or-lt-of-le (le-of-suc-le-suc h))
+
+-- one age that is out of limits decides
+pub age-out : (p : Params) (x n : ℕ) → x < n → ageInLimits p x ≡ false → agesInLimits p n ≡ false
+unfolding agesInLimits
+age-out p x zero h e = absurd (omega arith)
+age-out p x (suc n) h e =
+    ⊎-elim (λ q. rw (← q, e) (and-false (agesInLimits p x))) (λ l. rw (age-out p x n l e))
+    (eq-or-lt-of-le (le-of-suc-le-suc h))
+
+-- in limits, the four parameters of every age
+pub in-limits-age : (p : Params) → T (inLimits p) → (x : ℕ) → x < ages → AgeWithin p x
+unfolding inLimits
+in-limits-age p t = ages-within p ages (and-r (seriesInLimits p) (agesInLimits p ages) t)
+
+-- and those of the series
+pub in-limits-series : (p : Params) → T (inLimits p) → SeriesWithin p
+unfolding inLimits seriesInLimits
+in-limits-series p t =
+    let (a, t₁) = both (within aLimit (p .a)) _ (and-l (seriesInLimits p) (agesInLimits p ages) t) in
+    let (theta, t₂) = both (within thetaLimit (p .theta)) _ t₁ in
+    let (period, t₃) = both (within periodLimit (p .period)) _ t₂ in
+    let (last, kappa) =
+    both (within periodLimit (p .period +ℤ pos lastYears *ℤ p .theta)) (within kappaLimit (p .kappa)) t₃ in
+    record {
+      a = under-lit a;
+      theta = under-lit theta;
+      period = under-lit period;
+      last = under-lit last;
+      kappa = under-lit kappa;
+    }

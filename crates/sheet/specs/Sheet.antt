@@ -1,0 +1,150 @@
+-- "A sheet is 370 lines, each `key=value` and one line feed, in this order: `table=AG2014`, `sex=M` or `sex=F` (a label
+-- only), `a=`, `theta=`, `K=`, `k=`, then for ages 0 to 90 four lines `A.0=`, `B.0=`, `al.0=`, `be.0=` and so on to
+-- `be.90=`."
+use Prim.Native.Nat.{ℕ, zero, suc, _+_, _*_}
+use mathlib.Core.Bool.{cond}
+use mathlib.Core.List.{List, [], _∷_, _++_}
+use lib.Dec.{leb}
+use lib.IntN.{ℤ, pos}
+use lib.ListN.{getD, length, drop}
+use Rattle.tokens.specs.Text.{bytesOf, Parse, torn, taken, takeText}
+use Rattle.tokens.specs.Number.{readNumber, numberText, unsignedText}
+use Rattle.sheet.specs.declared.Params.{Params}
+use Rattle.sheet.specs.declared.Sex.{Sex}
+use Rattle.sheet.specs.declared.Sex.the-variants.{M, F}
+use Rattle.sheet.specs.declared.Refusal.{Refusal}
+use Rattle.sheet.specs.declared.Refusal.the-variants.{Accepted, Torn, OffScale, Short}
+use Rattle.sheet.specs.declared.Reading.{Reading}
+use Rattle.sheet.specs.declared.Written.{Written}
+use Rattle.sheet.specs.Set.{A, B, alpha, beta, ages, blank}
+use Rattle.sheet.specs.Limits.{inLimits}
+
+-- the longest input that is read
+abbrev pub mostBytes : ℕ
+mostBytes = 65536
+
+-- ---- the lines' keys and values, in their order
+
+-- f at 0, 1, .. to n − 1, one after the other
+unfoldable pub forAges : {X : Type 0} → (ℕ → List X) → ℕ → List X
+forAges f zero = []
+forAges f (suc n) = forAges f n ++ f n
+
+unfoldable pub ageKeys : ℕ → List (List ℕ)
+ageKeys x =
+    (bytesOf "A." ++ unsignedText x) ∷ (bytesOf "B." ++ unsignedText x) ∷ (bytesOf "al." ++ unsignedText x)
+    ∷ (bytesOf "be." ++ unsignedText x) ∷ []
+
+unfoldable pub keys : List (List ℕ)
+keys = bytesOf "a" ∷ bytesOf "theta" ∷ bytesOf "K" ∷ bytesOf "k" ∷ forAges ageKeys ages
+
+unfoldable pub ageValues : Params → ℕ → List ℤ
+ageValues p x = A p x ∷ B p x ∷ alpha p x ∷ beta p x ∷ []
+
+unfoldable pub values : Params → List ℤ
+values p = p .a ∷ p .theta ∷ p .period ∷ p .kappa ∷ forAges (ageValues p) ages
+
+-- ---- the one sheet of a set
+
+unfoldable pub lineText : List ℕ → ℤ → List ℕ
+lineText key v = key ++ (bytesOf "=" ++ (numberText v ++ bytesOf "\n"))
+
+unfoldable pub linesText : List (List ℕ) → List ℤ → List ℕ
+linesText [] vs = []
+linesText (k ∷ ks) [] = []
+linesText (k ∷ ks) (v ∷ vs) = lineText k v ++ linesText ks vs
+
+unfoldable pub headText : Sex → List ℕ
+headText M = bytesOf "table=AG2014\nsex=M\n"
+headText F = bytesOf "table=AG2014\nsex=F\n"
+
+unfoldable pub sheetText : Params → List ℕ
+sheetText p = headText (p .sex) ++ linesText keys (values p)
+
+-- ---- reading
+
+-- a line with this key: its number, and what follows the line feed
+unfoldable pub readLine : List ℕ → List ℕ → Parse ℤ
+readLine key bs =
+    elim (takeText (key ++ bytesOf "=") bs) [
+      | torn ↦ torn
+      | taken u after ↦
+          elim (readNumber after) [
+            | torn ↦ torn
+            | taken v rest ↦ elim (takeText (bytesOf "\n") rest) [ torn ↦ torn | taken w next ↦ taken v next ]
+          ]
+    ]
+
+-- lines with these keys: their numbers
+unfoldable pub readLines : List (List ℕ) → List ℕ → Parse (List ℤ)
+readLines [] bs = taken [] bs
+readLines (k ∷ ks) bs =
+    elim (readLine k bs) [
+      | torn ↦ torn
+      | taken v rest ↦ elim (readLines ks rest) [ torn ↦ torn | taken vs next ↦ taken (v ∷ vs) next ]
+    ]
+
+unfoldable pub readHead : List ℕ → Parse Sex
+readHead bs =
+    elim (takeText (headText M) bs) [
+      | torn ↦ elim (takeText (headText F) bs) [ torn ↦ torn | taken u rest ↦ taken F rest ]
+      | taken u rest ↦ taken M rest
+    ]
+
+-- a run of parameters: from place i on, every fourth value
+unfoldable pub runFrom : ℕ → List ℤ → List ℤ
+runFrom i vs = forAges (λ (x : ℕ). getD vs (i + 4 * x) (pos 0) ∷ []) ages
+
+unfoldable pub paramsOf : Sex → List ℤ → Params
+paramsOf sex vs =
+    record {
+      sex = sex;
+      a = getD vs 0 (pos 0);
+      theta = getD vs 1 (pos 0);
+      period = getD vs 2 (pos 0);
+      kappa = getD vs 3 (pos 0);
+      level = runFrom 4 vs;
+      slope = runFrom 5 vs;
+      alpha = runFrom 6 vs;
+      beta = runFrom 7 vs;
+    }
+
+-- the set that the whole input stands for, or torn
+unfoldable pub readSet : List ℕ → Parse Params
+readSet bs =
+    elim (readHead bs) [
+      | torn ↦ torn
+      | taken sex rest ↦
+          elim (readLines keys rest)
+          [ torn ↦ torn | taken vs next ↦ elim next [ [] ↦ taken (paramsOf sex vs) [] | b ∷ more ↦ torn ] ]
+    ]
+
+-- "A refused reading hands back sex M and every number 0."
+unfoldable pub refused : Refusal → Reading
+refused r = record { refusal = r; set = blank }
+
+-- "Refusal 1 is decided over the whole sheet before 2."
+unfoldable pub judged : Parse Params → Reading
+judged torn = refused Torn
+judged (taken p rest) = cond (inLimits p) (record { refusal = Accepted; set = p }) (refused OffScale)
+
+unfoldable pub readSheet : List ℕ → Reading
+readSheet bs = cond (leb (length bs) mostBytes) (judged (readSet bs)) (refused Torn)
+
+-- ---- writing
+
+-- "The writer gives the one sheet of an in-limit set and its length, which is 0 when refused."
+unfoldable pub writeRefusal : Params → ℕ → Refusal
+writeRefusal p room = cond (inLimits p) (cond (leb (length (sheetText p)) room) Accepted Short) OffScale
+
+unfoldable pub writtenLength : Params → ℕ → ℕ
+writtenLength p room = cond (inLimits p) (cond (leb (length (sheetText p)) room) (length (sheetText p)) 0) 0
+
+unfoldable pub writeAnswer : Params → ℕ → Written
+writeAnswer p room = record { refusal = writeRefusal p room; len = writtenLength p room }
+
+-- "Bytes after the sheet in a longer buffer keep their values", and all of them where the call is refused.
+unfoldable pub writtenBuffer : Params → List ℕ → List ℕ
+writtenBuffer p buffer =
+    cond (inLimits p)
+    (cond (leb (length (sheetText p)) (length buffer)) (sheetText p ++ drop (length (sheetText p)) buffer) buffer) buffer

@@ -1,0 +1,330 @@
+-- A set and its sheet: the sheet of a set in limits reads back as the set, and a sheet that is accepted is, byte for
+-- byte, the sheet of the set that it gives.
+use mathlib.Core.Path.{_≡_, refl, ap, _∙_}
+use mathlib.Core.Bool.{Bool, true, false, cond, _&&_}
+use mathlib.Core.List.{List, [], _∷_, _++_, append-assoc, append-nil}
+use Prim.Native.Nat.{ℕ, zero, suc, _*_, _^_, _≤_, _<_}
+use native.Mathlib.Omega.{arith}
+use borrow.Author.Tests.{eqb-true, le-leb}
+use lib.Dec.{T, leb, eqb, leb→le, eqb-refl}
+use lib.Ieee.Bits.{is-true}
+use lib.Ieee.Fits.{and-l, and-r}
+use lib.IntN.{ℤ, natAbs}
+use lib.ListN.{length, length-append}
+use Rattle.tokens.specs.Text.{bytesOf, Parse, torn, taken, takeText}
+use Rattle.tokens.specs.Number.{isDigit, readNumber, numberText, unsignedText, decimal}
+use Rattle.whole.specs.Bound.{Under}
+use Rattle.sheet.specs.declared.Params.{Params}
+use Rattle.sheet.specs.declared.Sex.{Sex}
+use Rattle.sheet.specs.declared.Sex.the-variants.{M, F}
+use Rattle.sheet.specs.declared.Refusal.{Refusal}
+use Rattle.sheet.specs.declared.Refusal.the-variants.{Accepted, Torn, OffScale}
+use Rattle.sheet.specs.declared.Reading.{Reading}
+use Rattle.sheet.specs.Refusals.{refusalNumber}
+use Rattle.sheet.specs.Set.{A, B, alpha, beta, ages, Whole}
+use Rattle.sheet.specs.Limits.{inLimits}
+use Rattle.sheet.specs.Sheet.{mostBytes, forAges, ageKeys, keys, ageValues, values, lineText, linesText, headText}
+use Rattle.sheet.specs.Sheet.{sheetText, readLine, readLines, readHead, paramsOf, readSet}
+use Rattle.sheet.specs.Sheet.{refused, judged, readSheet}
+use Rattle.sheet.specs.LimitsLaws.{in-limits-age, in-limits-series}
+use Rattle.sheet.specs.NumberTrip.{torn-not-taken, number-reads, number-read, number-short}
+use Rattle.sheet.specs.SetTrip.{keys-length, values-length, values-params, params-values}
+use Rattle.sheet.specs.SetTrip.{params-whole, blank-whole}
+
+-- every value has at most 15 digits
+abbrev pub AllSmall : List ℤ → Type 0
+AllSmall [] = Unit
+AllSmall (v ∷ vs) = (natAbs v < 10 ^ 15) × AllSmall vs
+
+-- ---- one reading after another
+
+abbrev andThen : {A B : Type 0} → Parse A → (A → List ℕ → Parse B) → Parse B
+andThen q f = elim q [ torn ↦ torn | taken a after ↦ f a after ]
+
+then-takes : {A B : Type 0} {q : Parse A} {a : A} {after : List ℕ} (f : A → List ℕ → Parse B) → q ≡ taken a after
+    → andThen q f ≡ f a after
+then-takes {A} f e = ap (λ (p : Parse A). andThen p f) e
+
+then-taken : {A B X : Type 0} (q : Parse A) (f : A → List ℕ → Parse B) {b : B} {rest : List ℕ}
+    → andThen q f ≡ taken b rest → ((a : A) (after : List ℕ) → q ≡ taken a after → f a after ≡ taken b rest → X) → X
+then-taken torn f e g = torn-not-taken e
+then-taken (taken a after) f e g = g a after refl e
+
+-- ---- a text
+
+pub text-reads : (ts rest : List ℕ) → takeText ts (ts ++ rest) ≡ taken tt rest
+unfolding takeText
+text-reads [] rest = refl
+text-reads (t ∷ ts) rest = rw (is-true (eqb t t) (eqb-refl t), takeText) (text-reads ts rest)
+
+pub text-read : (ts bs : List ℕ) (u : Unit) (rest : List ℕ) → takeText ts bs ≡ taken u rest → bs ≡ ts ++ rest
+unfolding takeText
+text-read [] bs u rest e = cc
+text-read (t ∷ ts) [] u rest e = torn-not-taken e
+text-read (t ∷ ts) (b ∷ bs) u rest e = go (eqb b t) refl e (text-read ts bs u rest)
+  where
+    go : (c : Bool) → eqb b t ≡ c → _≡_ {A = Parse Unit} (elim c [ true ↦ takeText ts bs | false ↦ torn ]) (taken u rest)
+        → (takeText ts bs ≡ taken u rest → bs ≡ ts ++ rest) → b ∷ bs ≡ t ∷ ts ++ rest
+    go true w q f = rw (eqb-true b t w, f q)
+    go false w q f = torn-not-taken q
+
+-- ---- a line
+
+line-apart : (key : List ℕ) (v : ℤ) (rest : List ℕ)
+    → lineText key v ++ rest ≡ (key ++ bytesOf "=") ++ (numberText v ++ (bytesOf "\n" ++ rest))
+unfolding lineText
+line-apart key v rest = simp append-assoc
+
+pub line-reads : (key : List ℕ) (v : ℤ) (rest : List ℕ) → natAbs v < 10 ^ 15
+    → readLine key (lineText key v ++ rest) ≡ taken v rest
+unfolding readLine bytesOf isDigit
+line-reads key v rest h =
+    rw (line-apart key v rest)
+    (then-takes _ (text-reads (key ++ bytesOf "=") (numberText v ++ (bytesOf "\n" ++ rest)))
+    ∙ then-takes _ (number-reads v (bytesOf "\n" ++ rest) h tt)
+    ∙ then-takes _ (text-reads (bytesOf "\n") rest))
+
+-- the bytes are the line of v, and then the rest
+pub record LineOf (key : List ℕ) (v : ℤ) (bs rest : List ℕ) : Type 0 where
+  pub is : bs ≡ lineText key v ++ rest
+  pub small : natAbs v < 10 ^ 15
+
+pub line-read : (key bs : List ℕ) (v : ℤ) (rest : List ℕ) → readLine key bs ≡ taken v rest → LineOf key v bs rest
+unfolding readLine
+line-read key bs v rest e =
+    then-taken (takeText (key ++ bytesOf "=") bs) _ e λ u after q e₁.
+    then-taken (readNumber after) _ e₁ λ v′ mid r e₂.
+    then-taken (takeText (bytesOf "\n") mid) _ e₂ λ w next t e₃.
+    let x : v′ ≡ v = cc in
+    let y : next ≡ rest = cc in
+    let n = number-read after v′ mid r in
+    let m = text-read (bytesOf "\n") mid w next t in
+    let k = text-read (key ++ bytesOf "=") bs u after q in
+    rw (← x, ← y) (record { is = rw (line-apart key v′ next, k, n .is, m); small = n .small })
+
+-- ---- lines
+
+pub lines-reads : (ks : List (List ℕ)) (vs : List ℤ) (rest : List ℕ) → length vs ≡ length ks → AllSmall vs
+    → readLines ks (linesText ks vs ++ rest) ≡ taken vs rest
+unfolding readLines linesText
+lines-reads [] [] rest h a = refl
+lines-reads [] (v ∷ vs) rest h a = absurd (omega arith)
+lines-reads (k ∷ ks) [] rest h a = absurd (omega arith)
+lines-reads (k ∷ ks) (v ∷ vs) rest h a =
+    rw (append-assoc (lineText k v) (linesText ks vs) rest)
+    (then-takes _ (line-reads k v (linesText ks vs ++ rest) (a .0))
+    ∙ then-takes _ (lines-reads ks vs rest (omega arith) (a .1)))
+
+-- the bytes are the lines of vs, and then the rest
+pub record LinesOf (ks : List (List ℕ)) (vs : List ℤ) (bs rest : List ℕ) : Type 0 where
+  pub is : bs ≡ linesText ks vs ++ rest
+  pub long : length vs ≡ length ks
+  pub small : AllSmall vs
+
+pub lines-read : (ks : List (List ℕ)) (bs : List ℕ) (vs : List ℤ) (rest : List ℕ) → readLines ks bs ≡ taken vs rest
+    → LinesOf ks vs bs rest
+unfolding readLines linesText
+lines-read [] bs vs rest e =
+    let x : [] ≡ vs = cc in
+    let y : bs ≡ rest = cc in
+    rw (← x, y) (record { is = refl; long = refl; small = tt })
+lines-read (k ∷ ks) bs vs rest e =
+    then-taken (readLine k bs) _ e λ v after q e₁.
+    then-taken (readLines ks after) _ e₁ λ us next r e₂.
+    let x : v ∷ us ≡ vs = cc in
+    let y : next ≡ rest = cc in
+    let l = line-read k bs v after q in
+    let ls = lines-read ks after us next r in
+    rw (← x, ← y)
+    (record {
+      is = rw (l .is, ls .is, append-assoc (lineText k v) (linesText ks us) next);
+      long = omega (arith, ls .long);
+      small = (l .small, ls .small);
+    })
+
+-- ---- the first two lines
+
+pub head-reads : (sex : Sex) (rest : List ℕ) → readHead (headText sex ++ rest) ≡ taken sex rest
+unfolding readHead headText bytesOf takeText
+head-reads M rest = refl
+head-reads F rest = refl
+
+pub head-read : (bs : List ℕ) (sex : Sex) (rest : List ℕ) → readHead bs ≡ taken sex rest → bs ≡ headText sex ++ rest
+unfolding readHead
+head-read bs sex rest e = go (takeText (headText M) bs) refl e
+  where
+    go : (q : Parse Unit) → takeText (headText M) bs ≡ q
+        → _≡_ {A = Parse Sex}
+        (elim q [
+          | torn ↦ elim (takeText (headText F) bs) [ torn ↦ torn | taken u after ↦ taken F after ]
+          | taken u after ↦ taken M after
+        ])
+        (taken sex rest)
+        → bs ≡ headText sex ++ rest
+    go torn t w =
+        then-taken (takeText (headText F) bs) _ w λ u after r f.
+        let x : F ≡ sex = cc in
+        let y : after ≡ rest = cc in
+        rw (← x, ← y) (text-read (headText F) bs u after r)
+    go (taken u after) t w =
+        let x : M ≡ sex = cc in
+        let y : after ≡ rest = cc in
+        rw (← x, ← y) (text-read (headText M) bs u after t)
+
+-- ---- the whole input
+
+set-reads : (p : Params) → Whole p → AllSmall (values p) → readSet (sheetText p) ≡ taken p []
+unfolding readSet sheetText
+set-reads p w s =
+    let l = rw append-nil at (lines-reads keys (values p) [] (rw (values-length p, keys-length)) s) in
+    then-takes _ (head-reads (p .sex) (linesText keys (values p)))
+    ∙ then-takes _ l
+    ∙ rw (params-values p w)
+
+-- nothing follows the last line
+at-end : {p : Params} (q : Params) (next rest : List ℕ)
+    → _≡_ {A = Parse Params} (elim next [ [] ↦ taken q [] | b ∷ more ↦ torn ]) (taken p rest) → (next ≡ []) × (q ≡ p)
+at-end q [] rest e = (refl, cc)
+at-end q (b ∷ more) rest e = torn-not-taken e
+
+params-sheet : (sex : Sex) (vs : List ℤ) → length vs ≡ 368
+    → sheetText (paramsOf sex vs) ≡ headText sex ++ linesText keys vs
+unfolding sheetText paramsOf
+params-sheet sex vs h = rw (values-params sex vs h)
+
+set-read : (bs : List ℕ) (p : Params) (rest : List ℕ) → readSet bs ≡ taken p rest → (sheetText p ≡ bs) × Whole p
+unfolding readSet
+set-read bs p rest e =
+    then-taken (readHead bs) _ e λ sex after q e₁.
+    then-taken (readLines keys after) _ e₁ λ vs next r e₂.
+    let (none, x) = at-end (paramsOf sex vs) next rest e₂ in
+    let l = lines-read keys after vs next r in
+    let h : length vs ≡ 368 = l .long ∙ keys-length in
+    rw (← x) (rw (params-sheet sex vs h, head-read bs sex after q, l .is, none, append-nil), params-whole sex vs)
+
+-- ---- limits bound every value, and the sheet's length
+
+all-append : (us vs : List ℤ) → AllSmall us → AllSmall vs → AllSmall (us ++ vs)
+all-append [] vs a b = b
+all-append (u ∷ us) vs a b = (a .0, all-append us vs (a .1) b)
+
+under-small : {z : ℤ} {k : ℕ} → Under z k → k ≤ 500000000000 → natAbs z < 10 ^ 15
+under-small u h = omega (arith, u .under)
+
+ages-small : (p : Params) → T (inLimits p) → (n : ℕ) → n ≤ ages → AllSmall (forAges (ageValues p) n)
+unfolding forAges ageValues
+ages-small p t zero h = tt
+ages-small p t (suc n) h =
+    let w = in-limits-age p t n (omega arith) in
+    all-append (forAges (ageValues p) n) (ageValues p n) (ages-small p t n (omega arith)) (
+      under-small (w .level) (omega arith),
+      (
+        under-small (w .slope) (omega arith),
+        (under-small (w .alpha) (omega arith), (under-small (w .beta) (omega arith), tt)),
+      ),
+    )
+
+-- a value in limits has at most 15 digits
+pub in-limits-small : (p : Params) → T (inLimits p) → AllSmall (values p)
+unfolding values
+in-limits-small p t =
+    let w = in-limits-series p t in (
+      under-small (w .a) (omega arith),
+      (
+        under-small (w .theta) (omega arith),
+        (
+          under-small (w .period) (omega arith),
+          (under-small (w .kappa) (omega arith), ages-small p t ages (omega arith)),
+        ),
+      ),
+    )
+
+-- each key has at most 5 bytes
+allShort : List (List ℕ) → Bool
+allShort [] = true
+allShort (k ∷ ks) = leb (length k) 5 && allShort ks
+
+keys-short : T (allShort keys)
+unfolding allShort keys forAges ageKeys bytesOf unsignedText decimal
+keys-short = tt
+
+lines-short : (ks : List (List ℕ)) (vs : List ℤ) → T (allShort ks) → length (linesText ks vs) ≤ 23 * length ks
+unfolding linesText lineText allShort bytesOf
+lines-short [] vs t = omega arith
+lines-short (k ∷ ks) [] t = omega arith
+lines-short (k ∷ ks) (v ∷ vs) t =
+    let h = leb→le (length k) 5 (and-l (leb (length k) 5) (allShort ks) t) in
+    let l = lines-short ks vs (and-r (leb (length k) 5) (allShort ks) t) in
+    simp length-append (omega (arith, number-short v))
+
+head-length : (sex : Sex) → length (headText sex) ≡ 19
+unfolding headText bytesOf
+head-length M = refl
+head-length F = refl
+
+-- the sheet of any set has at most 8,483 bytes
+pub sheet-length : (p : Params) → length (sheetText p) ≤ 8483
+unfolding sheetText
+sheet-length p =
+    rw (length-append, head-length (p .sex)) (omega (arith, lines-short keys (values p) keys-short, keys-length))
+
+-- ---- the sheet
+
+-- the sheet of a whole set in limits reads back as the set
+pub written-reads-back : (p : Params) → Whole p → T (inLimits p)
+    → readSheet (sheetText p) ≡ record { refusal = Accepted; set = p }
+unfolding readSheet judged
+written-reads-back p w t =
+    let h = le-leb (length (sheetText p)) mostBytes (omega (arith, sheet-length p)) in
+    rw (h, set-reads p w (in-limits-small p t), is-true (inLimits p) t)
+
+-- a refused reading is not an accepted one
+refused-not-accepted : {X : Type 0} (r : Refusal) {p : Params} → 0 < refusalNumber r
+    → refused r ≡ record { refusal = Accepted; set = p } → X
+unfolding refused refusalNumber
+refused-not-accepted r h e =
+    let z : refusalNumber r ≡ 0 = ap (λ (q : Reading). refusalNumber (q .refusal)) e in absurd (omega arith)
+
+judged-accepted : {X : Type 0} (q : Parse Params) (p : Params) → judged q ≡ record { refusal = Accepted; set = p }
+    → ((rest : List ℕ) → q ≡ taken p rest → T (inLimits p) → X) → X
+unfolding judged refusalNumber
+judged-accepted torn p e f = refused-not-accepted Torn (omega arith) e
+judged-accepted {X} (taken p′ rest) p e f = go (inLimits p′) refl e
+  where
+    go : (c : Bool) → inLimits p′ ≡ c
+        → cond c (record { refusal = Accepted; set = p′ }) (refused OffScale) ≡ record { refusal = Accepted; set = p }
+        → X
+    go true w q =
+        let x : p′ ≡ p = ap (λ (r : Reading). r .set) q in
+        f rest (rw x) (rw (← x, w) tt)
+    go false w q = refused-not-accepted OffScale (omega arith) q
+
+-- an accepted input is the sheet of the set that it gives, which is whole and in limits
+pub read-writes-back : (bs : List ℕ) (p : Params) → readSheet bs ≡ record { refusal = Accepted; set = p }
+    → (sheetText p ≡ bs) × (T (inLimits p)) × Whole p
+unfolding readSheet refusalNumber
+read-writes-back bs p e = go (leb (length bs) mostBytes) e
+  where
+    go : (c : Bool) → cond c (judged (readSet bs)) (refused Torn) ≡ record { refusal = Accepted; set = p }
+        → (sheetText p ≡ bs) × (T (inLimits p)) × Whole p
+    go true q = judged-accepted (readSet bs) p q λ rest r t.
+        let (same, whole) = set-read bs p rest r in (same, t, whole)
+    go false q = refused-not-accepted Torn (omega arith) q
+
+-- every answer's set is whole
+judged-whole : (bs : List ℕ) (q : Parse Params) → readSet bs ≡ q → Whole (judged q .set)
+unfolding judged refused
+judged-whole bs torn e = blank-whole
+judged-whole bs (taken p rest) e = go (inLimits p)
+  where
+    go : (c : Bool) → Whole (cond c (record { refusal = Accepted; set = p }) (refused OffScale) .set)
+    go true = set-read bs p rest e .1
+    go false = blank-whole
+
+pub reading-whole : (bs : List ℕ) → Whole (readSheet bs .set)
+unfolding readSheet refused
+reading-whole bs = go (leb (length bs) mostBytes)
+  where
+    go : (c : Bool) → Whole (cond c (judged (readSet bs)) (refused Torn) .set)
+    go true = judged-whole bs (readSet bs) refl
+    go false = blank-whole

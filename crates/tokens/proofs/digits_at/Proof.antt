@@ -1,0 +1,90 @@
+-- `digits_at` meets its contract. The loop's invariant: the digits read so far, with their value, go on with those that
+-- are not read yet. The measure is what is left of the bytes that are looked at.
+use mathlib.Core.Path.{_≡_}
+use mathlib.Core.Logic.{⊎-elim}
+use Prim.Native.Nat.{suc, _-_, _≤_, min}
+use native.Mathlib.Omega.{arith}
+use borrow.Author.Needs.{needs}
+use borrow.Author.Tests.{ltb-true, ltb-false}
+use lib.ListN.{length}
+use Rattle.tokens.specs.Number.{mostDigits}
+use Rattle.tokens.specs.DigitLaws.{digit-between, digit-below, digit-above}
+use Rattle.tokens.proofs.DigitSteps.{Run, run-start, run-bound, run-end, run-break, run-next}
+use Rattle.tokens.proofs.digits_at.Statement.{statement}
+use Rattle.tokens.proofs.digits_at.Tie as tie
+
+abbrev Inv-loop : tie.InvT-loop
+Inv-loop bytes at most value₀ count₀ value count =
+    (most ≡ min (suc mostDigits) (length bytes - at)) × (count ≤ most) × Run bytes at value count
+
+abbrev μ-loop : tie.MeasureT-loop
+μ-loop bytes at most value₀ count₀ value count = most - count
+
+room-requires : tie.Need-room-requires Inv-loop μ-loop
+room-requires c κs = search needs
+
+loop-holds : tie.Need-loop-holds Inv-loop μ-loop
+loop-holds c =
+    (⊎-elim (λ w. omega arith) (λ w. omega arith) (c .if1 .came), search needs, run-start _ _)
+
+add-digit : tie.Need-add-digit Inv-loop μ-loop
+add-digit c = search needs
+
+shared-slice-read-digit : tie.Need-shared-slice-read-digit Inv-loop μ-loop
+shared-slice-read-digit c = search needs
+
+mul-value : tie.Need-mul-value Inv-loop μ-loop
+mul-value c =
+    let head = c .before .before .before .before in
+    omega (arith, run-bound _ _ (head .loop .inv .2) (omega arith))
+
+cast-value : tie.Need-cast-value Inv-loop μ-loop
+cast-value c = omega (arith, ltb-false)
+
+add-value : tie.Need-add-value Inv-loop μ-loop
+add-value c =
+    let head = c .before .before .before .before in
+    omega (arith, ltb-false, run-bound _ _ (head .loop .inv .2) (omega arith))
+
+add-count : tie.Need-add-count Inv-loop μ-loop
+add-count c = search needs
+
+loop-less : tie.Need-loop-less Inv-loop μ-loop
+loop-less c = search needs
+
+loop-again : tie.Need-loop-again Inv-loop μ-loop
+loop-again c =
+    let head = c .before .before .before .before in (
+      head .loop .inv .0,
+      search needs,
+      run-next _ _ (head .loop .inv .2) (omega arith) (omega arith)
+          (digit-between _ (omega arith) (omega (arith, ltb-false))),
+    )
+
+returns : tie.Need-returns Inv-loop μ-loop
+returns c = run-end _ _ (c .before .loop .inv .2) (omega arith)
+
+returns-2 : tie.Need-returns-2 Inv-loop μ-loop
+returns-2 c =
+    let head = c .before .before .before in
+    run-break _ _ (head .loop .inv .2) (omega arith)
+    (⊎-elim (λ w. digit-below _ (omega arith)) (λ w. digit-above _ (omega (arith, ltb-true))) (c .if2 .came))
+
+pub digits-at-spec : {M : Type 1} → statement M
+digits-at-spec =
+    tie.close
+    (tie.spec
+    Inv-loop
+    μ-loop
+    room-requires
+    loop-holds
+    add-digit
+    shared-slice-read-digit
+    mul-value
+    cast-value
+    add-value
+    add-count
+    loop-less
+    loop-again
+    returns
+    returns-2)

@@ -1,0 +1,27 @@
+-- What the code's places in a slice mean in terms of lists of bytes.
+use Prim.Native.Nat.{ℕ, _-_}
+use mathlib.Core.Bool.{Bool, true, false}
+use mathlib.Core.List.{List}
+use lib.IntN.{ℤ}
+use lib.ListN.{length, drop}
+use Rattle.tokens.specs.declared.NumberRead.{NumberRead}
+use Rattle.tokens.specs.declared.NumberRead.the-variants.{Torn, Number}
+use Rattle.tokens.specs.Text.{Parse, torn, taken, takeText}
+use Rattle.tokens.specs.Number.{readNumber}
+
+abbrev pub isTaken : {A : Type 0} → Parse A → Bool
+isTaken torn = false
+isTaken (taken a rest) = true
+
+-- whether the bytes from a place on begin with the text
+unfoldable pub textAt : List ℕ → ℕ → List ℕ → Bool
+textAt bytes at text = isTaken (takeText text (drop at bytes))
+
+-- a number that was read, with the place after it, in n bytes
+abbrev pub placed : ℕ → Parse ℤ → NumberRead
+placed n torn = Torn
+placed n (taken v rest) = Number v (n - length rest)
+
+-- the number at a place
+unfoldable pub numberAt : List ℕ → ℕ → NumberRead
+numberAt bytes at = placed (length bytes) (readNumber (drop at bytes))

@@ -1,0 +1,23 @@
+-- Texts as lists of bytes, and what reading from a list of bytes gives.
+use Prim.Native.Nat.{ℕ}
+use Prim.Native.Char.{code}
+use Prim.Native.String.{String, [] as none, _∷_ as _then_}
+use mathlib.Core.Bool.{Bool, true, false, cond}
+use mathlib.Core.List.{List, [], _∷_}
+use lib.Dec.{eqb}
+
+-- a text of plain letters, digits and signs as its bytes
+unfoldable pub bytesOf : String → List ℕ
+bytesOf none = []
+bytesOf (c then s) = code c ∷ bytesOf s
+
+-- what is read at the front of a list of bytes: a value and the bytes after it, or torn
+pub data Parse (A : Type 0) : Type 0 where
+  torn : Parse A
+  taken : A → List ℕ → Parse A
+
+-- the bytes after the text, where they begin with it
+unfoldable pub takeText : List ℕ → List ℕ → Parse Unit
+takeText [] bs = taken tt bs
+takeText (t ∷ ts) [] = torn
+takeText (t ∷ ts) (b ∷ bs) = elim (eqb b t) [ true ↦ takeText ts bs | false ↦ torn ]

@@ -1,0 +1,28 @@
+-- What the code reads of a number in two steps: its digits, and the number without its sign.
+use mathlib.Core.Path.{_≡_}
+use Prim.Native.Nat.{ℕ, suc, _-_}
+use mathlib.Core.List.{List}
+use lib.ListN.{length, take, drop}
+use Rattle.tokens.specs.declared.Digits.{Digits}
+use Rattle.tokens.specs.declared.UnsignedRead.{UnsignedRead}
+use Rattle.tokens.specs.declared.UnsignedRead.the-variants.{Torn, Unsigned}
+use Rattle.tokens.specs.Text.{Parse, torn, taken}
+use Rattle.tokens.specs.Number.{mostDigits, digits, value, readUnsigned}
+
+-- at most k digits at the front
+unfoldable pub leading : ℕ → List ℕ → List ℕ
+leading k bs = take k (digits bs)
+
+-- the digits from a place on, to one more than a number may have: how many, and their value
+pub record DigitsRead (bytes : List ℕ) (at : ℕ) (r : Digits) : Type 0 where
+  pub counted : r .count ≡ length (leading (suc mostDigits) (drop at bytes))
+  pub valued : r .value ≡ value (leading (suc mostDigits) (drop at bytes))
+
+-- a number without its sign that was read, with the place after it, in n bytes
+abbrev pub placedUnsigned : ℕ → Parse ℕ → UnsignedRead
+placedUnsigned n torn = Torn
+placedUnsigned n (taken v rest) = Unsigned v (n - length rest)
+
+-- the number without its sign at a place
+unfoldable pub unsignedAt : List ℕ → ℕ → UnsignedRead
+unsignedAt bytes at = placedUnsigned (length bytes) (readUnsigned (drop at bytes))
