@@ -1,0 +1,15 @@
+-- `torn` meets its contract: the blank set with refusal 1.
+use Rattle.sheet.specs.Sheet.{refused}
+use borrow.Author.Needs.{needs}
+use Rattle.sheet_reader.proofs.torn.Statement.{statement}
+use Rattle.sheet_reader.proofs.torn.Tie as tie
+
+blank-requires : tie.Need-blank-requires
+blank-requires c κs = search needs
+
+returns : tie.Need-returns
+unfolding refused
+returns c = rw (c .blank .ensures)
+
+pub torn-spec : {M : Type 1} → statement M
+torn-spec = tie.close (tie.spec blank-requires returns)

@@ -1,0 +1,37 @@
+-- What the writer answers, and what it leaves in the buffer, in each of its three cases.
+use mathlib.Core.Path.{_≡_, _∙_}
+use mathlib.Core.Bool.{true, false}
+use mathlib.Core.List.{List}
+use Prim.Native.Nat.{ℕ, _≤_, _<_}
+use native.Mathlib.Omega.{arith}
+use borrow.Author.Tests.{le-leb, lt-leb}
+use lib.ListN.{length}
+use Rattle.printing.specs.OverwrittenLaws.{overwritten-front}
+use Rattle.sheet.specs.declared.Params.{Params}
+use Rattle.sheet.specs.declared.Written.{Written}
+use Rattle.sheet.specs.declared.Refusal.the-variants.{Accepted, OffScale, Short}
+use Rattle.sheet.specs.Limits.{inLimits}
+use Rattle.sheet.specs.Sheet.{sheetText, writeRefusal, writtenLength, writeAnswer, writtenBuffer}
+use Rattle.sheet_writer.specs.Put.{Put}
+
+-- the answer, and the buffer after
+abbrev pub Answers : Params → List ℕ → Written → List ℕ → Type 0
+Answers p buffer answer after = (answer ≡ writeAnswer p (length buffer)) × (after ≡ writtenBuffer p buffer)
+
+module _ (p : Params) (buffer : List ℕ) where
+  pub off-scale : inLimits p ≡ false → Answers p buffer (record { refusal = OffScale; len = 0 }) buffer
+  unfolding writeRefusal writtenLength writeAnswer writtenBuffer
+  off-scale e = (rw e, rw e)
+
+  pub short : inLimits p ≡ true → length buffer < length (sheetText p)
+      → Answers p buffer (record { refusal = Short; len = 0 }) buffer
+  unfolding writeRefusal writtenLength writeAnswer writtenBuffer
+  short e h = let q = lt-leb (length (sheetText p)) (length buffer) h in (rw (e, q), rw (e, q))
+
+  pub accepted : inLimits p ≡ true → length (sheetText p) ≤ length buffer → {after : List ℕ} {end : ℕ}
+      → Put buffer 0 (sheetText p) after end → Answers p buffer (record { refusal = Accepted; len = end }) after
+  unfolding writeRefusal writtenLength writeAnswer writtenBuffer
+  accepted e h {end} put =
+      let q = le-leb (length (sheetText p)) (length buffer) h in
+      let n : end ≡ length (sheetText p) = omega (arith, put .place) in
+      (rw (e, q, n), put .whole ∙ (rw (e, q) (overwritten-front buffer (sheetText p))))

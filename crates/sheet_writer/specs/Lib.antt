@@ -1,0 +1,5 @@
+pub mod Put
+pub mod PutLaws
+pub mod Parts
+pub mod PartsLaws
+pub mod Answers
