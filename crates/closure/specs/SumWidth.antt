@@ -1,0 +1,150 @@
+-- G's ends on a grid: they lie in order, how far apart they lie at most, and how far from 0.
+use mathlib.Core.List.{List}
+use Prim.Native.Nat.{ℕ, zero, suc, _+_, _*_, _/_, _≤_, _<_}
+use native.Mathlib.Nat.{mul-le-mul-left, mul-le-mul-right, le-refl, add-mul}
+use native.Mathlib.Omega.{arith}
+use lib.Dec.{lit<}
+use lib.IntN.{ℤ, pos, negsuc, natAbs, _+ℤ_}
+use lib.Signed.{_≤ℤ_, ≤ℤ-refl, nonNeg}
+use Rattle.whole.specs.Split.{split, split-add}
+use Rattle.whole.specs.Difference.{Difference, difference, difference-pos, difference-add, difference-mul}
+use Rattle.whole.specs.Difference.{difference-le}
+use Rattle.whole.specs.Order.{≤ℤ-trans, +ℤ-mono}
+use Rattle.whole.specs.Bound.{Under, under-pos, under-add, under-mul, under-cond, under-floor-to, under-ceil-to}
+use Rattle.whole.specs.SignedEnds.{SignedEnds, leastProduct, greatestProduct, outward}
+use Rattle.whole.specs.Division.{floorDiv, ceilDiv}
+use Rattle.whole.specs.DivisionLaws.{split-floor, split-ceil, floor-mono, floor-le-ceil}
+use Rattle.closure.specs.Weights.{firstClosed, fitted, weightUnit, weight}
+use Rattle.closure.specs.Closure.{endsAt, leastSum, greatestSum, closedSum}
+use Rattle.closure.specs.Totals.{lastClosed, mostSize, sizeTotal}
+use Rattle.closure.specs.WeightLaws.{weights-size}
+use Rattle.closure.specs.Units.{Within}
+
+-- ---- one product: a weight w widens W to |w|·W
+
+negative : (k : ℕ) → Difference (negsuc k) 0 (suc k)
+negative k = difference (negsuc k)
+
+product-width : (w : ℤ) (h : SignedEnds) (W : ℕ) → h .upper ≤ℤ (h .lower +ℤ pos W)
+    → greatestProduct w h ≤ℤ (leastProduct w h +ℤ pos (natAbs w * W))
+unfolding greatestProduct leastProduct
+product-width (pos k) h W l =
+    let a = difference (h .upper) in
+    let b = difference (h .lower) in
+    difference-le (difference-mul (difference-pos k) a)
+    (difference-add (difference-mul (difference-pos k) b) (difference-pos (k * W))) .0
+    (omega (arith, mul-le-mul-left k (difference-le a (difference-add b (difference-pos W)) .1 l)))
+product-width (negsuc k) h W l =
+    let a = difference (h .upper) in
+    let b = difference (h .lower) in
+    difference-le (difference-mul (negative k) b)
+    (difference-add (difference-mul (negative k) a) (difference-pos (suc k * W))) .0
+    (omega (arith, mul-le-mul-left (suc k) (difference-le a (difference-add b (difference-pos W)) .1 l)))
+
+-- and keeps ends that are in order
+product-ordered : (w : ℤ) (h : SignedEnds) → h .lower ≤ℤ h .upper → leastProduct w h ≤ℤ greatestProduct w h
+unfolding greatestProduct leastProduct
+product-ordered (pos k) h l =
+    let a = difference (h .upper) in
+    let b = difference (h .lower) in
+    difference-le (difference-mul (difference-pos k) b) (difference-mul (difference-pos k) a) .0
+    (omega (arith, mul-le-mul-left k (difference-le b a .1 l)))
+product-ordered (negsuc k) h l =
+    let a = difference (h .upper) in
+    let b = difference (h .lower) in
+    difference-le (difference-mul (negative k) a) (difference-mul (negative k) b) .0
+    (omega (arith, mul-le-mul-left (suc k) (difference-le b a .1 l)))
+
+-- ends within B of 0 give products within |w|·B
+product-within : (w : ℤ) (h : SignedEnds) (B : ℕ) → Within B h
+    → Under (leastProduct w h) (natAbs w * B) × Under (greatestProduct w h) (natAbs w * B)
+unfolding greatestProduct leastProduct
+product-within w h B u =
+    let v : Under w (natAbs w) = record { under = le-refl (natAbs w) } in (
+      under-cond (nonNeg w) (under-mul v (u .low)) (under-mul v (u .high)),
+      under-cond (nonNeg w) (under-mul v (u .high)) (under-mul v (u .low)),
+    )
+
+-- ---- the sums of the first n
+
+sum-algebra : (a b c d : ℤ) (s t W : ℕ) → a ≤ℤ (b +ℤ pos (s * W)) → c ≤ℤ (d +ℤ pos (t * W))
+    → (a +ℤ c) ≤ℤ ((b +ℤ d) +ℤ pos ((s + t) * W))
+sum-algebra a b c d s t W h k =
+    omega (
+      split,
+      split-add a c,
+      split-add b d,
+      split-add (b +ℤ d) (pos ((s + t) * W)),
+      split-add b (pos (s * W)),
+      split-add d (pos (t * W)),
+    )
+
+module _ (x : ℕ) (hs : List SignedEnds) where
+  sum-width : (W n : ℕ) → ((i : ℕ) → i < n → endsAt hs i .upper ≤ℤ (endsAt hs i .lower +ℤ pos W))
+      → greatestSum x hs n ≤ℤ (leastSum x hs n +ℤ pos (sizeTotal x n * W))
+  unfolding greatestSum leastSum sizeTotal
+  sum-width W zero h = omega split
+  sum-width W (suc n) h =
+      let w = weight x n in
+      let e = endsAt hs n in
+      sum-algebra (greatestSum x hs n) (leastSum x hs n) (greatestProduct w e) (leastProduct w e) (sizeTotal x n)
+      (natAbs w) W
+      (sum-width W n (λ i l. h i (omega arith))) (product-width w e W (h n (omega arith)))
+
+  sum-ordered : (n : ℕ) → ((i : ℕ) → i < n → endsAt hs i .lower ≤ℤ endsAt hs i .upper)
+      → leastSum x hs n ≤ℤ greatestSum x hs n
+  unfolding greatestSum leastSum
+  sum-ordered zero h = ≤ℤ-refl (pos 0)
+  sum-ordered (suc n) h =
+      +ℤ-mono (sum-ordered n (λ i l. h i (omega arith)))
+      (product-ordered (weight x n) (endsAt hs n) (h n (omega arith)))
+
+  sum-within : (B n : ℕ) → ((i : ℕ) → i < n → Within B (endsAt hs i))
+      → Under (leastSum x hs n) (sizeTotal x n * B) × Under (greatestSum x hs n) (sizeTotal x n * B)
+  unfolding greatestSum leastSum sizeTotal
+  sum-within B zero h = (under-pos (omega arith), under-pos (omega arith))
+  sum-within B (suc n) h =
+      let a = sum-within B n (λ i l. h i (omega arith)) in
+      let b = product-within (weight x n) (endsAt hs n) B (h n (omega arith)) in
+      rw (add-mul (sizeTotal x n) (natAbs (weight x n)) B) (under-add (a .0) (b .0), under-add (a .1) (b .1))
+
+-- ---- G
+
+quotient-width : (L G : ℤ) (R W : ℕ) → G ≤ℤ (L +ℤ pos R) → R ≤ mostSize * W
+    → ceilDiv G weightUnit ≤ℤ (floorDiv L weightUnit +ℤ pos (mostSize * W / weightUnit + 2))
+quotient-width L G R W h k =
+    let f = split-floor L {m = weightUnit} (lit< tt) in
+    let c = split-ceil G {m = weightUnit} (lit< tt) in
+    omega (split, split-add (floorDiv L weightUnit) (pos (mostSize * W / weightUnit + 2)), split-add L (pos R))
+
+module _ (x : ℕ) (hs : List SignedEnds) where
+  -- where no end of H lies more than W above the other, G's lie at most 1,060·W/110 and 2 units apart
+  pub closedSum-width : (W : ℕ) → firstClosed ≤ x → x ≤ lastClosed
+      → ((i : ℕ) → i < fitted → endsAt hs i .upper ≤ℤ (endsAt hs i .lower +ℤ pos W))
+      → closedSum x hs .upper ≤ℤ (closedSum x hs .lower +ℤ pos (mostSize * W / weightUnit + 2))
+  unfolding closedSum outward
+  closedSum-width W l m h =
+      quotient-width (leastSum x hs fitted) (greatestSum x hs fitted) (sizeTotal x fitted * W) W
+      (sum-width x hs W fitted h)
+      (mul-le-mul-right W (weights-size x l m))
+
+  -- in order where H's are
+  pub closedSum-ordered : ((i : ℕ) → i < fitted → endsAt hs i .lower ≤ℤ endsAt hs i .upper)
+      → closedSum x hs .lower ≤ℤ closedSum x hs .upper
+  unfolding closedSum outward
+  closedSum-ordered h =
+      ≤ℤ-trans (floor-mono {m = weightUnit} (lit< tt) (sum-ordered x hs fitted h))
+      (floor-le-ceil (greatestSum x hs fitted) (lit< tt))
+
+  -- and within 1,060·B/110 and 1 of 0 where H's are within B
+  pub closedSum-within : (B : ℕ) → firstClosed ≤ x → x ≤ lastClosed → ((i : ℕ) → i < fitted → Within B (endsAt hs i))
+      → Within (mostSize * B / weightUnit + 1) (closedSum x hs)
+  unfolding closedSum outward
+  closedSum-within B l m h =
+      let u = sum-within x hs B fitted h in
+      let k : sizeTotal x fitted * B ≤ (mostSize * B / weightUnit + 1) * weightUnit =
+      omega (arith, mul-le-mul-right B (weights-size x l m)) in
+      record {
+        low = under-floor-to (mostSize * B / weightUnit + 1) (lit< tt) k (u .0);
+        high = under-ceil-to (mostSize * B / weightUnit + 1) (lit< tt) k (u .1);
+      }

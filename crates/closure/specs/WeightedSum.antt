@@ -1,0 +1,101 @@
+-- The weighted sum on a grid holds the exact one: where eleven ends overlap an order's eleven intervals, place by
+-- place, the ends of G overlap the order's interval of G.
+use mathlib.Core.List.{List}
+use Prim.Native.Nat.{ℕ, zero, suc, _<_}
+use native.Mathlib.Nat.{mul-le-mul-right}
+use native.Mathlib.Omega.{arith}
+use lib.Dec.{lit<}
+use lib.IntN.{ℤ, pos, negsuc, _+ℤ_}
+use lib.Signed.{_≤ℤ_}
+use Rattle.whole.specs.Split.{split}
+use Rattle.whole.specs.Difference.{difference, difference-add, difference-scale}
+use Rattle.whole.specs.SignedEnds.{SignedEnds, leastProduct, greatestProduct, outward}
+use Rattle.whole.specs.Division.{floorDiv, ceilDiv}
+use Rattle.whole.specs.DivisionLaws.{split-floor, split-ceil}
+use Rattle.whole.specs.Order.{pos-nonneg}
+use Rattle.fraction.specs.Fraction.{_≤ℚ_, _≈ℚ_, wholeℚ, _+ℚ_, scaleℚ, quotientℚ}
+use Rattle.fraction.specs.FractionLaws.{≤ℚ-trans, ≤ℚ-difference, ≈ℚ-difference, +ℚ-mono, scaleℚ-keeps}
+use Rattle.fraction.specs.FractionLaws.{scaleℚ-exchanges, quotientℚ-mono}
+use Rattle.expo.specs.Grid.{Grid}
+use Rattle.expo.specs.Facts.{Sound}
+use Rattle.closure.specs.Weights.{fitted, weightUnit, weight}
+use Rattle.closure.specs.Closure.{endsAt, leastSum, greatestSum, closedSum}
+use Rattle.closure.specs.Exact.{Interval, intervalAt, leastScaled, greatestScaled, exactLeastSum}
+use Rattle.closure.specs.Exact.{exactGreatestSum, exactClosedSum}
+use Rattle.closure.specs.Units.{inUnitsℚ, SignedOverlap}
+
+-- a negative whole number is at most 0
+pub negsuc-nonpos : (n : ℕ) → negsuc n ≤ℤ pos 0
+negsuc-nonpos n = omega split
+
+module _ (g : Grid) (s : Sound g) where
+  -- a sum of ends is the sum of their fractions
+  units-sum : (a b : ℤ) → inUnitsℚ g s (a +ℤ b) ≈ℚ inUnitsℚ g s a +ℚ inUnitsℚ g s b
+  unfolding inUnitsℚ _+ℚ_
+  units-sum a b =
+      ≈ℚ-difference (difference-add (difference a) (difference b))
+      (difference-add (difference-scale (difference a) (g .unit)) (difference-scale (difference b) (g .unit)))
+      (omega arith)
+
+  -- a quotient rounded down is at most the quotient, one rounded up at least
+  units-floor : (z : ℤ) {m : ℕ} (p : 0 < m) → inUnitsℚ g s (floorDiv z m) ≤ℚ quotientℚ (inUnitsℚ g s z) m p
+  unfolding inUnitsℚ quotientℚ
+  units-floor z {m} p =
+      ≤ℚ-difference (difference (floorDiv z m)) (difference z) .0
+      (omega (arith, mul-le-mul-right (g .unit) (split-floor z p .0)))
+
+  units-ceil : (z : ℤ) {m : ℕ} (p : 0 < m) → quotientℚ (inUnitsℚ g s z) m p ≤ℚ inUnitsℚ g s (ceilDiv z m)
+  unfolding inUnitsℚ quotientℚ
+  units-ceil z {m} p =
+      ≤ℚ-difference (difference z) (difference (ceilDiv z m)) .0
+      (omega (arith, mul-le-mul-right (g .unit) (split-ceil z p .0)))
+
+  -- the products with one weight: a negative one exchanges the ends of both
+  product-below : (w : ℤ) (h : SignedEnds) (e : Interval) → SignedOverlap g s h e
+      → inUnitsℚ g s (leastProduct w h) ≤ℚ greatestScaled w e
+  unfolding inUnitsℚ leastProduct greatestScaled scaleℚ
+  product-below (pos k) h e o = scaleℚ-keeps {k = pos k} (pos-nonneg k) (o .below)
+  product-below (negsuc k) h e o = scaleℚ-exchanges {k = negsuc k} (negsuc-nonpos k) (o .above)
+
+  product-above : (w : ℤ) (h : SignedEnds) (e : Interval) → SignedOverlap g s h e
+      → leastScaled w e ≤ℚ inUnitsℚ g s (greatestProduct w h)
+  unfolding inUnitsℚ greatestProduct leastScaled scaleℚ
+  product-above (pos k) h e o = scaleℚ-keeps {k = pos k} (pos-nonneg k) (o .above)
+  product-above (negsuc k) h e o = scaleℚ-exchanges {k = negsuc k} (negsuc-nonpos k) (o .below)
+
+  zero-units : inUnitsℚ g s (pos 0) ≈ℚ wholeℚ (pos 0)
+  unfolding inUnitsℚ wholeℚ
+  zero-units = ≈ℚ-difference (difference (pos 0)) (difference (pos 0)) (omega arith)
+
+module _ (g : Grid) (s : Sound g) (x : ℕ) (hs : List SignedEnds) (es : List Interval) where
+  -- the sums of the first n
+  sum-below : (n : ℕ) → ((i : ℕ) → i < n → SignedOverlap g s (endsAt hs i) (intervalAt es i))
+      → inUnitsℚ g s (leastSum x hs n) ≤ℚ exactGreatestSum x es n
+  unfolding leastSum exactGreatestSum
+  sum-below zero o = zero-units g s .below
+  sum-below (suc n) o =
+      ≤ℚ-trans (units-sum g s (leastSum x hs n) (leastProduct (weight x n) (endsAt hs n)) .below)
+      (+ℚ-mono (sum-below n (λ i l. o i (omega arith)))
+      (product-below g s (weight x n) (endsAt hs n) (intervalAt es n) (o n (omega arith))))
+
+  sum-above : (n : ℕ) → ((i : ℕ) → i < n → SignedOverlap g s (endsAt hs i) (intervalAt es i))
+      → exactLeastSum x es n ≤ℚ inUnitsℚ g s (greatestSum x hs n)
+  unfolding greatestSum exactLeastSum
+  sum-above zero o = zero-units g s .above
+  sum-above (suc n) o =
+      ≤ℚ-trans
+      (+ℚ-mono (sum-above n (λ i l. o i (omega arith)))
+      (product-above g s (weight x n) (endsAt hs n) (intervalAt es n) (o n (omega arith))))
+      (units-sum g s (greatestSum x hs n) (greatestProduct (weight x n) (endsAt hs n)) .above)
+
+  -- G's ends overlap the order's interval of G
+  pub closedSum-overlap : ((i : ℕ) → i < fitted → SignedOverlap g s (endsAt hs i) (intervalAt es i))
+      → SignedOverlap g s (closedSum x hs) (exactClosedSum x es)
+  unfolding closedSum exactClosedSum outward
+  closedSum-overlap o =
+      record {
+        below = ≤ℚ-trans (units-floor g s (leastSum x hs fitted) (lit< tt))
+            (quotientℚ-mono (sum-below fitted o) weightUnit (lit< tt));
+        above = ≤ℚ-trans (quotientℚ-mono (sum-above fitted o) weightUnit (lit< tt))
+            (units-ceil g s (greatestSum x hs fitted) (lit< tt));
+      }
