@@ -1,0 +1,115 @@
+-- `fitted_in` meets its contract. The loop's invariant: the first i cells are in range, and the first i ends are those of
+-- H; the measure is the ages left.
+use mathlib.Core.Path.{_≡_, refl, ap, sym, _∙_}
+use mathlib.Core.Bool.{true, false}
+use Prim.Native.Nat.{_+_, _-_}
+use native.Mathlib.Omega.{arith}
+use borrow.Author.Needs.{needs}
+use borrow.Author.Tests.{not-true, not-false}
+use Rattle.whole.specs.SignedEnds.{SignedEnds}
+use Rattle.expo.specs.Billionths.{billionths}
+use Rattle.expo.specs.Exponential.{expBetween}
+use Rattle.series.specs.Series.{logForce, inRange}
+use Rattle.series.specs.RangeLaws.{logForce-negated}
+use Rattle.logarithm.specs.Logarithm.{inverseLogistic}
+use Rattle.closure.specs.Weights.{firstFitted, fitted}
+use Rattle.mortality.specs.Cell.{negated, youngForce, fittedEnds}
+use Rattle.mortality.proofs.Filled.{Filled, filled-none, filled-more, filled-out, filled-all}
+use Rattle.mortality.proofs.fitted_in.Statement.{statement}
+use Rattle.mortality.proofs.fitted_in.Tie as tie
+use Rattle.mortality.proofs.fitted_in.Reads as reads
+use Rattle.mortality.proofs.fitted_in.Lts as lts
+use Rattle.mortality.proofs.inverse_logistic.Reads as inverse-logistic-reads
+use Rattle.mortality.proofs.log_force_at.Reads as log-force-at-reads
+use Rattle.series.proofs.in_range.Reads as in-range-reads
+
+abbrev Inv-loop : tie.InvT-loop
+Inv-loop p y ends₀ i₀ ends i = Filled p (y .number) ends i
+
+abbrev μ-loop : tie.MeasureT-loop
+μ-loop p y ends₀ i₀ ends i = fitted - i
+
+-- the code's test, of the definition's log force
+tested : (c : tie.After-in-range Inv-loop μ-loop) → let l = c .before .before .before in let s = l .before in
+    c .in-range .result ≡ inRange (logForce (s .args .p) (firstFitted + l .loop .i) (s .args .y .number))
+tested c = c .in-range .ensures ∙ ap inRange (c .before .log-force-at .ensures)
+
+in-range : (c : tie.Else1 Inv-loop μ-loop) → let l = c .before .before .before .before in let s = l .before in
+    inRange (logForce (s .args .p) (firstFitted + l .loop .i) (s .args .y .number)) ≡ true
+in-range c = sym (tested (c .before)) ∙ not-false _ (c .if1 .left)
+
+loop-holds : tie.Need-loop-holds Inv-loop μ-loop
+loop-holds c = filled-none (c .args .p) (c .args .y .number) refl
+
+add-log-force-at : tie.Need-add-log-force-at Inv-loop μ-loop
+add-log-force-at c = omega arith
+
+log-force-at-requires : tie.Need-log-force-at-requires Inv-loop μ-loop
+log-force-at-requires c κs = (c .before .before .pre, omega arith)
+
+in-range-requires : tie.Need-in-range-requires Inv-loop μ-loop
+in-range-requires c κs = search needs
+
+returns : tie.Need-returns Inv-loop μ-loop
+returns c =
+    let t = c .before .before .before in
+    let l = t .before in
+    let s = l .before in
+    filled-out (s .args .p) (s .args .y .number) (l .loop .i) (l .loop .ends) (t .loop-test .taken)
+    (sym (tested (c .before)) ∙ not-true _ (c .if1 .taken))
+
+inverse-logistic-requires : tie.Need-inverse-logistic-requires Inv-loop μ-loop
+inverse-logistic-requires c κs =
+    let m = c .before .before in
+    let l = m .before .before in
+    let s = l .before in
+    rw (m .log-force-at .ensures)
+    (logForce-negated (s .args .p) (s .pre .limits) (omega (arith, m .before .loop-test .taken)) (s .pre .year) (rw (in-range c) tt))
+
+mul-ends : tie.Need-mul-ends Inv-loop μ-loop
+mul-ends c = omega arith
+
+array-set-from-ends : tie.Need-array-set-from-ends Inv-loop μ-loop
+array-set-from-ends c = omega arith
+
+add-i : tie.Need-add-i Inv-loop μ-loop
+add-i c = omega arith
+
+loop-less : tie.Need-loop-less Inv-loop μ-loop
+loop-less c = omega arith
+
+loop-again : tie.Need-loop-again Inv-loop μ-loop
+unfolding fittedEnds youngForce
+loop-again c =
+    let e = c .before in
+    let m = e .before .before in
+    let t = m .before in
+    filled-more (t .before .loop .inv) (t .loop-test .taken) (rw (in-range e) tt)
+    (c .inverse-logistic .ensures
+    ∙ ap (λ (k : SignedEnds). inverseLogistic billionths k (expBetween billionths (negated k))) (m .log-force-at .ensures))
+
+returns-2 : tie.Need-returns-2 Inv-loop μ-loop
+returns-2 c =
+    let l = c .before in
+    let s = l .before in
+    let i : l .loop .i ≡ fitted = omega arith in
+    filled-all (s .args .p) (s .args .y .number) (l .loop .ends) (s .pre .limits) (s .pre .year) (rw i at (l .loop .inv))
+
+pub fitted-in-spec : {M : Type 1} → statement M
+fitted-in-spec =
+    tie.close
+    (tie.spec
+    Inv-loop
+    μ-loop
+    loop-holds
+    add-log-force-at
+    log-force-at-requires
+    in-range-requires
+    returns
+    inverse-logistic-requires
+    mul-ends
+    array-set-from-ends
+    add-i
+    loop-less
+    loop-again
+    returns-2)

@@ -1,0 +1,55 @@
+-- One cell of the table on a grid (paper 01, "The grid", from the log force to q): the force at ages to 90 and above, p and q.
+-- Year n is 2013 + n.
+use Prim.Native.Nat.{ℕ, zero, suc, _+_, _-_, _≤_}
+use mathlib.Core.Bool.{Bool, true, false, cond, _&&_}
+use mathlib.Core.List.{List, [], _∷_, _++_}
+use lib.Dec.{leb, ltb}
+use Rattle.whole.specs.Split.{below}
+use Rattle.whole.specs.SignedEnds.{SignedEnds}
+use Rattle.expo.specs.Grid.{Grid, Ends}
+use Rattle.expo.specs.Exponential.{expBetween}
+use Rattle.sheet.specs.declared.Params.{Params}
+use Rattle.series.specs.Series.{logForce, inRange}
+use Rattle.logarithm.specs.Logarithm.{inverseLogistic}
+use Rattle.closure.specs.Weights.{fitted, firstFitted, firstClosed}
+use Rattle.closure.specs.Closure.{closedSum, logistic}
+
+-- −m of a log force that is in range, as z with two ends
+unfoldable pub negated : SignedEnds → Ends
+negated m = record { lower = below (m .upper); upper = below (m .lower) }
+
+-- "Force at ages to 90: exponential of m."
+unfoldable pub youngForce : Grid → Params → ℕ → ℕ → Ends
+youngForce g p x n = expBetween g (negated (logForce p x n))
+
+-- H at age y, and at the first i ages from 80 on
+unfoldable pub fittedEnds : Grid → Params → ℕ → ℕ → SignedEnds
+fittedEnds g p n y = inverseLogistic g (logForce p y n) (youngForce g p y n)
+
+unfoldable pub fittedList : Grid → Params → ℕ → ℕ → List SignedEnds
+fittedList g p n zero = []
+fittedList g p n (suc i) = fittedList g p n i ++ (fittedEnds g p n (firstFitted + i) ∷ [])
+
+-- the force above 90, by the closure
+unfoldable pub oldForce : Grid → Params → ℕ → ℕ → Ends
+oldForce g p x n = logistic g (closedSum x (fittedList g p n fitted))
+
+unfoldable pub force : Grid → Params → ℕ → ℕ → Ends
+force g p x n = cond (ltb x firstClosed) (youngForce g p x n) (oldForce g p x n)
+
+-- "p = exponential of −force; q = 10^9 − p, ends exchanged."
+unfoldable pub survival : Grid → Params → ℕ → ℕ → Ends
+survival g p x n = expBetween g (force g p x n)
+
+unfoldable pub death : Grid → Params → ℕ → ℕ → Ends
+death g p x n =
+    let s = survival g p x n in
+    record { lower = g .unit - s .upper; upper = g .unit - s .lower }
+
+-- "Age above 90 needs the cells 80 to 90 of its year."
+unfoldable pub fittedInRange : Params → ℕ → ℕ → Bool
+fittedInRange p n zero = true
+fittedInRange p n (suc i) = fittedInRange p n i && inRange (logForce p (firstFitted + i) n)
+
+unfoldable pub neededInRange : Params → ℕ → ℕ → Bool
+neededInRange p x n = cond (ltb x firstClosed) (inRange (logForce p x n)) (fittedInRange p n fitted)

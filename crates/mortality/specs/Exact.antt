@@ -1,0 +1,62 @@
+-- One cell of the table exactly, at order j (paper 01, "The exact value"): the grid's formulas over fractions, the ends of an
+-- order taken from its brackets outward as on the grid, without rounding.
+use Prim.Native.Nat.{ℕ, zero, suc, _+_}
+use mathlib.Core.Bool.{cond}
+use mathlib.Core.List.{List, [], _∷_, _++_}
+use lib.Dec.{ltb, lit<}
+use Rattle.fraction.specs.Ratio.{Ratio, complement}
+use Rattle.fraction.specs.Fraction.{Fraction, _+ℚ_, quotientℚ, signed, absolute}
+use Rattle.taylor.specs.Order.{orderLower, orderUpper}
+use Rattle.sheet.specs.declared.Params.{Params}
+use Rattle.series.specs.Exact.{exactLogForce}
+use Rattle.logarithm.specs.Exact.{orderLogLower, orderLogUpper}
+use Rattle.closure.specs.Weights.{fitted, firstFitted, firstClosed}
+use Rattle.closure.specs.Exact.{Interval, exactClosedSum, orderLogisticLower, orderLogisticUpper}
+
+-- an order's two ends
+pub record Bracket : Type 0 where
+  pub least : Ratio
+  pub most : Ratio
+
+-- the parameters' unit, 10^-9
+abbrev pub sheetUnit : ℕ
+sheetUnit = 1000000000
+
+-- the log force, and −m of a cell in range
+unfoldable pub exactM : Params → ℕ → ℕ → Fraction
+exactM p x n = quotientℚ (exactLogForce p x n) sheetUnit (lit< tt)
+
+unfoldable pub exactZ : Params → ℕ → ℕ → Ratio
+exactZ p x n = absolute (exactM p x n)
+
+unfoldable pub orderYoungForce : Params → ℕ → ℕ → ℕ → Bracket
+orderYoungForce p x n j = record { least = orderLower (exactZ p x n) j; most = orderUpper (exactZ p x n) j }
+
+unfoldable pub orderFitted : Params → ℕ → ℕ → ℕ → Interval
+orderFitted p n j y =
+    let u = orderYoungForce p y n j in
+    record
+    { least = exactM p y n +ℚ signed (orderLogLower (u .least) j)
+    ; most = exactM p y n +ℚ signed (orderLogUpper (u .most) j) }
+
+unfoldable pub orderFittedList : Params → ℕ → ℕ → ℕ → List Interval
+orderFittedList p n j zero = []
+orderFittedList p n j (suc i) = orderFittedList p n j i ++ (orderFitted p n j (firstFitted + i) ∷ [])
+
+unfoldable pub orderOldForce : Params → ℕ → ℕ → ℕ → Bracket
+orderOldForce p x n j =
+    let G = exactClosedSum x (orderFittedList p n j fitted) in
+    record { least = orderLogisticLower (G .least) j; most = orderLogisticUpper (G .most) j }
+
+unfoldable pub orderForce : Params → ℕ → ℕ → ℕ → Bracket
+orderForce p x n j = cond (ltb x firstClosed) (orderYoungForce p x n j) (orderOldForce p x n j)
+
+unfoldable pub orderSurvival : Params → ℕ → ℕ → ℕ → Bracket
+orderSurvival p x n j =
+    let f = orderForce p x n j in
+    record { least = orderLower (f .most) j; most = orderUpper (f .least) j }
+
+unfoldable pub orderDeath : Params → ℕ → ℕ → ℕ → Bracket
+orderDeath p x n j =
+    let s = orderSurvival p x n j in
+    record { least = complement (s .most); most = complement (s .least) }

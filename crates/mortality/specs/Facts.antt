@@ -1,0 +1,17 @@
+-- What the laws of a cell ask of a grid besides `Sound` and `Narrow`.
+use mathlib.Core.Path.{_≡_}
+use Prim.Native.Nat.{_≤_}
+use Rattle.taylor.specs.Order.{leastOrder}
+use Rattle.expo.specs.Grid.{Grid}
+use Rattle.logarithm.specs.WidthFacts.{Fine}
+use Rattle.logarithm.specs.Range.{Halving, leastLogForce}
+use Rattle.mortality.specs.Exact.{sheetUnit}
+
+pub record Fit (g : Grid) : Type 0 where
+  -- the grid's unit is the parameters'
+  pub unit : g .unit ≡ sheetUnit
+  -- the logarithm's terms are enough, and no more than an order has
+  pub log : Fine g
+  pub terms : g .logTerms ≤ leastOrder
+  -- from the greatest log force of a cell in range down the force is at most one half
+  pub half : Halving g leastLogForce

@@ -1,0 +1,14 @@
+-- definitions
+pub mod Cell
+pub mod Exact
+pub mod Facts
+pub mod Answered
+pub mod Code
+
+-- laws
+pub mod Lists
+pub mod Needed
+pub mod Holds
+pub mod Width
+pub mod Billionths
+pub mod Narrowing

@@ -1,0 +1,161 @@
+// One cell of the table on the grid of 10^-9: the force at ages to 90, the closure above, and q with two ends.
+ghost use mathlib.Core.Path.{_≡_};
+ghost use Prim.Native.Nat.{ℕ, _≤_, _<_};
+ghost use lib.Dec.{T};
+ghost use Rattle.expo.specs.Billionths.{billionths};
+ghost use Rattle.expo.specs.Exponential.{expBetween};
+ghost use Rattle.expo.specs.Code.{endsOf as gridEnds};
+ghost use Rattle.sheet.specs.declared.Params.{Params};
+ghost use Rattle.sheet.specs.Limits.{inLimits, lastYears};
+ghost use Rattle.series.specs.Code.{endsOf};
+ghost use Rattle.series.specs.Series.{logForce};
+ghost use Rattle.series.specs.WidthLaws.{logForceWidth};
+ghost use Rattle.series.specs.RangeLaws.{Negated};
+ghost use Rattle.logarithm.specs.Logarithm.{inverseLogistic};
+ghost use Rattle.closure.specs.Weights.{firstClosed};
+ghost use Rattle.closure.specs.Totals.{lastClosed};
+ghost use Rattle.closure.specs.Code.{InLimit};
+ghost use Rattle.mortality.specs.Cell.{negated};
+ghost use Rattle.mortality.specs.Code.{YearOf, FittedOf, deathOf, cellOf};
+use expo::Ends;
+use series::SignedEnds;
+use sheet::Params;
+
+const UNIT: u64 = 1_000_000_000;
+
+// Ages 80 to 90 are fitted, and ages from 91 on are closed.
+const FIRST_FITTED: usize = 80;
+
+const FITTED: usize = 11;
+
+const FIRST_CLOSED: usize = 91;
+
+// The year 2013 + number, with K and kappa.
+pub struct Year {
+    pub number: u64,
+    pub period: i64,
+    pub kappas: SignedEnds,
+}
+
+// The ends of H at ages 80 to 90 of a year, where its cells are in range.
+pub struct Fitted {
+    pub ok: bool,
+    pub ends: [SignedEnds; 11],
+}
+
+// The ends of q, or a needed cell out of range.
+pub enum Cell {
+    Steep,
+    Of(Ends),
+}
+
+// Year n of a set.
+pub fn year_at(p: Params, n: u64) -> Year
+    requires { ⌜ T (inLimits p) × (n ≤ lastYears) ⌝ }
+    ensures { λ r. ⌜ (r .number ≡ n) × YearOf p r ⌝ }
+{
+    let period = series::period_index(p, n);
+    let kappas = series::kappa_at(p, n);
+    Year {
+        number: n,
+        period,
+        kappas,
+    }
+}
+
+// The log force at age x.
+fn log_force_at(p: Params, x: usize, y: Year) -> SignedEnds
+    requires { ⌜ YearOf p y × (x < firstClosed) ⌝ }
+    ensures { λ r. ⌜ endsOf r ≡ logForce p x (y .number) ⌝ }
+{
+    let kappas = y.kappas;
+    series::log_force(p, x, y.period, kappas)
+}
+
+// The force at an age to 90, e^m, of a log force in range.
+fn force_to_90(m: SignedEnds) -> Ends
+    requires { ⌜ Negated (endsOf m) logForceWidth ⌝ }
+    ensures { λ r. ⌜ gridEnds r ≡ expBetween billionths (negated (endsOf m)) ⌝ }
+{
+    expo::exp_between(Ends {
+        lower: (-m.upper) as u64,
+        upper: (-m.lower) as u64,
+    })
+}
+
+// q = 1 − e^−force, ends exchanged.
+fn death_of(force: Ends) -> Ends
+    ensures { λ r. ⌜ gridEnds r ≡ deathOf (gridEnds force) ⌝ }
+{
+    let p = expo::exp_between(force);
+    Ends {
+        lower: UNIT - p.upper,
+        upper: UNIT - p.lower,
+    }
+}
+
+// H = m − ln(1 − e^m), of a log force in range.
+fn inverse_logistic(m: SignedEnds) -> SignedEnds
+    requires { ⌜ Negated (endsOf m) logForceWidth ⌝ }
+    ensures { λ r. ⌜ endsOf r ≡ inverseLogistic billionths (endsOf m) (expBetween billionths (negated (endsOf m))) ⌝ }
+{
+    let u = force_to_90(m);
+    SignedEnds {
+        lower: m.lower + logarithm::log_lower(u.lower) as i64,
+        upper: m.upper + logarithm::log_upper(u.upper) as i64,
+    }
+}
+
+// The ends of H of a year.
+pub fn fitted_in(p: Params, y: Year) -> Fitted
+    requires { ⌜ YearOf p y ⌝ }
+    ensures { λ r. ⌜ FittedOf p (y .number) r ⌝ }
+{
+    let mut ends = [SignedEnds { lower: 0, upper: 0 }; 11];
+    let mut i = 0;
+    while i < FITTED {
+        let m = log_force_at(p, FIRST_FITTED + i, y);
+        if !series::in_range(m) {
+            return Fitted { ok: false, ends };
+        }
+        ends[i] = inverse_logistic(m);
+        i += 1;
+    }
+    Fitted { ok: true, ends }
+}
+
+// The cell at an age to 90.
+pub fn young_cell(p: Params, x: usize, y: Year) -> Cell
+    requires { ⌜ YearOf p y × (x < firstClosed) ⌝ }
+    ensures { λ r. ⌜ r ≡ cellOf p x (y .number) ⌝ }
+{
+    let m = log_force_at(p, x, y);
+    if !series::in_range(m) {
+        return Cell::Steep;
+    }
+    Cell::Of(death_of(force_to_90(m)))
+}
+
+// The cell at an age above 90, of the ends of H of its year.
+pub fn old_cell(x: usize, f: Fitted) -> Cell
+    requires { ⌜ (firstClosed ≤ x) × (x ≤ lastClosed) × (T (f .ok) → InLimit (f .ends)) ⌝ }
+    ensures { λ r. ⌜ ((p : Params) (n : ℕ) → FittedOf p n f → r ≡ cellOf p x n) ⌝ }
+{
+    if !f.ok {
+        return Cell::Steep;
+    }
+    let ends = f.ends;
+    Cell::Of(death_of(closure::logistic(closure::closed_sum(x, ends))))
+}
+
+// The cell at age x in year n.
+pub fn cell_at(p: Params, x: usize, n: u64) -> Cell
+    requires { ⌜ T (inLimits p) × (x ≤ lastClosed) × (n ≤ lastYears) ⌝ }
+    ensures { λ r. ⌜ r ≡ cellOf p x n ⌝ }
+{
+    let y = year_at(p, n);
+    if x < FIRST_CLOSED {
+        return young_cell(p, x, y);
+    }
+    old_cell(x, fitted_in(p, y))
+}
