@@ -1,0 +1,103 @@
+/* A plain reader of the parameter sheet: one pass over the bytes, then the limits. */
+#include "sheet_reader.h"
+
+#include <stdbool.h>
+#include <string.h>
+
+struct cursor {
+    const uint8_t *at, *end;
+};
+
+static bool take(struct cursor *c, const char *text) {
+    size_t n = strlen(text);
+    if ((size_t)(c->end - c->at) < n || memcmp(c->at, text, n) != 0)
+        return false;
+    c->at += n;
+    return true;
+}
+
+static bool digit(const struct cursor *c) {
+    return c->at < c->end && '0' <= *c->at && *c->at <= '9';
+}
+
+/* An optional minus and 1 to 15 digits, with no leading zero except 0 alone, and no -0. */
+static bool take_number(struct cursor *c, int64_t *out) {
+    bool minus = take(c, "-");
+    if (!digit(c))
+        return false;
+    if (*c->at == '0') {
+        c->at++;
+        *out = 0;
+        return !minus && !digit(c);
+    }
+    int64_t n = 0;
+    int digits = 0;
+    while (digit(c)) {
+        if (++digits > 15)
+            return false;
+        n = 10 * n + (*c->at++ - '0');
+    }
+    *out = minus ? -n : n;
+    return true;
+}
+
+static bool take_line(struct cursor *c, const char *name, const char *age, int64_t *out) {
+    return take(c, name) && take(c, age) && take(c, "=") && take_number(c, out) && take(c, "\n");
+}
+
+static bool take_ages(struct cursor *c, struct sheet *s) {
+    for (int x = 0; x < AGES; x++) {
+        char age[3] = {0};
+        if (x < 10) {
+            age[0] = (char)('0' + x);
+        } else {
+            age[0] = (char)('0' + x / 10);
+            age[1] = (char)('0' + x % 10);
+        }
+        if (!take_line(c, "A.", age, &s->level[x]) || !take_line(c, "B.", age, &s->slope[x])
+            || !take_line(c, "al.", age, &s->alpha[x]) || !take_line(c, "be.", age, &s->beta[x]))
+            return false;
+    }
+    return true;
+}
+
+static bool take_sheet(struct cursor *c, struct sheet *s) {
+    if (!take(c, "table=AG2014\nsex="))
+        return false;
+    if (take(c, "M\n"))
+        s->sex = 'M';
+    else if (take(c, "F\n"))
+        s->sex = 'F';
+    else
+        return false;
+    return take_line(c, "a", "", &s->a) && take_line(c, "theta", "", &s->theta) && take_line(c, "K", "", &s->period)
+        && take_line(c, "k", "", &s->kappa) && take_ages(c, s) && c->at == c->end;
+}
+
+static bool within(int64_t v, int64_t limit) {
+    return -limit <= v && v <= limit;
+}
+
+static bool in_limits(const struct sheet *s) {
+    if (!within(s->a, 100000000) || !within(s->theta, 10000000000) || !within(s->period, 500000000000)
+        || !within(s->period + 171 * s->theta, 500000000000) || !within(s->kappa, 50000000000))
+        return false;
+    for (int x = 0; x < AGES; x++)
+        if (!within(s->level[x], 40000000000) || !within(s->slope[x], 10000000) || !within(s->alpha[x], 40000000000)
+            || !within(s->beta[x], 10000000))
+            return false;
+    return true;
+}
+
+static int refused(int no, struct sheet *out) {
+    memset(out, 0, sizeof *out);
+    out->sex = 'M';
+    return no;
+}
+
+int read_sheet(const uint8_t *bytes, size_t len, struct sheet *out) {
+    struct cursor c = {bytes, bytes + len};
+    if (len > 65536 || !take_sheet(&c, out))
+        return refused(1, out);
+    return in_limits(out) ? 0 : refused(2, out);
+}

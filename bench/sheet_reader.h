@@ -1,0 +1,15 @@
+/* A plain reader of the parameter sheet, for comparison. */
+#include <stddef.h>
+#include <stdint.h>
+
+#define AGES 91
+
+struct sheet {
+    char sex;
+    int64_t a, theta, period, kappa;
+    int64_t level[AGES], slope[AGES], alpha[AGES], beta[AGES];
+};
+
+/* The refusal's number: 1 torn, 2 off scale, 0 where nothing is refused. A refused reading gives sex M and every number
+   0. */
+int read_sheet(const uint8_t *bytes, size_t len, struct sheet *out);

@@ -1,0 +1,44 @@
+-- `write_then_read` meets its contract, from what the writer and the reader ensure.
+use mathlib.Core.Path.{sym, _∙_}
+use lib.Seq.{length-take-le}
+use Rattle.sheet.specs.Set.{Whole}
+use Rattle.round_trip.specs.TripLaws.{written-within, read-back}
+use borrow.Author.Needs.{needs}
+use Rattle.round_trip.proofs.write_then_read.Statement.{statement}
+use Rattle.round_trip.proofs.write_then_read.Tie as tie
+
+whole : (c : tie.Start) → Whole (c .args .p)
+whole c =
+    record { level = search needs; slope = search needs; alpha = search needs; beta = search needs }
+
+write-requires : tie.Need-write-requires
+write-requires c κs = search needs
+
+slice-reshare-prefix-read : tie.Need-slice-reshare-prefix-read
+slice-reshare-prefix-read c = written-within _ _ (c .before .before .write .ensures)
+
+slice-aggregate-read : tie.Need-slice-aggregate-read
+slice-aggregate-read c = sym (length-take-le _ _ (written-within _ _ (c .before .before .before .write .ensures)))
+
+read-requires : tie.Need-read-requires
+read-requires c κs = search needs
+
+same-length : tie.Need-same-length
+same-length c = search needs
+
+returns : tie.Need-returns
+returns c =
+    let written = c .before .before .before .before in
+    let e = written .write .ensures in
+    (c .read .ensures ∙ read-back _ (whole (written .before .before .before)) _ e, e .1)
+
+pub write-then-read-spec : {M : Type 1} → statement M
+write-then-read-spec =
+    tie.close
+    (tie.spec
+    write-requires
+    slice-reshare-prefix-read
+    slice-aggregate-read
+    read-requires
+    same-length
+    returns)

@@ -1,0 +1,100 @@
+-- The two trips by cases, from the laws of a set and its sheet.
+use mathlib.Core.Path.{_≡_, refl, sym, _∙_}
+use mathlib.Core.Bool.{Bool, true, false, cond}
+use mathlib.Core.List.{List, [], _++_}
+use Prim.Native.Nat.{ℕ, _≤_}
+use native.Mathlib.Omega.{arith}
+use borrow.Author.Tests.{ne-eqb}
+use lib.Dec.{leb, eqb}
+use lib.Ieee.Bits.{is-true}
+use lib.ListN.{length, take, drop, length-append}
+use lib.Seq.{take-append-seam}
+use Rattle.tokens.specs.Text.{bytesOf, takeText}
+use Rattle.sheet.specs.declared.Params.{Params}
+use Rattle.sheet.specs.declared.Refusal.{Refusal}
+use Rattle.sheet.specs.declared.Refusal.the-variants.{Accepted, Torn, OffScale, NoSuchAge, NoSuchYear}
+use Rattle.sheet.specs.declared.Refusal.the-variants.{NoSuchSpan, Steep, Short}
+use Rattle.sheet.specs.declared.Reading.{Reading}
+use Rattle.sheet.specs.declared.Written.{Written}
+use Rattle.sheet.specs.Refusals.{refusalNumber}
+use Rattle.sheet.specs.Set.{Whole}
+use Rattle.sheet.specs.Limits.{inLimits}
+use Rattle.sheet.specs.Sheet.{sheetText, headText, readHead, readSet, refused, judged, readSheet}
+use Rattle.sheet.specs.Sheet.{writeRefusal, writtenLength, writeAnswer, writtenBuffer}
+use Rattle.sheet_writer.specs.Answers.{Answers}
+use Rattle.sheet.specs.SheetTrip.{written-reads-back, read-writes-back}
+use Rattle.round_trip.specs.Trips.{accepted, readBack, copies, copied, copyRefusal, copyAnswer}
+
+-- ---- a set
+
+-- an empty input is torn
+empty-torn : readSheet [] ≡ refused Torn
+unfolding readSheet readSet readHead headText bytesOf takeText judged
+empty-torn = refl
+
+-- what was written is within the buffer
+pub written-within : (p : Params) (buffer : List ℕ) {answer : Written} {after : List ℕ}
+    → Answers p buffer answer after → answer .len ≤ length after
+unfolding writeAnswer writtenLength writtenBuffer
+written-within p buffer (e, f) = rw (e, f) (go (inLimits p) (leb (length (sheetText p)) (length buffer)))
+  where
+    go : (c d : Bool)
+        → cond c (cond d (length (sheetText p)) 0) 0
+        ≤ length (cond c (cond d (sheetText p ++ drop (length (sheetText p)) buffer) buffer) buffer)
+    go true true = rw (length-append (sheetText p) (drop (length (sheetText p)) buffer)) (omega arith)
+    go true false = omega arith
+    go false d = omega arith
+
+-- reading what was written
+pub read-back : (p : Params) → Whole p → (buffer : List ℕ) {answer : Written} {after : List ℕ}
+    → Answers p buffer answer after → readSheet (take (answer .len) after) ≡ readBack p (length buffer)
+unfolding writeAnswer writtenLength writtenBuffer writeRefusal readBack accepted refusalNumber
+read-back p w buffer (e, f) = rw (e, f) (go (inLimits p) refl (leb (length (sheetText p)) (length buffer)))
+  where
+    go : (c : Bool) → inLimits p ≡ c → (d : Bool)
+        → readSheet (take (cond c (cond d (length (sheetText p)) 0) 0)
+        (cond c (cond d (sheetText p ++ drop (length (sheetText p)) buffer) buffer) buffer))
+        ≡ cond (eqb (refusalNumber (cond c (cond d Accepted Short) OffScale)) 0)
+        (record { refusal = Accepted; set = p }) (refused Torn)
+    go true q true =
+        rw (take-append-seam (sheetText p) (drop (length (sheetText p)) buffer)) (written-reads-back p w (rw q tt))
+    go true q false = empty-torn
+    go false q d = empty-torn
+
+-- ---- a sheet
+
+-- only the first case has number 0
+is-accepted : (r : Refusal) → refusalNumber r ≡ 0 → r ≡ Accepted
+unfolding refusalNumber
+is-accepted Accepted e = refl
+is-accepted Torn e = absurd (omega arith)
+is-accepted OffScale e = absurd (omega arith)
+is-accepted NoSuchAge e = absurd (omega arith)
+is-accepted NoSuchYear e = absurd (omega arith)
+is-accepted NoSuchSpan e = absurd (omega arith)
+is-accepted Steep e = absurd (omega arith)
+is-accepted Short e = absurd (omega arith)
+
+-- what is answered for a sheet, and the buffer after
+abbrev pub Copies : List ℕ → List ℕ → Written → List ℕ → Type 0
+Copies bs buffer answer after = (answer ≡ copyAnswer bs (length buffer)) × (after ≡ copied bs buffer)
+
+-- a refused sheet: its refusal, and the buffer as it was
+pub not-copied : (bs buffer : List ℕ) {r : Reading} → r ≡ readSheet bs → (refusalNumber (r .refusal) ≡ 0 → ⊥)
+    → Copies bs buffer (record { refusal = r .refusal; len = 0 }) buffer
+unfolding copyAnswer copyRefusal copied copies accepted
+not-copied bs buffer e h =
+    let q = ne-eqb (refusalNumber (readSheet bs .refusal)) 0 (rw e at h) in
+    (rw (e, q), rw q)
+
+-- an accepted sheet: what the writer makes of its set is the sheet
+pub copy : (bs buffer : List ℕ) {r : Reading} → r ≡ readSheet bs → refusalNumber (r .refusal) ≡ 0
+    → {answer : Written} {after : List ℕ} → Answers (r .set) buffer answer after → Copies bs buffer answer after
+unfolding copyAnswer copyRefusal copied copies accepted writeAnswer writeRefusal writtenLength writtenBuffer
+copy bs buffer {r} e h (f, g) =
+    let n : refusalNumber (readSheet bs .refusal) ≡ 0 = rw (← e) h in
+    let a = is-accepted (r .refusal) h in
+    let x : readSheet bs ≡ record { refusal = Accepted; set = r .set } = sym e ∙ rw (← a) in
+    let (same, fits, whole) = read-writes-back bs (r .set) x in
+    let l = is-true (inLimits (r .set)) fits in
+    (rw (f, l, same, n), rw (g, l, same, n))

@@ -1,0 +1,434 @@
+"""The sheet's reader and writer against a second reader and writer, written from paper 01.
+
+It hands sheets and raw sets by the thousand to the program of crates/sheets, on its standard input, and compares what
+the program prints: the refusal, the set, the length and every byte of the buffer. An argument is taken as the seed, so
+that a run can be repeated. With --write it writes the program's stored input and output anew.
+"""
+import collections
+import functools
+import pathlib
+import random
+import re
+import subprocess
+import sys
+import time
+
+from grid import flat
+
+ROOT = pathlib.Path(__file__).resolve().parent.parent
+PROGRAM = ROOT / "target" / "bin" / "sheets"
+CRATE = ROOT / "crates" / "sheets"
+
+# ---- paper 01, "Parameter sheet" and the refusals 1, 2 and 7
+
+ACCEPTED, TORN, OFF_SCALE, SHORT = 0, 1, 2, 7
+LONGEST = 65_536
+YEARS = 171
+RUNS = ("A", "B", "al", "be")
+KEYS = ["a", "theta", "K", "k"] + [f"{run}.{age}" for age in range(91) for run in RUNS]
+SIZES = {"a": 10**8, "theta": 10**10, "K": 500 * 10**9, "k": 50 * 10**9}
+SIZES.update({"A": 40 * 10**9, "al": 40 * 10**9, "B": 10**7, "be": 10**7})
+LIMITS = [SIZES[key.split(".")[0]] for key in KEYS]
+NUMBER = re.compile(rb"0|-?[1-9][0-9]{0,14}")
+
+Set = collections.namedtuple("Set", "sex numbers")
+BLANK = Set("M", (0,) * len(KEYS))
+
+
+def in_limits(numbers):
+    period, theta = numbers[KEYS.index("K")], numbers[KEYS.index("theta")]
+    return all(abs(v) <= most for v, most in zip(numbers, LIMITS)) and abs(period + YEARS * theta) <= SIZES["K"]
+
+
+def set_of(data):
+    """The set of a sheet's bytes, or None where they break its form."""
+    lines = data.split(b"\n")
+    if len(data) > LONGEST or len(lines) != 371 or lines.pop() != b"":
+        return None
+    if lines[0] != b"table=AG2014" or lines[1] not in (b"sex=M", b"sex=F"):
+        return None
+    numbers = []
+    for key, line in zip(KEYS, lines[2:]):
+        start = key.encode() + b"="
+        value = line[len(start):]
+        if not line.startswith(start) or not NUMBER.fullmatch(value):
+            return None
+        numbers.append(int(value))
+    return Set(lines[1].decode()[-1], tuple(numbers))
+
+
+def read(data):
+    got = set_of(data)
+    if got is None:
+        return TORN, BLANK
+    return (ACCEPTED, got) if in_limits(got.numbers) else (OFF_SCALE, BLANK)
+
+
+def text(lines):
+    return b"".join(line + b"\n" for line in lines)
+
+
+def lines_of(which):
+    values = [b"%s=%d" % (key.encode(), v) for key, v in zip(KEYS, which.numbers)]
+    return [b"table=AG2014", b"sex=" + which.sex.encode()] + values
+
+
+@functools.lru_cache(100)
+def sheet_of(which):
+    return text(lines_of(which))
+
+
+def write(which, buffer):
+    """The refusal, the length and the buffer after."""
+    if not in_limits(which.numbers):
+        return OFF_SCALE, 0, buffer
+    sheet = sheet_of(which)
+    if len(sheet) > len(buffer):
+        return SHORT, 0, buffer
+    return ACCEPTED, len(sheet), sheet + buffer[len(sheet):]
+
+
+# ---- records of the program
+
+FILL = b"\xaa"
+LARGEST_ROOM, LARGEST_SHEET = 16_384, 70_000
+LARGEST = 2**63 - 1
+
+# no: the refusal of a sheet; given: the set to be written
+Record = collections.namedtuple("Record", "name mode data room no given")
+
+
+def sheet_record(name, data, room):
+    return Record(name, 0, data, room, *read(data))
+
+
+def raw_number(v):
+    return bytes([v < 0]) + (-1 - v if v < 0 else v).to_bytes(8, "big")
+
+
+def raw_record(name, which, room):
+    data = bytes([which.sex == "F"]) + b"".join(map(raw_number, which.numbers))
+    return Record(name, 1, data, room, None, which)
+
+
+def stored(record):
+    return bytes([record.mode]) + len(record.data).to_bytes(4, "big") + record.room.to_bytes(4, "big") + record.data
+
+
+@functools.lru_cache(100)
+def printed_set(which):
+    return f" {which.sex} {' '.join(map(str, which.numbers))}\n".encode()
+
+
+def expected(record):
+    """What the program is to print for a record, in its parts."""
+    parts = []
+    if record.mode == 0:
+        parts = [("refusal of reading", b"R %d" % record.no), ("set", printed_set(record.given))]
+    no, length, buffer = write(record.given, FILL * record.room)
+    return parts + [("refusal of writing", b"W %d" % no), ("length", b" %d\n" % length), ("buffer", buffer + b"\n")]
+
+
+# ---- sets
+
+def flat_set():
+    params = flat()
+    numbers = [params[key] for key in KEYS[:4]] + [params[run][age] for age in range(91) for run in RUNS]
+    return Set("M", tuple(numbers))
+
+
+def changed(which, key, v, *more):
+    numbers = list(which.numbers)
+    numbers[KEYS.index(key)] = v
+    out = Set(which.sex, tuple(numbers))
+    return changed(out, *more) if more else out
+
+
+def signed(draw, size):
+    """A number of any length up to the size's, either side of zero."""
+    return draw.choice((-1, 1)) * draw.randrange(min(size, 10 ** draw.randint(1, 12)) + 1)
+
+
+def random_set(draw):
+    numbers = [signed(draw, most) for most in LIMITS]
+    theta = KEYS.index("theta")
+    while not in_limits(numbers):
+        numbers[theta] //= 2
+        numbers[KEYS.index("K")] //= 2
+    return Set(draw.choice("MF"), tuple(numbers))
+
+
+def edge_set(sign):
+    """Every number at its limit, but for theta."""
+    return changed(Set("F", tuple(sign * most for most in LIMITS)), "theta", 0)
+
+
+# ---- the sheets of the test
+
+def with_room(draw, record):
+    """With a room of exactly what is written, one less, some more, or none."""
+    length = len(sheet_of(record.given))
+    return record._replace(room=draw.choice((length, length - 1, length + 1, length + draw.randrange(300), length, 0)))
+
+
+def torn_at(draw, name, sheet):
+    """Bytes changed, deleted and doubled: all of the first 20 lines and of the last 10, and some others."""
+    ends = [i for i, b in enumerate(sheet) if b == 10]
+    places = set(range(ends[19] + 1)) | set(range(ends[-11] + 1, len(sheet)))
+    places = sorted(places | set(draw.sample(range(ends[19] + 1, ends[-11] + 1), 200)))
+    for i in places:
+        head, byte, tail = sheet[:i], sheet[i:i + 1], sheet[i + 1:]
+        other = bytes([draw.choice([b for b in range(256) if b != byte[0]])])
+        near = bytes([draw.choice([b for b in b"\n\r=-+.0123456789 ABaelbktMF" if b != byte[0]])])
+        yield f"{name}: byte {i} changed", head + other + tail
+        yield f"{name}: byte {i} changed to {near}", head + near + tail
+        yield f"{name}: byte {i} deleted", head + tail
+        yield f"{name}: byte {i} doubled", head + byte + byte + tail
+
+
+def lines_moved(draw, name, sheet):
+    lines = sheet.split(b"\n")[:-1]
+    for i in range(len(lines)):
+        yield f"{name}: line {i} left out", text(lines[:i] + lines[i + 1:])
+        yield f"{name}: line {i} twice", text(lines[:i + 1] + lines[i:])
+        yield f"{name}: line {i} empty", text(lines[:i] + [b""] + lines[i + 1:])
+        j = draw.choice([j for j in range(len(lines)) if j != i])
+        for k in ((i + 1) % len(lines), j):
+            moved = list(lines)
+            moved[i], moved[k] = moved[k], moved[i]
+            yield f"{name}: lines {i} and {k} swapped", text(moved)
+
+
+VALUES = [
+    b"", b"-", b"+", b"+1", b"-0", b"+0", b"00", b"007", b"-007", b"01", b"--1", b"1-", b"0-", b" 1", b"1 ", b"1\r", b"\r1",
+    b"\t1", b"1e3", b"0x1", b"1.0", b"1,000", b"1_000", b"a", b"=1", b"1=", b"1\x00", b"\x001", "\uff11".encode(),
+    "\u22121".encode(), b"0", b"1", b"-1", b"9" * 15, b"-" + b"9" * 15, b"1" + b"0" * 15, b"-1" + b"0" * 15, b"9" * 16,
+    b"9" * 19, b"9" * 20, b"0" * 15, b"0" * 16, b"18446744073709551616", b"9223372036854775808", b"-9223372036854775808",
+    b"1" * 400,
+]
+
+
+def limits_tried(name, which):
+    for key, most in zip(KEYS, LIMITS):
+        for v in (most, most + 1, -most, -most - 1):
+            yield f"{name}: {key}={v}", text(lines_of(changed(which, key, v)))
+
+
+def values_tried(draw, name, which):
+    """Every form of a number, in some lines."""
+    for key in KEYS[:8] + KEYS[-4:] + draw.sample(KEYS[8:-4], 4):
+        lines, i = lines_of(which), KEYS.index(key) + 2
+        for value in VALUES + [b"%d" % (sign * (LIMITS[i - 2] - 1)) for sign in (1, -1)]:
+            line = key.encode() + b"=" + value
+            yield f"{name}: {line}", text(lines[:i] + [line] + lines[i + 1:])
+
+
+def sums_tried():
+    """K + 171·theta at its limits and one past them, and with K itself at or past its own."""
+    size, zero = SIZES["K"], Set("F", (0,) * len(KEYS))
+    thetas = (2_923_976_608, 2_923_976_609, 1, 10**9, 5 * 10**9, 5_847_953_216, 5_847_953_217, 10**10, 10**10 + 1)
+    for theta in thetas + tuple(-theta for theta in thetas):
+        periods = {0, size, -size, size + 1, -size - 1}
+        periods |= {end - YEARS * theta + d for end in (size, -size) for d in (-1, 0, 1)}
+        for period in sorted(periods):
+            yield f"K={period} theta={theta}", sheet_of(changed(zero, "K", period, "theta", theta))
+
+
+def whole_inputs(draw, name, sheet):
+    """Inputs that are not a sheet's lines, or not all of them, or more."""
+    lines = sheet.split(b"\n")[:-1]
+    yield name, sheet
+    yield "empty", b""
+    yield "a line feed", b"\n"
+    yield f"{name}: carriage returns", sheet.replace(b"\n", b"\r\n")
+    yield f"{name}: carriage returns alone", sheet.replace(b"\n", b"\r")
+    for i in (0, 1, 2, 100, 369):
+        yield f"{name}: carriage return in line {i}", text(lines[:i] + [lines[i] + b"\r"] + lines[i + 1:])
+    yield f"{name}: no last line feed", sheet[:-1]
+    for more in (b"\n", b"\x00", b"0", b" ", b"\r", b"b", b"\xaa", b"be.91=0\n", sheet):
+        yield f"{name}: and {more[:20]}", sheet + more
+        yield f"{name}: after {more[:20]}", more + sheet
+    for more in (b"\xef\xbb\xbf", b"#\n"):
+        yield f"{name}: after {more}", more + sheet
+    for line in (b"table=AG2012", b"table=AG20144", b"table=ag2014", b"Table=AG2014", b"table=", b"table", b""):
+        yield f"{name}: {line}", text([line] + lines[1:])
+    for line in (b"sex=m", b"sex=X", b"sex=MF", b"sex=", b"sex", b"Sex=M", b"sex=\x00", b"sex= M"):
+        yield f"{name}: {line}", text([lines[0], line] + lines[2:])
+    yield f"{name}: upper case", sheet.upper()
+    yield f"{name}: lower case", sheet.lower()
+    yield f"{name}: backwards", sheet[::-1]
+    for key in (b"be.91", b"A.00", b"A.-0", b"A0", b"A.0.", b"al.0"):
+        yield f"{name}: {key} for A.0", sheet.replace(b"A.0=", key + b"=")
+    for size in (LONGEST - 1, LONGEST, LONGEST + 1, LARGEST_SHEET):
+        yield f"{name}: line feeds to {size} bytes", sheet.ljust(size, b"\n")
+        yield f"{name}: a long number to {size} bytes", sheet[:-1].ljust(size - 1, b"0") + b"\n"
+        yield f"{name}: and itself to {size} bytes", (sheet * (size // len(sheet) + 1))[:size]
+        yield f"{size} random bytes", draw.randbytes(size)
+    for _ in range(100):
+        yield f"{name}: its start", sheet[:draw.randrange(len(sheet))]
+        yield f"{name}: its end", sheet[1 + draw.randrange(len(sheet) - 1):]
+        yield "random bytes", draw.randbytes(draw.randrange(6000))
+        yield "random bytes of sheets", bytes(draw.choices(b"0123456789=-.\nABalbethkKMF", k=draw.randrange(6000)))
+
+
+def torn_and_off_scale(draw, which):
+    """Refusal 1 is decided over the whole sheet before 2."""
+    for key in KEYS[:8] + draw.sample(KEYS[8:], 30):
+        sheet = text(lines_of(changed(which, key, draw.choice((-1, 1)) * (LIMITS[KEYS.index(key)] + 1))))
+        yield f"{key} off scale", sheet
+        yield f"{key} off scale and no last line feed", sheet[:-1]
+        yield f"{key} off scale and a byte more", sheet + b"0"
+        yield f"{key} off scale and the last number empty", sheet[:sheet.rindex(b"=") + 1] + b"\n"
+        yield f"{key} off scale and the sex torn", sheet.replace(b"sex=", b"sex=x")
+
+
+def sheets(draw):
+    for name, which in (("flat", flat_set()), ("random", random_set(draw))):
+        sheet = sheet_of(which)
+        yield from torn_at(draw, name, sheet)
+        yield from whole_inputs(draw, name, sheet)
+        yield from values_tried(draw, name, which)
+    yield from lines_moved(draw, name, sheet)
+    yield from limits_tried(name, which)
+    for name, which in (("random", which), ("upper edge", edge_set(1)), ("lower edge", edge_set(-1))):
+        yield name, sheet_of(which)
+        yield from torn_and_off_scale(draw, which)
+    yield from sums_tried()
+    for i in range(600):
+        yield f"random set {i}", sheet_of(random_set(draw))
+
+
+# ---- the sets of the test
+
+def raw_sets(draw):
+    """Sets with the room for each: in limits at every kind of room, and past them at any number."""
+    for i in range(200):
+        which = random_set(draw)
+        length = len(sheet_of(which))
+        rooms = (length, length - 1, length + 1, length + draw.randrange(1000), draw.randrange(length), 0, LARGEST_ROOM)
+        for room in rooms[:3] + (draw.choice(rooms[3:]),):
+            yield f"random set {i}", which, room
+    for sign in (1, -1):
+        which = edge_set(sign)
+        length = len(sheet_of(which))
+        for room in (length, length - 1, length + 1, LARGEST_ROOM, 1, 0):
+            yield f"edge set {sign}", which, room
+    base = random_set(draw)
+    for key, most in zip(KEYS, LIMITS):
+        extremes = (LARGEST, -LARGEST - 1, most + 1, -most - 1, draw.randint(-LARGEST - 1, LARGEST))
+        for v in extremes:
+            yield f"{key} is {v}", changed(base, key, v), draw.choice((0, 5000, 9000))
+    zero = Set("M", (0,) * len(KEYS))
+    most = LARGEST // YEARS
+    for theta in (LARGEST, -LARGEST - 1, most, most + 1, -most, -most - 1, 2_923_976_608, -2_923_976_609):
+        for period in (0, LARGEST, -LARGEST - 1, SIZES["K"], -SIZES["K"], 400):
+            yield f"K is {period} and theta {theta}", changed(zero, "K", period, "theta", theta), 9000
+    for i in range(100):
+        numbers = tuple(draw.randint(-LARGEST - 1, LARGEST) for _ in KEYS)
+        yield f"random numbers {i}", Set(draw.choice("MF"), numbers), draw.choice((0, 9000))
+
+
+def records(draw):
+    for name, data in sheets(draw):
+        yield with_room(draw, sheet_record(name, data, 0))
+    for name, which, room in raw_sets(draw):
+        yield raw_record(name, which, room)
+
+
+# ---- comparing
+
+def run(data):
+    return subprocess.run([PROGRAM], input=data, stdout=subprocess.PIPE, check=True).stdout
+
+
+class Count:
+    passed = failed = 0
+
+    def take(self, good, said):
+        self.passed, self.failed = self.passed + good, self.failed + (not good)
+        if not good and self.failed <= 20:
+            print(said)
+
+
+def printed(out, at, record):
+    """The output of a record from a place on, in the parts of `expected`, and the place after it."""
+    parts = []
+    for line in "RW"[record.mode:]:
+        end = out.find(b"\n", at) + 1
+        parts += [out[at:at + len("R 0")], out[at + len("R 0"):end]]
+        at = end
+    end = at + record.room + 1
+    return parts + [out[at:end]], end
+
+
+def compare(count, batch):
+    out, at = run(b"".join(map(stored, batch))), 0
+    for record in batch:
+        got, at = printed(out, at, record)
+        wrong = [f"{name} is {g[:60]} and not {e[:60]}" for g, (name, e) in zip(got, expected(record)) if g != e]
+        count.take(not wrong, f"{record.name}, room {record.room}: {', '.join(wrong)}")
+    count.take(at == len(out), f"more or less was printed than for {len(batch)} records")
+
+
+def ends(count):
+    """A record that is none ends the program, and prints nothing."""
+    blank = raw_record("blank", BLANK, 10)
+    part = b"".join(part for _, part in expected(blank))
+    good = stored(blank)
+    none = {
+        "too long a sheet": stored(sheet_record("", b"0" * (LARGEST_SHEET + 1), 0)) + good,
+        "too large a room": stored(sheet_record("", b"0", LARGEST_ROOM + 1)) + good,
+        "too short a set": stored(Record("", 1, b"0", 0, None, None)) + good,
+        "no such mode": bytes([2]) + good[1:] + good,
+        "a set cut short": good[:-1],
+        "a sheet cut short": stored(sheet_record("", b"0" * 10, 0))[:-1],
+        "a head cut short": good[:8],
+    }
+    for name, data in none.items():
+        count.take(run(good + data) == part, f"{name} does not end the program")
+
+
+def cases():
+    """The stored input: the flat sheet, a torn one, one off scale, and a short buffer."""
+    which = flat_set()
+    sheet = sheet_of(which)
+    return [
+        sheet_record("flat", sheet, len(sheet) + 3),
+        sheet_record("torn", sheet[:100], 0),
+        sheet_record("off scale", text(lines_of(changed(which, "theta", 2_923_976_609))), 2),
+        raw_record("short", which, 8),
+    ]
+
+
+def main():
+    kept = cases()
+    files = {
+        CRATE / "stdin": b"".join(map(stored, kept)),
+        CRATE / "stdout": b"".join(part for record in kept for _, part in expected(record)),
+    }
+    if "--write" in sys.argv:
+        for path, data in files.items():
+            path.write_bytes(data)
+        return 0
+    seed = int(sys.argv[1]) if len(sys.argv) > 1 else time.time_ns() % 10**9
+    print(f"seed {seed}")
+    count = Count()
+    for path, data in files.items():
+        count.take(path.read_bytes() == data, f"{path.name} is not what the sheets give")
+    if PROGRAM.exists():
+        batch = []
+        for record in records(random.Random(seed)):
+            batch.append(record)
+            if len(batch) == 1000:
+                compare(count, batch)
+                batch = []
+        compare(count, batch)
+        ends(count)
+    else:
+        count.take(False, f"{PROGRAM} is not there")
+    print(f"{count.passed} passed, {count.failed} failed")
+    return 1 if count.failed else 0
+
+
+if __name__ == "__main__":
+    sys.exit(main())
