@@ -1,6 +1,5 @@
 -- definitions
 pub mod Alternating
-
 -- the proof's own sums, and laws
 pub mod Rows
 pub mod RowLaws

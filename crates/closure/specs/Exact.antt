@@ -39,9 +39,10 @@ exactGreatestSum x hs (suc n) = exactGreatestSum x hs n +ℚ greatestScaled (wei
 -- G: the weighted sum of H over 110
 unfoldable pub exactClosedSum : ℕ → List Interval → Interval
 exactClosedSum x hs =
-    record
-    { least = quotientℚ (exactLeastSum x hs fitted) weightUnit (lit< tt)
-    ; most = quotientℚ (exactGreatestSum x hs fitted) weightUnit (lit< tt) }
+    record {
+      least = quotientℚ (exactLeastSum x hs fitted) weightUnit (lit< tt);
+      most = quotientℚ (exactGreatestSum x hs fitted) weightUnit (lit< tt);
+    }
 
 -- 1/(1 + E) and E/(1 + E)
 unfoldable pub overOne : Ratio → Ratio

@@ -1,10 +1,8 @@
 -- definitions
 pub mod Ratio
 pub mod Fraction
-
 -- examples
 pub mod Rows
-
 -- laws
 pub mod RatioLaws
 pub mod FractionLaws

@@ -65,12 +65,13 @@ unfolding logTermsLower
 lower-more {u} {power} {sum} {k} h p l =
     let n = lower-next h p in
     rw (add-one k)
-    (record
-    { power-is = n .0
-    ; power-small = n .1
-    ; sum-is = rw (n .0, p .sum-is)
-    ; sum-small = omega (arith, div-le-self (u * power / billionths .unit) (suc k))
-    ; counted = l })
+    (record {
+      power-is = n .0;
+      power-small = n .1;
+      sum-is = rw (n .0, p .sum-is);
+      sum-small = omega (arith, div-le-self (u * power / billionths .unit) (suc k));
+      counted = l;
+    })
 
 -- x / (k + 1) rounded up, as the code works it
 ceil-place : (x k : ℕ) → (x + k) / suc k ≡ ceilDivℕ x (suc k)
@@ -79,18 +80,19 @@ ceil-place x k = let e : suc k - 1 ≡ k = omega arith in rw e
 
 pub upper-more : {u power sum k : ℕ} → u ≤ billionths .unit → UpperSteps u power sum k → k < billionths .logTerms
     → UpperSteps u (ceilDivℕ (u * power) (billionths .unit))
-      (sum + (ceilDivℕ (u * power) (billionths .unit) + k) / (k + 1)) (k + 1)
+    (sum + (ceilDivℕ (u * power) (billionths .unit) + k) / (k + 1)) (k + 1)
 unfolding logTermsUpper
 upper-more {u} {power} {sum} {k} h p l =
     let n = upper-next h p in
     let q = ceilℕ-least (billionths .unit) (ceilDivℕ (u * power) (billionths .unit)) {m = suc k} (omega arith) (omega arith) in
     rw (add-one k, ceil-place (ceilDivℕ (u * power) (billionths .unit)) k)
-    (record
-    { power-is = n .0
-    ; power-small = n .1
-    ; sum-is = rw (n .0, p .sum-is)
-    ; sum-small = omega arith
-    ; counted = l })
+    (record {
+      power-is = n .0;
+      power-small = n .1;
+      sum-is = rw (n .0, p .sum-is);
+      sum-small = omega arith;
+      counted = l;
+    })
 
 -- after the last term
 pub lower-done : (u : ℕ) {power sum k : ℕ} → LowerSteps u power sum k → k ≡ billionths .logTerms → sum ≡ logLower billionths u

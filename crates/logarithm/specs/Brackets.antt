@@ -21,10 +21,11 @@ pub log-remainder-step : (u : Ratio) (j : ℕ) → u </ whole/ 1 → logTerm u j
 unfolding logTerm logRemainder _+/_ whole/
 log-remainder-step u j l =
     let a : max 1 (u .den - u .num) ≡ u .den - u .num = max-eq-right (omega (arith, l .cross)) in
-    record
-    { cross =
-        rw (pow-suc (u .num) (suc j), pow-suc (u .den) j)
-        (rest-algebra (u .num ^ suc j) (u .den ^ j) (u .num) (u .den) _ (suc j) (omega (arith, l .cross))) }
+    record {
+      cross =
+          rw (pow-suc (u .num) (suc j), pow-suc (u .den) j)
+          (rest-algebra (u .num ^ suc j) (u .den ^ j) (u .num) (u .den) _ (suc j) (omega (arith, l .cross)));
+    }
 
 -- the lower end rises with the order, the upper end falls
 pub log-lower-rises : (u : Ratio) (i j : ℕ) → i ≤ j → orderLogLower u i ≤/ orderLogLower u j
@@ -46,9 +47,10 @@ log-upper-falls u i j l h =
 -- every lower end is at most every upper end
 pub log-brackets-agree : (u : Ratio) (i j : ℕ) → u </ whole/ 1 → orderLogLower u i ≤/ orderLogUpper u j
 log-brackets-agree u i j l =
-    elim (decLe i j)
-    [ yes h ↦ ≤/-trans (log-lower-rises u i j h) (within j)
-    | no h ↦ ≤/-trans (within i) (log-upper-falls u j i l (omega (arith, lt-of-not-le h))) ]
+    elim (decLe i j) [
+      | yes h ↦ ≤/-trans (log-lower-rises u i j h) (within j)
+      | no h ↦ ≤/-trans (within i) (log-upper-falls u j i l (omega (arith, lt-of-not-le h)))
+    ]
   where
     within : (k : ℕ) → orderLogLower u k ≤/ orderLogUpper u k
     within k = unfold orderLogLower orderLogUpper in ≤/-+/ _ _

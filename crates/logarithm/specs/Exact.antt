@@ -16,10 +16,11 @@ logSum u (suc j) = logSum u j +/ logTerm u j
 -- u^(j+1)/((j+1)(1−u)), for u below 1, as the force of every cell in range is
 unfoldable pub logRemainder : Ratio → ℕ → Ratio
 logRemainder u j =
-    record
-    { num = u .num ^ suc j
-    ; den = u .den ^ j * (suc j * max 1 (u .den - u .num))
-    ; positive = rest-positive (u .den) j (u .den - u .num) (u .positive) }
+    record {
+      num = u .num ^ suc j;
+      den = u .den ^ j * (suc j * max 1 (u .den - u .num));
+      positive = rest-positive (u .den) j (u .den - u .num) (u .positive);
+    }
 
 -- an order's two ends of −ln(1 − u)
 unfoldable pub orderLogLower : Ratio → ℕ → Ratio

@@ -39,7 +39,7 @@ module _ (g : Grid) (s : Sound g) (z₀ : ℕ) (h : Halving g z₀) where
       let D = taylorDen U (h .order) in
       let p = taylorDen-positive U (h .order) (s .unit-positive) in
       let n : taylorNum z₀ U (h .order) ≤ taylorNum z U (h .order) =
-            le-of-mul-le-mul-right {k = D} (sum-monotone z₀ U z U (h .order) (mul-le-mul-right U l)) p in
+      le-of-mul-le-mul-right {k = D} (sum-monotone z₀ U z U (h .order) (mul-le-mul-right U l)) p in
       halved U (slackUpper g) D _ (expUpper g z) (taylorNum-positive z U (h .order) (s .unit-positive))
       (upper-near g s w z (h .order) (h .some-order)) (larger U (slackUpper g) D _ _ n (h .slack-small) (h .tested))
 

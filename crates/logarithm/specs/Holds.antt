@@ -46,9 +46,10 @@ module _ (g : Grid) (s : Sound g) where
   quotient-below : (u n : ℕ) → inUnits g s (powerLower g u (suc n) / suc n) ≤/ logTerm (inUnits g s u) n
   unfolding inUnits logTerm
   quotient-below u n =
-      record
-      { cross = term-below (g .unit) _ (powerLower g u (suc n)) (suc n) (g .unit ^ suc n) (u ^ suc n)
-          (floorℕ-encloses _ (omega arith) .0) (power-lower g (s .unit-positive) u (suc n)) }
+      record {
+        cross = term-below (g .unit) _ (powerLower g u (suc n)) (suc n) (g .unit ^ suc n) (u ^ suc n)
+            (floorℕ-encloses _ (omega arith) .0) (power-lower g (s .unit-positive) u (suc n));
+      }
 
   -- m·u^k/k is at most a number q of units that is at least m times the upper power over k
   multiple-above : (u n m q : ℕ) → m * powerUpper g u (suc n) ≤ q * suc n
@@ -111,6 +112,6 @@ module _ (g : Grid) (s : Sound g) where
   pub log-overlap : (ends : Ends) (least most : Ratio) (j : ℕ) → Overlap g s ends least most → 2 * ends .upper ≤ g .unit
       → g .logTerms ≤ j
       → Overlap g s (record { lower = logLower g (ends .lower); upper = logUpper g (ends .upper) })
-        (orderLogLower least j) (orderLogUpper most j)
+      (orderLogLower least j) (orderLogUpper most j)
   log-overlap ends least most j o l k =
       record { below = log-lower-holds (ends .lower) j (o .below) k; above = log-upper-holds (ends .upper) j l (o .above) }

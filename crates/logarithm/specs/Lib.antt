@@ -4,7 +4,6 @@ pub mod Exact
 pub mod Half
 pub mod WidthFacts
 pub mod Range
-
 -- laws
 pub mod Positive
 pub mod Powers

@@ -30,8 +30,11 @@ power-algebra : (p q a b c d A P Q L B k : ℕ) → 2 * p ≤ q → p * (b * d) 
     → A * P * B * d ≤ A * L * Q * d + suc k * (c * Q * B)
     → 2 * A * (P * p) * (B * b) * d ≤ 2 * A * (L * a) * (Q * q) * d + suc (suc k) * (c * (Q * q) * (B * b))
 power-algebra p q a b c d A P Q L B k h e l i =
-    omega (arith, power-step p q b (A * P * B * d) (A * L * Q * d) (c * Q * B) (2 * (A * L * a * (Q * q) * d)) k i h
-    (force-step p q a b c d (A * L) Q B e (omega arith)))
+    omega (
+      arith,
+      power-step p q b (A * P * B * d) (A * L * Q * d) (c * Q * B) (2 * (A * L * a * (Q * q) * d)) k i h
+          (force-step p q a b c d (A * L) Q B e (omega arith)),
+    )
 
 halves-power : (a b k : ℕ) → 2 * a ≤ b → 2 ^ k * a ^ k ≤ b ^ k
 halves-power a b zero h = rw (pow-zero a, pow-zero b) (le-refl 1)
@@ -58,12 +61,13 @@ term-algebra A P Q L B c d n h = omega (arith, mul-le-mul-right n h)
 term-near : {v l : Ratio} (e : Ratio) (k : ℕ) → v ≤/ half → l ≤/ half → v ≤/ l +/ e → logTerm v k ≤/ logTerm l k +/ halved e k
 unfolding logTerm halved quotient/ _+/_ half
 term-near {v} {l} e k h i n =
-    record
-    { cross =
-        term-algebra (2 ^ k) (v .num ^ suc k) (v .den ^ suc k) (l .num ^ suc k) (l .den ^ suc k) (e .num) (e .den)
-        (suc k)
-        (power-near (v .num) (v .den) (l .num) (l .den) (e .num) (e .den)
-        (omega (arith, h .cross)) (omega (arith, i .cross)) (n .cross) k) }
+    record {
+      cross =
+          term-algebra (2 ^ k) (v .num ^ suc k) (v .den ^ suc k) (l .num ^ suc k) (l .den ^ suc k) (e .num) (e .den)
+          (suc k)
+          (power-near (v .num) (v .den) (l .num) (l .den) (e .num) (e .den)
+          (omega (arith, h .cross)) (omega (arith, i .cross)) (n .cross) k);
+    }
 
 -- e/2^(k+1) twice is e/2^k
 halved-twice : (e : Ratio) (k : ℕ) → halved e (suc k) +/ halved e (suc k) ≤/ halved e k
@@ -98,9 +102,10 @@ sum-near-below {v} {l} e (suc j) h i n =
 -- where v ≤ l + e, the sums differ by at most 2·e
 pub log-sum-near : {v : Ratio} (l e : Ratio) (j : ℕ) → v ≤/ half → v ≤/ l +/ e → logSum v j ≤/ logSum l j +/ (whole/ 2 */ e)
 log-sum-near {v} l e j h n =
-    elim (≤/-total l v)
-    [ inl i ↦ ≤/-trans (≤/-+/ _ _) (sum-near-below e j h (≤/-trans i h) n)
-    | inr i ↦ ≤/-trans (log-sum-monotone j i) (≤/-+/ _ _) ]
+    elim (≤/-total l v) [
+      | inl i ↦ ≤/-trans (≤/-+/ _ _) (sum-near-below e j h (≤/-trans i h) n)
+      | inr i ↦ ≤/-trans (log-sum-monotone j i) (≤/-+/ _ _)
+    ]
 
 -- ---- the remainder
 
@@ -117,12 +122,13 @@ pub log-remainder-narrow : (M : ℕ) (h : 0 < M) (v : Ratio) (j : ℕ) → v ≤
     → logRemainder v j ≤/ quotient/ (whole/ 1) M h
 unfolding logRemainder quotient/ whole/ half logOrder
 log-remainder-narrow M h v j l k =
-    record
-    { cross =
-        rw (pow-suc (v .num) j)
-        (remainder-algebra (v .num) (v .num ^ j) (v .den ^ j) (2 ^ j) M _ j
-        (halves-power (v .num) (v .den) j (omega (arith, l .cross)))
-        (le-trans k (two-pow-above j)) (omega (arith, l .cross))) }
+    record {
+      cross =
+          rw (pow-suc (v .num) j)
+          (remainder-algebra (v .num) (v .num ^ j) (v .den ^ j) (2 ^ j) M _ j
+          (halves-power (v .num) (v .den) j (omega (arith, l .cross)))
+          (le-trans k (two-pow-above j)) (omega (arith, l .cross)));
+    }
 
 -- the upper end at v is at most the lower end at l, 2·e and 1/M
 pub log-narrow : (M : ℕ) (h : 0 < M) {v : Ratio} (l e : Ratio) (j : ℕ) → v ≤/ half → v ≤/ l +/ e → logOrder M ≤ j

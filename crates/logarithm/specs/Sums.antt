@@ -49,12 +49,13 @@ remainder-algebra p p′ a b c d m m′ n h k = omega (arith, mul-le-mul-right n
 pub log-remainder-monotone : {u v : Ratio} (j : ℕ) → u ≤/ v → v </ whole/ 1 → logRemainder u j ≤/ logRemainder v j
 unfolding logRemainder whole/
 log-remainder-monotone {u} {v} j h l =
-    record
-    { cross =
-        rw (pow-suc (u .num) j, pow-suc (v .num) j)
-        (remainder-algebra (u .num) (v .num) _ _ _ _ _ _ (suc j)
-        (powers-cross (u .num) (u .den) (v .num) (v .den) j (h .cross))
-        (gap-cross (u .num) (u .den) (v .num) (v .den) (omega (arith, l .cross)) (h .cross))) }
+    record {
+      cross =
+          rw (pow-suc (u .num) j, pow-suc (v .num) j)
+          (remainder-algebra (u .num) (v .num) _ _ _ _ _ _ (suc j)
+          (powers-cross (u .num) (u .den) (v .num) (v .den) j (h .cross))
+          (gap-cross (u .num) (u .den) (v .num) (v .den) (omega (arith, l .cross)) (h .cross)));
+    }
 
 -- ---- growing with the order
 
@@ -75,10 +76,11 @@ term-halves-algebra p q a b k h = omega (arith, mul-le-mul-right (a * b * suc k)
 pub log-term-halves : (u : Ratio) (k : ℕ) → u ≤/ half → whole/ 2 */ logTerm u (suc k) ≤/ logTerm u k
 unfolding logTerm whole/ _*/_ half
 log-term-halves u k h =
-    record
-    { cross =
-        rw (pow-suc (u .num) (suc k), pow-suc (u .den) (suc k))
-        (term-halves-algebra (u .num) (u .den) (u .num ^ suc k) (u .den ^ suc k) k (omega (arith, h .cross))) }
+    record {
+      cross =
+          rw (pow-suc (u .num) (suc k), pow-suc (u .den) (suc k))
+          (term-halves-algebra (u .num) (u .den) (u .num ^ suc k) (u .den ^ suc k) k (omega (arith, h .cross)));
+    }
 
 twice : (s t r : Ratio) → r ≤/ t → (s +/ t) +/ r ≤/ s +/ (whole/ 2 */ t)
 twice s t r h = ≤/-trans (+/-mono (≤/-refl (s +/ t)) h) (double s t)
@@ -101,8 +103,9 @@ log-reach-falls u i j h l =
 pub log-sum-below-reach : (u : Ratio) (i j : ℕ) → u ≤/ half → logSum u j ≤/ logReach u i
 unfolding logReach
 log-sum-below-reach u i j h =
-    elim (decLe j i)
-    [ yes l ↦ ≤/-trans (log-sum-rises u j i l) (≤/-+/ _ _)
-    | no l ↦
-        ≤/-trans (≤/-+/ (logSum u j) (whole/ 2 */ logTerm u j))
-        (log-reach-falls u i j h (omega (arith, lt-of-not-le l))) ]
+    elim (decLe j i) [
+      | yes l ↦ ≤/-trans (log-sum-rises u j i l) (≤/-+/ _ _)
+      | no l ↦
+          ≤/-trans (≤/-+/ (logSum u j) (whole/ 2 */ logTerm u j))
+          (log-reach-falls u i j h (omega (arith, lt-of-not-le l)))
+    ]

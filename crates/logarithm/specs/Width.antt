@@ -19,8 +19,15 @@ power-algebra : (U A x y X Y u l w k : ℕ) → 0 < U → X * U < u * x + U → 
     → 2 * A * y ≤ U → A * x ≤ A * y + w * suc k + 4 * A → 2 * A * X ≤ 2 * A * Y + w * suc (suc k) + 4 * (2 * A)
 power-algebra U A x y X Y u l w k p a b c d e h =
     le-of-mul-le-mul-right {k = U}
-    (omega (arith, mul-le-mul-left (2 * A) a, mul-le-mul-left (2 * A) b, mul-le-mul-left (2 * u) h,
-    mul-le-mul-right (w * suc k + 4 * A) c, mul-le-mul-right (2 * A * y) d, mul-le-mul-right w e)) p
+    (omega (
+      arith,
+      mul-le-mul-left (2 * A) a,
+      mul-le-mul-left (2 * A) b,
+      mul-le-mul-left (2 * u) h,
+      mul-le-mul-right (w * suc k + 4 * A) c,
+      mul-le-mul-right (2 * A * y) d,
+      mul-le-mul-right w e,
+    )) p
 
 -- the quotients by k + 1 ≥ 2
 quotient-algebra : (A x y X Y w k : ℕ) → X * suc (suc k) < x + suc (suc k) → y < Y * suc (suc k) + suc (suc k)

@@ -19,10 +19,9 @@ use Rattle.closure.specs.Units.{Within}
 use Rattle.closure.specs.Closure.{closedSum, logistic}
 use Rattle.closure.specs.Code.{listOf, closedLimit, InLimit}
 use Rattle.closure.proofs.Sums.{sums-within}
-use Rattle.mortality.specs.declared.Cell.{Cell}
 use Rattle.mortality.specs.declared.Cell.the-variants.{Steep, Of}
 use Rattle.mortality.specs.declared.Fitted.{Fitted}
-use Rattle.mortality.specs.Cell.{negated, youngForce, fittedList, oldForce, force, survival, death, neededInRange}
+use Rattle.mortality.specs.Cell.{negated, youngForce, oldForce, force, survival, death, neededInRange}
 use Rattle.mortality.specs.Code.{FittedOf, deathOf, coded, cellOf}
 
 -- ---- to age 90
@@ -45,9 +44,10 @@ pub closed-within : {x : ℕ} (h : List code.SignedEnds) → firstClosed ≤ x �
 unfolding closedSum outward
 closed-within h l m k =
     let u = sums-within (listOf h) l m k fitted (le-refl _) in
-    record
-    { low = under-weaken (under-floor weightUnit (u .low)) (lit≤ tt)
-    ; high = under-weaken (under-ceil weightUnit (u .high)) (lit≤ tt) }
+    record {
+      low = under-weaken (under-floor weightUnit (u .low)) (lit≤ tt);
+      high = under-weaken (under-ceil weightUnit (u .high)) (lit≤ tt);
+    }
 
 module _ (p : Params) (x n : ℕ) (f : Fitted) (h : FittedOf p n f) (l : firstClosed ≤ x) where
   pub old-steep : f .ok ≡ false → Steep ≡ cellOf p x n

@@ -1,6 +1,6 @@
 -- The ends of −m, of the exponential and of H as the code forms them, for a log force m in range: each fits 64 bits and is
 -- read as the number that the definition has.
-use mathlib.Core.Path.{_≡_, refl, ap, _∙_}
+use mathlib.Core.Path.{_≡_, refl, _∙_}
 use mathlib.Core.Bool.{true}
 use Prim.Native.Nat.{ℕ, zero, suc, _+_, _*_, _≤_, _<_}
 use native.Mathlib.Nat.{le-trans, div-le-self}
@@ -25,7 +25,7 @@ use Rattle.logarithm.specs.Logarithm.{powerLower, powerUpper, logTermsLower, lo
 use Rattle.logarithm.specs.Powers.{power-lower-bound, power-upper-bound}
 use Rattle.closure.specs.LogisticHolds.{exp-lower-one}
 use Rattle.closure.specs.RelativeWidth.{exp-upper-one}
-use Rattle.closure.proofs.Force.{Sized, negative}
+use Rattle.closure.proofs.Force.{negative}
 
 -- ---- −m
 
@@ -86,15 +86,23 @@ module _ (u : ℕ) (h : u ≤ billionths .unit) where
   unfolding logTermsLower
   lower-terms zero = omega arith
   lower-terms (suc n) =
-      omega (arith, lower-terms n, div-le-self (powerLower billionths u (suc n)) (suc n),
-        power-lower-bound billionths (lit< tt) u h (suc n))
+      omega (
+        arith,
+        lower-terms n,
+        div-le-self (powerLower billionths u (suc n)) (suc n),
+        power-lower-bound billionths (lit< tt) u h (suc n),
+      )
 
   upper-terms : (n : ℕ) → logTermsUpper billionths u n ≤ n * billionths .unit
   unfolding logTermsUpper
   upper-terms zero = omega arith
   upper-terms (suc n) =
-      omega (arith, upper-terms n, ceilℕ-least (billionths .unit) (powerUpper billionths u (suc n)) {m = suc n} (omega arith)
-        (omega (arith, power-upper-bound billionths (lit< tt) u h (suc n))))
+      omega (
+        arith,
+        upper-terms n,
+        ceilℕ-least (billionths .unit) (powerUpper billionths u (suc n)) {m = suc n} (omega arith)
+            (omega (arith, power-upper-bound billionths (lit< tt) u h (suc n))),
+      )
 
   pub log-lower-small : logLower billionths u ≤ logLimit
   unfolding logLower
@@ -103,9 +111,12 @@ module _ (u : ℕ) (h : u ≤ billionths .unit) where
   pub log-upper-small : logUpper billionths u ≤ logLimit
   unfolding logUpper logRest
   log-upper-small =
-      omega (arith, upper-terms (billionths .logTerms),
+      omega (
+        arith,
+        upper-terms (billionths .logTerms),
         ceilℕ-least (billionths .unit) (2 * powerUpper billionths u (suc (billionths .logTerms))) {m = suc (billionths .logTerms)} (omega arith)
-        (omega (arith, power-upper-bound billionths (lit< tt) u h (suc (billionths .logTerms)))))
+            (omega (arith, power-upper-bound billionths (lit< tt) u h (suc (billionths .logTerms)))),
+      )
 
 -- ---- an end of H
 

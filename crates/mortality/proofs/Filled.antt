@@ -1,7 +1,7 @@
 -- The ends of H as the loop fills them in, and what it has at the end.
 use mathlib.Core.Path.{_≡_, refl, ap, sym, _∙_}
 use mathlib.Core.Bool.{true, false, and-false}
-use mathlib.Core.List.{List, map, map-append}
+use mathlib.Core.List.{List, map-append}
 use mathlib.Core.Logic.{⊎-elim}
 use Prim.Native.Nat.{ℕ, zero, suc, _+_, _≤_, _<_}
 use native.Mathlib.Nat.{eq-or-lt-of-le, le-of-suc-le-suc}
@@ -27,7 +27,6 @@ use Rattle.closure.specs.Weights.{fitted, firstFitted}
 use Rattle.closure.specs.Totals.{lastClosed}
 use Rattle.closure.specs.Units.{Within}
 use Rattle.closure.specs.Code.{listOf, endLimit}
-use Rattle.mortality.specs.declared.Fitted.{Fitted}
 use Rattle.mortality.specs.Cell.{negated, youngForce, fittedEnds, fittedList, fittedInRange, neededInRange}
 use Rattle.mortality.specs.Answered.{Answered}
 use Rattle.mortality.specs.Needed.{old-needed}
@@ -59,11 +58,12 @@ pub filled-more : {p : Params} {n i : ℕ} {es : List code.SignedEnds} {e : code
 unfolding fittedInRange
 filled-more {p} {n} {i} {es} {e} f l t k =
     rw (add-one i)
-    (record
-    { count = l
-    ; range = yes-and (fittedInRange p n i) (inRange (logForce p (firstFitted + i) n)) (f .range) t
-    ; ends = list-more p n i es e (omega (arith, f .size)) (f .ends) k
-    ; size = length-set es i e ∙ f .size })
+    (record {
+      count = l;
+      range = yes-and (fittedInRange p n i) (inRange (logForce p (firstFitted + i) n)) (f .range) t;
+      ends = list-more p n i es e (omega (arith, f .size)) (f .ends) k;
+      size = length-set es i e ∙ f .size;
+    })
 
 -- one cell out of range decides
 range-out : (p : Params) (n i k : ℕ) → i < k → inRange (logForce p (firstFitted + i) n) ≡ false → fittedInRange p n k ≡ false
@@ -85,9 +85,10 @@ fitted-within p n y r =
     let z = negated (logForce p y n) in
     let u = expBetween billionths z in
     let s = exp-small z {e = u} refl in
-    record
-    { low = under-weaken (end-under (under-lower r) (log-lower-small (u .lower) (s .0))) (lit≤ tt)
-    ; high = under-weaken (end-under (under-upper r) (log-upper-small (u .upper) (s .1))) (lit≤ tt) }
+    record {
+      low = under-weaken (end-under (under-lower r) (log-lower-small (u .lower) (s .0))) (lit≤ tt);
+      high = under-weaken (end-under (under-upper r) (log-upper-small (u .upper) (s .1))) (lit≤ tt);
+    }
 
 -- a year's cells in range, as a closed age needs them
 needed : {p : Params} {n : ℕ} → T (inLimits p) → n ≤ lastYears → T (fittedInRange p n fitted) → Answered p lastClosed n
@@ -98,9 +99,10 @@ pub filled-all : (p : Params) (n : ℕ) (es : List code.SignedEnds) → T (inLim
     → FittedOf p n (record { ok = true; ends = es })
 filled-all p n es t l f =
     let e : listOf es ≡ fittedList billionths p n fitted =
-          ap listOf (sym (take-all fitted es (omega (arith, f .size)))) ∙ f .ends in
+    ap listOf (sym (take-all fitted es (omega (arith, f .size)))) ∙ f .ends in
     let a = needed t l (f .range) in
-    record
-    { ok = sym (is-true (fittedInRange p n fitted) (f .range))
-    ; ends = λ t. e
-    ; limit = λ t i h. rw (e, fitted-at billionths p n fitted i h) (fitted-within p n (firstFitted + i) (old-needed a (lit≤ tt) i h)) }
+    record {
+      ok = sym (is-true (fittedInRange p n fitted) (f .range));
+      ends = λ t. e;
+      limit = λ t i h. rw (e, fitted-at billionths p n fitted i h) (fitted-within p n (firstFitted + i) (old-needed a (lit≤ tt) i h));
+    }

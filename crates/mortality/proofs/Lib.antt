@@ -1,3 +1,4 @@
+pub mod Years
 pub mod Ends
 pub mod Filled
 pub mod Answers

@@ -35,9 +35,10 @@ orderYoungForce p x n j = record { least = orderLower (exactZ p x n) j; most = o
 unfoldable pub orderFitted : Params → ℕ → ℕ → ℕ → Interval
 orderFitted p n j y =
     let u = orderYoungForce p y n j in
-    record
-    { least = exactM p y n +ℚ signed (orderLogLower (u .least) j)
-    ; most = exactM p y n +ℚ signed (orderLogUpper (u .most) j) }
+    record {
+      least = exactM p y n +ℚ signed (orderLogLower (u .least) j);
+      most = exactM p y n +ℚ signed (orderLogUpper (u .most) j);
+    }
 
 unfoldable pub orderFittedList : Params → ℕ → ℕ → ℕ → List Interval
 orderFittedList p n j zero = []

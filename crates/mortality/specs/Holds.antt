@@ -134,9 +134,10 @@ module _ (g : Grid) (s : Sound g) (fit : Fit g) where
       let a = below (logForce p x n .upper) in
       let b = below (logForce p x n .lower) in
       rw (exactZ-quotient p x n)
-      (record
-      { below = ≤/-trans (unit-below a) (quotient/-mono (size-below y a (h .0)) sheetUnit unit-positive)
-      ; above = ≤/-trans (quotient/-mono (size-above y b (≤ℚ-trans (wholeℚ-≤ℚ .0 (pos-nonneg a)) (h .0)) (h .1)) sheetUnit unit-positive) (unit-above b) })
+      (record {
+        below = ≤/-trans (unit-below a) (quotient/-mono (size-below y a (h .0)) sheetUnit unit-positive);
+        above = ≤/-trans (quotient/-mono (size-above y b (≤ℚ-trans (wholeℚ-≤ℚ .0 (pos-nonneg a)) (h .0)) (h .1)) sheetUnit unit-positive) (unit-above b);
+      })
 
   -- ---- the force to 90
 
@@ -155,9 +156,10 @@ module _ (g : Grid) (s : Sound g) (fit : Fit g) where
       → (inUnitsℚ g s (logForce p x n .lower) ≤ℚ exactM p x n) × (exactM p x n ≤ℚ inUnitsℚ g s (logForce p x n .upper))
   unfolding exactM
   m-overlap p x n =
-      let h = logForce-holds p x n in
-      (≤ℚ-trans (unitℚ-below (logForce p x n .lower)) (quotientℚ-mono (h .low) sheetUnit unit-positive),
-      ≤ℚ-trans (quotientℚ-mono (h .high) sheetUnit unit-positive) (unitℚ-above (logForce p x n .upper)))
+      let h = logForce-holds p x n in (
+        ≤ℚ-trans (unitℚ-below (logForce p x n .lower)) (quotientℚ-mono (h .low) sheetUnit unit-positive),
+        ≤ℚ-trans (quotientℚ-mono (h .high) sheetUnit unit-positive) (unitℚ-above (logForce p x n .upper)),
+      )
 
   fitted-overlap : Narrow g s → (p : Params) (n j y : ℕ) → leastOrder ≤ j → Negated (logForce p y n) logForceWidth
       → SignedOverlap g s (fittedEnds g p n y) (orderFitted p n j y)
@@ -166,10 +168,11 @@ module _ (g : Grid) (s : Sound g) (fit : Fit g) where
       let m = m-overlap p y n in
       let u = youngForce g p y n in
       let o = log-overlap g s u (orderYoungForce p y n j .least) (orderYoungForce p y n j .most) j (young-overlap p y n j r)
-            (half-young w p y n r) (le-trans (fit .terms) l) in
-      record
-      { below = ≤ℚ-trans (sum-below (logForce p y n .lower) (logLower g (u .lower))) (+ℚ-mono (m .0) (signed-≤ℚ .0 (o .below)))
-      ; above = ≤ℚ-trans (+ℚ-mono (m .1) (signed-≤ℚ .0 (o .above))) (sum-above (logForce p y n .upper) (logUpper g (u .upper))) }
+      (half-young w p y n r) (le-trans (fit .terms) l) in
+      record {
+        below = ≤ℚ-trans (sum-below (logForce p y n .lower) (logLower g (u .lower))) (+ℚ-mono (m .0) (signed-≤ℚ .0 (o .below)));
+        above = ≤ℚ-trans (+ℚ-mono (m .1) (signed-≤ℚ .0 (o .above))) (sum-above (logForce p y n .upper) (logUpper g (u .upper)));
+      }
 
   -- ---- the closure
 
@@ -180,7 +183,7 @@ module _ (g : Grid) (s : Sound g) (fit : Fit g) where
   old-overlap w p x n j l r =
       logistic-overlap g s (closedSum x (fittedList g p n fitted)) (exactClosedSum x (orderFittedList p n j fitted)) j
       (closedSum-overlap g s x (fittedList g p n fitted) (orderFittedList p n j fitted) (λ i h.
-        rw (fitted-at g p n fitted i h, order-fitted-at p n j fitted i h) (fitted-overlap w p n j (firstFitted + i) l (r i h))))
+      rw (fitted-at g p n fitted i h, order-fitted-at p n j fitted i h) (fitted-overlap w p n j (firstFitted + i) l (r i h))))
 
   -- ---- the force at any age, p and q
 
@@ -188,11 +191,12 @@ module _ (g : Grid) (s : Sound g) (fit : Fit g) where
     force-overlap : Overlap g s (force g p x n) (orderForce p x n j .least) (orderForce p x n j .most)
     unfolding force orderForce
     force-overlap =
-        elim (decLt x firstClosed)
-        [ yes h ↦ rw (lt-ltb x firstClosed h) (young-overlap p x n j (young-needed a h))
-        | no h ↦
-            let k : firstClosed ≤ x = omega arith in
-            rw (le-ltb x firstClosed k) (old-overlap w p x n j l (old-needed a k)) ]
+        elim (decLt x firstClosed) [
+          | yes h ↦ rw (lt-ltb x firstClosed h) (young-overlap p x n j (young-needed a h))
+          | no h ↦
+              let k : firstClosed ≤ x = omega arith in
+              rw (le-ltb x firstClosed k) (old-overlap w p x n j l (old-needed a k))
+        ]
 
     pub survival-holds : Overlap g s (survival g p x n) (orderSurvival p x n j .least) (orderSurvival p x n j .most)
     unfolding survival orderSurvival

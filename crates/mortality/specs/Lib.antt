@@ -4,7 +4,6 @@ pub mod Exact
 pub mod Facts
 pub mod Answered
 pub mod Code
-
 -- laws
 pub mod Lists
 pub mod Needed

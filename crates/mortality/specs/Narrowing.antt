@@ -175,9 +175,9 @@ module _ (p : Params) (x n : ℕ) (r : Negated (logForce p x n) logForceWidth) w
       let u = orderYoungForce p x n j in
       let e = part M h in
       let a : orderLogUpper (u .most) j ≤/ orderLogLower (u .least) j +/ (whole/ 2 */ times 1 e) +/ e =
-            log-narrow (40 * M) (finer M h) (u .least) (times 1 e) j (young-half j l) (young-parts j M h k) o in
+      log-narrow (40 * M) (finer M h) (u .least) (times 1 e) j (young-half j l) (young-parts j M h k) o in
       let b : orderLogUpper (u .most) j ≤/ orderLogLower (u .least) j +/ times 2 e +/ e =
-            ≤/-trans a (+/-mono (+/-mono (≤/-refl (orderLogLower (u .least) j)) (times-times 2 1 e)) (≤/-refl e)) in
+      ≤/-trans a (+/-mono (+/-mono (≤/-refl (orderLogLower (u .least) j)) (times-times 2 1 e)) (≤/-refl e)) in
       added (exactM p x n) (orderLogLower (u .least) j) (orderLogUpper (u .most) j) (times 3 e) (more (orderLogLower (u .least) j) 2 e b)
 
   young-ordered : (j : ℕ) → orderYoungForce p x n j .least ≤/ orderYoungForce p x n j .most
@@ -196,9 +196,10 @@ module _ (p : Params) (x n : ℕ) (r : Negated (logForce p x n) logForceWidth) w
       let u = orderYoungForce p x n j in
       let m = young-half j l in
       let k = ≤/-trans (young-ordered j) m in
-      record
-      { low = size-bound (orderLogLower (u .least) j) (≤/-trans (log-brackets-agree (u .least) j j (half-one k)) (log-one (u .least) j k))
-      ; high = size-bound (orderLogUpper (u .most) j) (log-one (u .most) j m) }
+      record {
+        low = size-bound (orderLogLower (u .least) j) (≤/-trans (log-brackets-agree (u .least) j j (half-one k)) (log-one (u .least) j k));
+        high = size-bound (orderLogUpper (u .most) j) (log-one (u .most) j m);
+      }
 
 -- ---- the force above 90
 
@@ -239,12 +240,12 @@ module _ {p : Params} {x n : ℕ} (a : Answered p x n) (M : ℕ) (h : 0 < M) (j 
       let I = exactClosedSum x es in
       let e = part M h in
       let w : I .most ≤ℚ I .least +ℚ signed (whole/ 10 */ times 3 e) =
-            closedSum-narrow x es (times 3 e) c (a .age) (λ i k. rw (order-fitted-at p n j fitted i k)
-              (fitted-parts p (firstFitted + i) n (old-needed a c i k) j M h (omega arith) (omega arith) (omega arith))) in
+      closedSum-narrow x es (times 3 e) c (a .age) (λ i k. rw (order-fitted-at p n j fitted i k)
+      (fitted-parts p (firstFitted + i) n (old-needed a c i k) j M h (omega arith) (omega arith) (omega arith))) in
       let w′ : I .most ≤ℚ I .least +ℚ signed (times 30 e) =
-            ≤ℚ-trans w (+ℚ-mono (≤ℚ-refl (I .least)) (signed-≤ℚ .0 (times-times 10 3 e))) in
+      ≤ℚ-trans w (+ℚ-mono (≤ℚ-refl (I .least)) (signed-≤ℚ .0 (times-times 10 3 e))) in
       let b = closedSum-bounded x es (whole/ 31) c (a .age) (λ i k. rw (order-fitted-at p n j fitted i k)
-            (fitted-bounded p (firstFitted + i) n (old-needed a c i k) j (omega arith))) in
+      (fitted-bounded p (firstFitted + i) n (old-needed a c i k) j (omega arith))) in
       more (orderLogisticLower (I .least) j) 30 e
       (logistic-narrow 310 (40 * M) (finer M h) I (times 30 e) j w′ (≤/-trans (b .low) (whole/-*/ 10 31 .above))
       (≤/-trans (b .high) (whole/-*/ 10 31 .above)) (omega arith))
@@ -253,15 +254,16 @@ module _ {p : Params} {x n : ℕ} (a : Answered p x n) (M : ℕ) (h : 0 < M) (j 
   pub q-narrow : orderDeath p x n j .most ≤/ orderDeath p x n j .least +/ quotient/ (whole/ 1) M h
   unfolding orderForce deathOrder
   q-narrow =
-      elim (decLt x firstClosed)
-      [ yes k ↦
-          let f = young-parts p x n (young-needed a k) j M h (omega arith) in
-          death-parts p x n j M h (omega arith) 1 (omega arith) (rw (lt-ltb x firstClosed k) f)
-          (rw (lt-ltb x firstClosed k) (upper-one p x n j))
-      | no k ↦
-          let c : firstClosed ≤ x = omega arith in
-          death-parts p x n j M h (omega arith) 31 (omega arith) (rw (le-ltb x firstClosed c) (old-parts c))
-          (rw (le-ltb x firstClosed c) (old-one p x n j)) ]
+      elim (decLt x firstClosed) [
+        | yes k ↦
+            let f = young-parts p x n (young-needed a k) j M h (omega arith) in
+            death-parts p x n j M h (omega arith) 1 (omega arith) (rw (lt-ltb x firstClosed k) f)
+            (rw (lt-ltb x firstClosed k) (upper-one p x n j))
+        | no k ↦
+            let c : firstClosed ≤ x = omega arith in
+            death-parts p x n j M h (omega arith) 31 (omega arith) (rw (le-ltb x firstClosed c) (old-parts c))
+            (rw (le-ltb x firstClosed c) (old-one p x n j))
+      ]
 
 -- the orders that count are from 400 up
 pub deathOrder-counts : (M : ℕ) → leastOrder ≤ deathOrder M

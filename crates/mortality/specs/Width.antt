@@ -94,12 +94,13 @@ module _ (g : Grid) (s : Sound g) (w : Narrow g s) where
   unfolding expBetween
   exp-narrowed z d h =
       let e : z .lower + (z .upper - z .lower) ≡ z .upper = add-sub-of-le (h .ordered) in
-      record
-      { ordered = exp-ordered g s (z .lower) (z .upper) (h .ordered)
-      ; width =
-          let k = exp-width g s w (z .lower) (z .upper - z .lower) in
-          let k′ : expUpper g (z .lower) ≤ expLower g (z .upper) + (z .upper - z .lower) + expWidth g = rw e at k in
-          omega (arith, h .ordered, h .width) }
+      record {
+        ordered = exp-ordered g s (z .lower) (z .upper) (h .ordered);
+        width =
+            let k = exp-width g s w (z .lower) (z .upper - z .lower) in
+            let k′ : expUpper g (z .lower) ≤ expLower g (z .upper) + (z .upper - z .lower) + expWidth g = rw e at k in
+            omega (arith, h .ordered, h .width);
+      }
 
   young-narrowed : (p : Params) (x n : ℕ) → Negated (logForce p x n) logForceWidth → Narrowed (youngForce g p x n) (youngWidth g)
   unfolding youngForce youngWidth negated
@@ -115,8 +116,11 @@ module _ (g : Grid) (s : Sound g) (w : Narrow g s) where
         let u = youngForce g p y n in
         let k = young-narrowed p y n r in
         let l : logUpper g (u .upper) ≤ logLower g (u .lower) + (2 * youngWidth g + logWidth g) =
-              omega (arith, log-width g (s .unit-positive) (u .upper) (u .lower) (youngWidth g) (half-young g s fit w p y n r)
-              (k .ordered) (k .width) (fit .log)) in
+        omega (
+          arith,
+          log-width g (s .unit-positive) (u .upper) (u .lower) (youngWidth g) (half-young g s fit w p y n r)
+              (k .ordered) (k .width) (fit .log),
+        ) in
         signed-sum (logForce p y n .lower) (logForce p y n .upper) (logLower g (u .lower)) (logUpper g (u .upper)) logForceWidth _ m l
 
     module _ (small : Fine g (sumWidth g)) {p : Params} {x n : ℕ} (a : Answered p x n) where
@@ -135,17 +139,18 @@ module _ (g : Grid) (s : Sound g) (w : Narrow g s) where
           regroup _ _ _ _ _
           (logistic-width g s w (closedSum x (fittedList g p n fitted)) (sumWidth g)
           (closedSum-width x (fittedList g p n fitted) (fittedWidth g) l (a .age) (λ i h.
-            rw (fitted-at g p n fitted i h) (fitted-width p n (firstFitted + i) (old-needed a l i h)
-            (logForce-width p (a .limits) (omega arith) (a .year))))) small)
+          rw (fitted-at g p n fitted i h) (fitted-width p n (firstFitted + i) (old-needed a l i h)
+          (logForce-width p (a .limits) (omega arith) (a .year))))) small)
 
       old-narrowed : firstClosed ≤ x → Narrowed (oldForce g p x n) (oldWidth g)
       unfolding oldForce
       old-narrowed l =
-          record
-          { ordered =
-              logistic-ordered g s (closedSum x (fittedList g p n fitted)) (closedSum-ordered x (fittedList g p n fitted) (λ i h.
-                rw (fitted-at g p n fitted i h) (fitted-ordered l i h)))
-          ; width = old-force-width l }
+          record {
+            ordered =
+                logistic-ordered g s (closedSum x (fittedList g p n fitted)) (closedSum-ordered x (fittedList g p n fitted) (λ i h.
+                rw (fitted-at g p n fitted i h) (fitted-ordered l i h)));
+            width = old-force-width l;
+          }
 
       -- the force, p and q of an age to 90, and of one above
       pub young-width : x < firstClosed → Narrowed (death g p x n) (youngDeathWidth g)

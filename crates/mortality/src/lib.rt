@@ -1,6 +1,6 @@
 // One cell of the table on the grid of 10^-9: the force at ages to 90, the closure above, and q with two ends.
 ghost use mathlib.Core.Path.{_≡_};
-ghost use Prim.Native.Nat.{ℕ, _≤_, _<_};
+ghost use Prim.Native.Nat.{ℕ, suc, _≤_, _<_};
 ghost use lib.Dec.{T};
 ghost use Rattle.expo.specs.Billionths.{billionths};
 ghost use Rattle.expo.specs.Exponential.{expBetween};
@@ -60,6 +60,20 @@ pub fn year_at(p: Params, n: u64) -> Year
         number: n,
         period,
         kappas,
+    }
+}
+
+// The year after.
+pub fn next_year(p: Params, y: Year) -> Year
+    requires { ⌜ YearOf p y × (y .number < lastYears) ⌝ }
+    ensures { λ r. ⌜ (r .number ≡ suc (y .number)) × YearOf p r ⌝ }
+{
+    let kappas = y.kappas;
+    let next = series::kappa_step(p.a, kappas);
+    Year {
+        number: y.number + 1,
+        period: y.period + p.theta,
+        kappas: next,
     }
 }
 

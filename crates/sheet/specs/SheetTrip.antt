@@ -5,13 +5,15 @@ use mathlib.Core.Bool.{Bool, true, false, cond, _&&_}
 use mathlib.Core.List.{List, [], _∷_, _++_, append-assoc, append-nil}
 use Prim.Native.Nat.{ℕ, zero, suc, _*_, _^_, _≤_, _<_}
 use native.Mathlib.Omega.{arith}
-use borrow.Author.Tests.{eqb-true, le-leb}
-use lib.Dec.{T, leb, eqb, leb→le, eqb-refl}
+use borrow.Author.Tests.{le-leb}
+use lib.Dec.{T, leb, leb→le}
 use lib.Ieee.Bits.{is-true}
 use lib.Ieee.Fits.{and-l, and-r}
 use lib.IntN.{ℤ, natAbs}
 use lib.ListN.{length, length-append}
 use Rattle.tokens.specs.Text.{bytesOf, Parse, torn, taken, takeText}
+use Rattle.tokens.specs.Steps.{andThen, goes}
+use Rattle.tokens.specs.TextLaws.{takeText-split, takeText-whole}
 use Rattle.tokens.specs.Number.{isDigit, readNumber, numberText, unsignedText, decimal}
 use Rattle.whole.specs.Bound.{Under}
 use Rattle.sheet.specs.declared.Params.{Params}
@@ -38,35 +40,10 @@ AllSmall (v ∷ vs) = (natAbs v < 10 ^ 15) × AllSmall vs
 
 -- ---- one reading after another
 
-abbrev andThen : {A B : Type 0} → Parse A → (A → List ℕ → Parse B) → Parse B
-andThen q f = elim q [ torn ↦ torn | taken a after ↦ f a after ]
-
-then-takes : {A B : Type 0} {q : Parse A} {a : A} {after : List ℕ} (f : A → List ℕ → Parse B) → q ≡ taken a after
-    → andThen q f ≡ f a after
-then-takes {A} f e = ap (λ (p : Parse A). andThen p f) e
-
 then-taken : {A B X : Type 0} (q : Parse A) (f : A → List ℕ → Parse B) {b : B} {rest : List ℕ}
     → andThen q f ≡ taken b rest → ((a : A) (after : List ℕ) → q ≡ taken a after → f a after ≡ taken b rest → X) → X
 then-taken torn f e g = torn-not-taken e
 then-taken (taken a after) f e g = g a after refl e
-
--- ---- a text
-
-pub text-reads : (ts rest : List ℕ) → takeText ts (ts ++ rest) ≡ taken tt rest
-unfolding takeText
-text-reads [] rest = refl
-text-reads (t ∷ ts) rest = rw (is-true (eqb t t) (eqb-refl t), takeText) (text-reads ts rest)
-
-pub text-read : (ts bs : List ℕ) (u : Unit) (rest : List ℕ) → takeText ts bs ≡ taken u rest → bs ≡ ts ++ rest
-unfolding takeText
-text-read [] bs u rest e = cc
-text-read (t ∷ ts) [] u rest e = torn-not-taken e
-text-read (t ∷ ts) (b ∷ bs) u rest e = go (eqb b t) refl e (text-read ts bs u rest)
-  where
-    go : (c : Bool) → eqb b t ≡ c → _≡_ {A = Parse Unit} (elim c [ true ↦ takeText ts bs | false ↦ torn ]) (taken u rest)
-        → (takeText ts bs ≡ taken u rest → bs ≡ ts ++ rest) → b ∷ bs ≡ t ∷ ts ++ rest
-    go true w q f = rw (eqb-true b t w, f q)
-    go false w q f = torn-not-taken q
 
 -- ---- a line
 
@@ -80,9 +57,9 @@ pub line-reads : (key : List ℕ) (v : ℤ) (rest : List ℕ) → natAbs v < 10 
 unfolding readLine bytesOf isDigit
 line-reads key v rest h =
     rw (line-apart key v rest)
-    (then-takes _ (text-reads (key ++ bytesOf "=") (numberText v ++ (bytesOf "\n" ++ rest)))
-    ∙ then-takes _ (number-reads v (bytesOf "\n" ++ rest) h tt)
-    ∙ then-takes _ (text-reads (bytesOf "\n") rest))
+    (goes _ (takeText-split (key ++ bytesOf "=") (numberText v ++ (bytesOf "\n" ++ rest)))
+    ∙ goes _ (number-reads v (bytesOf "\n" ++ rest) h tt)
+    ∙ goes _ (takeText-split (bytesOf "\n") rest))
 
 -- the bytes are the line of v, and then the rest
 pub record LineOf (key : List ℕ) (v : ℤ) (bs rest : List ℕ) : Type 0 where
@@ -98,8 +75,8 @@ line-read key bs v rest e =
     let x : v′ ≡ v = cc in
     let y : next ≡ rest = cc in
     let n = number-read after v′ mid r in
-    let m = text-read (bytesOf "\n") mid w next t in
-    let k = text-read (key ++ bytesOf "=") bs u after q in
+    let m = takeText-whole (bytesOf "\n") mid t in
+    let k = takeText-whole (key ++ bytesOf "=") bs q in
     rw (← x, ← y) (record { is = rw (line-apart key v′ next, k, n .is, m); small = n .small })
 
 -- ---- lines
@@ -112,8 +89,8 @@ lines-reads [] (v ∷ vs) rest h a = absurd (omega arith)
 lines-reads (k ∷ ks) [] rest h a = absurd (omega arith)
 lines-reads (k ∷ ks) (v ∷ vs) rest h a =
     rw (append-assoc (lineText k v) (linesText ks vs) rest)
-    (then-takes _ (line-reads k v (linesText ks vs ++ rest) (a .0))
-    ∙ then-takes _ (lines-reads ks vs rest (omega arith) (a .1)))
+    (goes _ (line-reads k v (linesText ks vs ++ rest) (a .0))
+    ∙ goes _ (lines-reads ks vs rest (omega arith) (a .1)))
 
 -- the bytes are the lines of vs, and then the rest
 pub record LinesOf (ks : List (List ℕ)) (vs : List ℤ) (bs rest : List ℕ) : Type 0 where
@@ -165,11 +142,11 @@ head-read bs sex rest e = go (takeText (headText M) bs) refl e
         then-taken (takeText (headText F) bs) _ w λ u after r f.
         let x : F ≡ sex = cc in
         let y : after ≡ rest = cc in
-        rw (← x, ← y) (text-read (headText F) bs u after r)
+        rw (← x, ← y) (takeText-whole (headText F) bs r)
     go (taken u after) t w =
         let x : M ≡ sex = cc in
         let y : after ≡ rest = cc in
-        rw (← x, ← y) (text-read (headText M) bs u after t)
+        rw (← x, ← y) (takeText-whole (headText M) bs t)
 
 -- ---- the whole input
 
@@ -177,8 +154,8 @@ set-reads : (p : Params) → Whole p → AllSmall (values p) → readSet (sheetT
 unfolding readSet sheetText
 set-reads p w s =
     let l = rw append-nil at (lines-reads keys (values p) [] (rw (values-length p, keys-length)) s) in
-    then-takes _ (head-reads (p .sex) (linesText keys (values p)))
-    ∙ then-takes _ l
+    goes _ (head-reads (p .sex) (linesText keys (values p)))
+    ∙ goes _ l
     ∙ rw (params-values p w)
 
 -- nothing follows the last line

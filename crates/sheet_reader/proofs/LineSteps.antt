@@ -15,7 +15,7 @@ use Rattle.tokens.specs.Places.{textAt, numberAt}
 use Rattle.tokens.specs.TextLaws.{text-found, text-missing, takeText-then, takeText-torn, takeText-room}
 use Rattle.tokens.specs.NumberLaws.{number-found, number-torn}
 use Rattle.sheet.specs.Sheet.{readLine}
-use Rattle.sheet_reader.specs.Steps.{goes, stops}
+use Rattle.tokens.specs.Steps.{goes, stops}
 
 -- ---- the code's tests
 

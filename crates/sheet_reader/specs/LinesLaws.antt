@@ -6,7 +6,7 @@ use mathlib.Core.List.{List, [], _∷_, _++_}
 use lib.IntN.{ℤ}
 use Rattle.tokens.specs.Text.{Parse, torn, taken}
 use Rattle.sheet.specs.Sheet.{forAges, readLine, readLines}
-use Rattle.sheet_reader.specs.Steps.{andThen, goes, stops}
+use Rattle.tokens.specs.Steps.{andThen, goes, stops}
 
 -- ---- lines, and then others
 

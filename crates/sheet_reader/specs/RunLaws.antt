@@ -12,7 +12,7 @@ use Rattle.sheet.specs.declared.Sex.{Sex}
 use Rattle.sheet.specs.Set.{ages, Whole}
 use Rattle.sheet.specs.Sheet.{forAges, ageKeys, keys, readLines, runFrom, paramsOf}
 use Rattle.sheet_reader.specs.Read.{run, withRuns, fromAges, fromLines}
-use Rattle.sheet_reader.specs.Steps.{andThen, goes, stops}
+use Rattle.tokens.specs.Steps.{andThen, goes, stops}
 use Rattle.sheet_reader.specs.LinesLaws.{after, lines-torn, lines-then, ages-suc, more-torn}
 
 -- ---- a run

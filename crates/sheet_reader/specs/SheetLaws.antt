@@ -20,7 +20,7 @@ use Rattle.sheet.specs.Sheet.{mostBytes, keys, headText, readLines, readHead, p
 use Rattle.sheet.specs.Sheet.{refused, judged, readSheet}
 use Rattle.sheet_reader.specs.declared.SetRead.{SetRead}
 use Rattle.sheet_reader.specs.Read.{setRead, afterHead, fromLines, whole}
-use Rattle.sheet_reader.specs.Steps.{goes, stops}
+use Rattle.tokens.specs.Steps.{goes, stops}
 
 -- ---- its length
 

@@ -1,7 +1,6 @@
 -- definitions
 pub mod Taylor
 pub mod Order
-
 -- laws
 pub mod Positive
 pub mod Meaning

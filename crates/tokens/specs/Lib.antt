@@ -1,8 +1,12 @@
+-- definitions
 pub mod Text
 pub mod Number
 pub mod Places
 pub mod Unsigned
+-- examples
+pub mod Rows
+-- laws
+pub mod Steps
 pub mod TextLaws
 pub mod DigitLaws
 pub mod NumberLaws
-pub mod Rows

@@ -14,10 +14,10 @@ exp-between-requires : tie.Need-exp-between-requires
 exp-between-requires c κs = search needs
 
 sub-t3 : tie.Need-sub-t3
-sub-t3 c = omega (arith, exp-small _ (c .before .exp-between .ensures) .1)
+sub-t3 c = omega (arith, exp-small _ (c .before .exp-between .ensures))
 
 sub-t4 : tie.Need-sub-t4
-sub-t4 c = omega (arith, exp-small _ (c .before .before .exp-between .ensures) .0)
+sub-t4 c = omega (arith, exp-small _ (c .before .before .exp-between .ensures))
 
 returns : tie.Need-returns
 unfolding deathOf

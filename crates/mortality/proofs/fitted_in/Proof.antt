@@ -1,7 +1,7 @@
 -- `fitted_in` meets its contract. The loop's invariant: the first i cells are in range, and the first i ends are those of
 -- H; the measure is the ages left.
 use mathlib.Core.Path.{_≡_, refl, ap, sym, _∙_}
-use mathlib.Core.Bool.{true, false}
+use mathlib.Core.Bool.{true}
 use Prim.Native.Nat.{_+_, _-_}
 use native.Mathlib.Omega.{arith}
 use borrow.Author.Needs.{needs}
@@ -17,11 +17,6 @@ use Rattle.mortality.specs.Cell.{negated, youngForce, fittedEnds}
 use Rattle.mortality.proofs.Filled.{Filled, filled-none, filled-more, filled-out, filled-all}
 use Rattle.mortality.proofs.fitted_in.Statement.{statement}
 use Rattle.mortality.proofs.fitted_in.Tie as tie
-use Rattle.mortality.proofs.fitted_in.Reads as reads
-use Rattle.mortality.proofs.fitted_in.Lts as lts
-use Rattle.mortality.proofs.inverse_logistic.Reads as inverse-logistic-reads
-use Rattle.mortality.proofs.log_force_at.Reads as log-force-at-reads
-use Rattle.series.proofs.in_range.Reads as in-range-reads
 
 abbrev Inv-loop : tie.InvT-loop
 Inv-loop p y ends₀ i₀ ends i = Filled p (y .number) ends i
@@ -55,7 +50,7 @@ returns c =
     let t = c .before .before .before in
     let l = t .before in
     let s = l .before in
-    filled-out (s .args .p) (s .args .y .number) (l .loop .i) (l .loop .ends) (t .loop-test .taken)
+    filled-out (s .args .p) (s .args .y .number) (l .loop .i) (l .loop .ends) (omega arith)
     (sym (tested (c .before)) ∙ not-true _ (c .if1 .taken))
 
 inverse-logistic-requires : tie.Need-inverse-logistic-requires Inv-loop μ-loop
@@ -84,7 +79,7 @@ loop-again c =
     let e = c .before in
     let m = e .before .before in
     let t = m .before in
-    filled-more (t .before .loop .inv) (t .loop-test .taken) (rw (in-range e) tt)
+    filled-more (t .before .loop .inv) (omega arith) (rw (in-range e) tt)
     (c .inverse-logistic .ensures
     ∙ ap (λ (k : SignedEnds). inverseLogistic billionths k (expBetween billionths (negated k))) (m .log-force-at .ensures))
 

@@ -1,8 +1,5 @@
 -- `force_to_90` meets its contract: the ends of −m fit, and are those of the definition.
 use borrow.Author.Needs.{needs}
-use Rattle.series.specs.WidthLaws.{logForceWidth}
-use Rattle.series.specs.RangeLaws.{Negated}
-use Rattle.series.specs.Code.{endsOf}
 use Rattle.mortality.specs.Cell.{negated}
 use Rattle.mortality.proofs.Ends.{minus-lower, minus-upper}
 use Rattle.mortality.proofs.force_to_90.Statement.{statement}

@@ -1,10 +1,9 @@
 -- `inverse_logistic` meets its contract: the force is at most the unit, so the logarithm's ends and those of H fit.
-use mathlib.Core.Path.{_≡_, ap, _∙_}
+use mathlib.Core.Path.{ap, _∙_}
 use Prim.Native.Nat.{ℕ, _≤_}
 use native.Mathlib.Omega.{arith}
 use borrow.Author.Needs.{needs}
 use lib.IntN.{pos, _+ℤ_}
-use Rattle.whole.specs.Bound.{fits, under-pos}
 use Rattle.expo.specs.Grid.{Ends}
 use Rattle.expo.specs.Billionths.{billionths}
 use Rattle.series.proofs.Signed.{ends}
@@ -12,28 +11,22 @@ use Rattle.logarithm.specs.Logarithm.{logLower, logUpper, inverseLogistic}
 use Rattle.mortality.proofs.Ends.{logLimit, under-lower, under-upper, exp-small, log-lower-small, log-upper-small, end-sum}
 use Rattle.mortality.proofs.inverse_logistic.Statement.{statement}
 use Rattle.mortality.proofs.inverse_logistic.Tie as tie
-use Rattle.mortality.proofs.inverse_logistic.Reads as reads
-use Rattle.mortality.proofs.inverse_logistic.Lts as lts
-use Rattle.logarithm.proofs.log_lower.Reads as log-lower-reads
-use Rattle.logarithm.proofs.log_upper.Reads as log-upper-reads
-use Rattle.mortality.proofs.force_to_90.Reads as force-to-90-reads
 
 force-to-90-requires : tie.Need-force-to-90-requires
 force-to-90-requires c κs = search needs
 
 log-lower-requires : tie.Need-log-lower-requires
-log-lower-requires c κs = exp-small _ (c .force-to-90 .ensures) .0
+log-lower-requires c κs = omega (arith, exp-small _ (c .force-to-90 .ensures))
 
 -- the logarithm's ends
 lower-small : (c : tie.After-log-lower) → c .log-lower .result ≤ logLimit
 lower-small c =
-    let u = c .before .force-to-90 in
-    rw (c .log-lower .ensures) (log-lower-small (u .result .lower) (exp-small _ (u .ensures) .0))
+    rw (c .log-lower .ensures) (log-lower-small _ (omega (arith, exp-small _ (c .before .force-to-90 .ensures))))
 
 upper-small : (c : tie.After-log-upper) → c .log-upper .result ≤ logLimit
 upper-small c =
     let u = c .before .before .before .before .force-to-90 in
-    rw (c .log-upper .ensures) (log-upper-small (u .result .upper) (exp-small _ (u .ensures) .1))
+    rw (c .log-upper .ensures) (log-upper-small _ (omega (arith, exp-small _ (u .ensures))))
 
 cast-t4 : tie.Need-cast-t4
 cast-t4 c = omega (arith, lower-small c)
@@ -42,7 +35,7 @@ add-t5 : tie.Need-add-t5
 add-t5 c = let l = c .before .before in end-sum (under-lower (l .before .before .pre)) (lower-small l) .0
 
 log-upper-requires : tie.Need-log-upper-requires
-log-upper-requires c κs = exp-small _ (c .before .before .before .force-to-90 .ensures) .1
+log-upper-requires c κs = omega (arith, exp-small _ (c .before .before .before .force-to-90 .ensures))
 
 cast-t7 : tie.Need-cast-t7
 cast-t7 c = omega (arith, upper-small c)

@@ -11,11 +11,6 @@ use Rattle.mortality.specs.Code.{deathOf, coded}
 use Rattle.mortality.proofs.Answers.{closed-within, old-steep, old-of}
 use Rattle.mortality.proofs.old_cell.Statement.{statement}
 use Rattle.mortality.proofs.old_cell.Tie as tie
-use Rattle.mortality.proofs.old_cell.Reads as reads
-use Rattle.mortality.proofs.old_cell.Lts as lts
-use Rattle.closure.proofs.closed_sum.Reads as closed-sum-reads
-use Rattle.closure.proofs.logistic.Reads as logistic-reads
-use Rattle.mortality.proofs.death_of.Reads as death-of-reads
 
 returns : tie.Need-returns
 returns c =

@@ -1,6 +1,6 @@
 -- `young_cell` meets its contract: out of range the cell is steep, and in range q is that of the force.
 use mathlib.Core.Path.{_≡_, ap, sym, _∙_}
-use mathlib.Core.Bool.{Bool, true, false}
+use mathlib.Core.Bool.{true}
 use borrow.Author.Needs.{needs}
 use borrow.Author.Tests.{not-true, not-false}
 use Rattle.expo.specs.Grid.{Ends}

@@ -1,0 +1,97 @@
+// The library's face for the benchmark in C: the ends of q at ages 0 to 120 in years of one sheet.
+ghost use mathlib.Core.Path.{_≡_};
+ghost use Prim.Native.Nat.{suc, _+_, _≤_, _<_};
+ghost use lib.Dec.{T};
+ghost use lib.ListN.{length};
+ghost use Rattle.sheet.specs.Limits.{inLimits, lastYears};
+ghost use Rattle.closure.specs.Code.{InLimit};
+ghost use Rattle.mortality.specs.Code.{YearOf};
+use mortality::Cell;
+use mortality::Fitted;
+use mortality::Year;
+use sheet::Params;
+
+const FIRST_CLOSED: usize = 91;
+
+const COLUMN: usize = 121;
+
+const LAST_YEARS: u64 = 171;
+
+// Ends that stand for a steep cell.
+const STEEP: u64 = 2_000_000_000;
+
+// The two ends of age x, at 2x and 2x + 1.
+fn put_cell(out: &mut [u64], x: usize, cell: Cell)
+    requires { ⌜ (x < 121) × (242 ≤ length (now out)) ⌝ }
+    ensures { λ r. ⌜ length (now (out .exit)) ≡ length (now (out .entry)) ⌝ }
+{
+    let mut lower = STEEP;
+    let mut upper = STEEP;
+    if let Cell::Of(q) = cell {
+        lower = q.lower;
+        upper = q.upper;
+    }
+    out[2 * x] = lower;
+    out[2 * x + 1] = upper;
+}
+
+fn put_young(p: Params, y: Year, out: &mut [u64])
+    requires { ⌜ YearOf p y × (242 ≤ length (now out)) ⌝ }
+    ensures { λ r. ⌜ length (now (out .exit)) ≡ length (now (out .entry)) ⌝ }
+{
+    let mut x = 0;
+    while x < FIRST_CLOSED {
+        put_cell(out, x, mortality::young_cell(p, x, y));
+        x += 1;
+    }
+}
+
+fn put_old(f: Fitted, out: &mut [u64])
+    requires { ⌜ (T (f .ok) → InLimit (f .ends)) × (242 ≤ length (now out)) ⌝ }
+    ensures { λ r. ⌜ length (now (out .exit)) ≡ length (now (out .entry)) ⌝ }
+{
+    let mut x = FIRST_CLOSED;
+    while x < COLUMN {
+        put_cell(out, x, mortality::old_cell(x, f));
+        x += 1;
+    }
+}
+
+fn put_columns(p: Params, first: u64, count: u64, out: &mut [u64])
+    requires { ⌜ T (inLimits p) × (first + count ≤ suc lastYears) × (242 ≤ length (now out)) ⌝ }
+{
+    let mut i = 0;
+    while i < count {
+        let y = mortality::year_at(p, first + i);
+        put_young(p, y, out);
+        put_old(mortality::fitted_in(p, y), out);
+        i += 1;
+    }
+}
+
+// The columns of `count` years from year `first` on, 2013 + first, each over the one before; the sheet's refusal, 4 for a
+// year past the last, or 0.
+#[no_mangle]
+pub extern "C" fn columns_of(sheet: &[u8], first: u64, count: u64, out: &mut [u64]) -> u8 {
+    let got = sheet_reader::read(sheet);
+    let set = got.set;
+    let refusal = got.refusal;
+    let number = sheet::refusal_number(refusal);
+    if number != 0 {
+        return number;
+    }
+    if out.len() < 242 {
+        return 7;
+    }
+    if LAST_YEARS < first {
+        return 4;
+    }
+    if LAST_YEARS - first < count {
+        return 4;
+    }
+    if sheet::in_limits(set) {
+        put_columns(set, first, count, out);
+        return 0;
+    }
+    2
+}
