@@ -1,7 +1,7 @@
 -- What the two sums of terms have on the way: the ends of term 2i, the sum of the even terms to 2i and that of the odd
 -- terms below 2i, each with the bound by which it fits.
 use mathlib.Core.Path.{_≡_, refl, sym, ap₂, _∙_}
-use Prim.Native.Nat.{ℕ, suc, _+_, _-_, _*_, _≤_, min}
+use Prim.Native.Nat.{ℕ, suc, _+_, _-_, _*_, _≤_, min, pred}
 use native.Mathlib.Nat.{le-refl}
 use native.Mathlib.Numerals.{add-one}
 use native.Mathlib.Omega.{arith}
@@ -92,23 +92,24 @@ pub all : {f low high evens odds i : ℕ} {a b : ℕ → ℕ} (n : ℕ) → Pair
     → Pairs f a b low high evens odds n
 all n p e = rw e at p
 
--- after six pairs and term 13 the difference is the lower sum
-pub lower-sum : (f : ℕ) {low high E O t : ℕ} → f ≤ billionths .unit → LowerPairs f low high E O 6 → Upper f 13 t
+-- after six pairs and the last term the difference is the lower sum
+pub lower-sum : (f : ℕ) {low high E O t : ℕ} → f ≤ billionths .unit → LowerPairs f low high E O 6
+    → Upper f (billionths .lastLower) t
     → (O + t ≤ E) × (E - (O + t) ≡ sumLower billionths f)
 unfolding sumLower total double
 lower-sum f {low} {high} {E} {O} {t} h p x =
-    let a : evens (termLower billionths f) 13 ≡ E = evens-odd (termLower billionths f) 6 13 refl ∙ sym (p .evens-are) in
-    let b : odds (termUpper billionths f) 13 ≡ O + t =
-    odds-odd (termUpper billionths f) 6 13 refl ∙ sym (ap₂ _+_ (p .odds-are) (x .is)) in
+    let a : evens (termLower billionths f) (billionths .lastLower) ≡ E = evens-odd (termLower billionths f) 6 (billionths .lastLower) refl ∙ sym (p .evens-are) in
+    let b : odds (termUpper billionths f) (billionths .lastLower) ≡ O + t =
+    odds-odd (termUpper billionths f) 6 (billionths .lastLower) refl ∙ sym (ap₂ _+_ (p .odds-are) (x .is)) in
     (omega (arith, lower-kept billionths billionths-sound billionths-narrow f h), rw (a, b))
 
--- after five pairs and terms 11 and 12 the difference is the upper sum before its cap
-pub upper-sum : (f : ℕ) {low high E O x y : ℕ} → f ≤ billionths .unit → UpperPairs f low high E O 5 → Lower f 11 x
-    → Upper f 12 y → (O + x ≤ E + y) × (min (billionths .unit) (E + y - (O + x)) ≡ sumUpper billionths f)
+-- after five pairs and the last two terms the difference is the upper sum before its cap
+pub upper-sum : (f : ℕ) {low high E O x y : ℕ} → f ≤ billionths .unit → UpperPairs f low high E O 5
+    → Lower f (pred (billionths .lastUpper)) x → Upper f (billionths .lastUpper) y → (O + x ≤ E + y) × (min (billionths .unit) (E + y - (O + x)) ≡ sumUpper billionths f)
 unfolding sumUpper total double
 upper-sum f {low} {high} {E} {O} {x} {y} h p s t =
-    let a : evens (termUpper billionths f) 12 ≡ E + y =
-    evens-even (termUpper billionths f) 6 12 refl ∙ sym (ap₂ _+_ (p .evens-are) (t .is)) in
-    let b : odds (termLower billionths f) 12 ≡ O + x =
-    odds-even (termLower billionths f) 6 12 refl ∙ sym (ap₂ _+_ (p .odds-are) (s .is)) in
+    let a : evens (termUpper billionths f) (billionths .lastUpper) ≡ E + y =
+    evens-even (termUpper billionths f) 6 (billionths .lastUpper) refl ∙ sym (ap₂ _+_ (p .evens-are) (t .is)) in
+    let b : odds (termLower billionths f) (billionths .lastUpper) ≡ O + x =
+    odds-even (termLower billionths f) 6 (billionths .lastUpper) refl ∙ sym (ap₂ _+_ (p .odds-are) (s .is)) in
     (omega (arith, upper-kept billionths billionths-sound billionths-narrow f h), rw (a, b))
