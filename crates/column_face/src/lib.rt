@@ -3,13 +3,13 @@ ghost use mathlib.Core.Path.{_≡_};
 ghost use Prim.Native.Nat.{suc, _+_, _≤_, _<_};
 ghost use lib.Dec.{T};
 ghost use lib.ListN.{length};
-ghost use Rattle.sheet.specs.Limits.{inLimits, lastYears};
+ghost use Rattle.params.specs.Limits.{inLimits, lastYears};
 ghost use Rattle.closure.specs.Code.{InLimit};
 ghost use Rattle.mortality.specs.Code.{YearOf};
 use mortality::Cell;
 use mortality::Fitted;
 use mortality::Year;
-use sheet::Params;
+use params::Params;
 
 const FIRST_CLOSED: usize = 91;
 
@@ -76,7 +76,7 @@ pub extern "C" fn columns_of(sheet: &[u8], first: u64, count: u64, out: &mut [u6
     let got = sheet_reader::read(sheet);
     let set = got.set;
     let refusal = got.refusal;
-    let number = sheet::refusal_number(refusal);
+    let number = params::refusal_number(refusal);
     if number != 0 {
         return number;
     }
@@ -89,7 +89,7 @@ pub extern "C" fn columns_of(sheet: &[u8], first: u64, count: u64, out: &mut [u6
     if LAST_YEARS - first < count {
         return 4;
     }
-    if sheet::in_limits(set) {
+    if params::in_limits(set) {
         put_columns(set, first, count, out);
         return 0;
     }

@@ -6,7 +6,7 @@ ghost use mathlib.Core.Path.{_≡_};
 ghost use Prim.Native.Nat.{_<_};
 ghost use lib.Dec.{T};
 ghost use lib.ListN.{length};
-ghost use Rattle.sheet.specs.Limits.{inLimits};
+ghost use Rattle.params.specs.Limits.{inLimits};
 ghost use Rattle.closure.specs.Code.{InLimit};
 ghost use Rattle.mortality.specs.Code.{YearOf};
 use libc::STDIN_FILENO;
@@ -14,9 +14,9 @@ use libc::STDOUT_FILENO;
 use mortality::Cell;
 use mortality::Fitted;
 use mortality::Year;
-use sheet::Params;
+use params::Params;
+use params::Refusal;
 use sheet::Reading;
-use sheet::Refusal;
 
 // The longest sheet that a record may hold.
 const MOST_SHEET: usize = 16_384;
@@ -113,7 +113,7 @@ fn is_accepted(got: Reading) -> bool
     let refusal = got.refusal;
     let set = got.set;
     match refusal {
-        Refusal::Accepted => sheet::in_limits(set),
+        Refusal::Accepted => params::in_limits(set),
         _ => false,
     }
 }

@@ -10,7 +10,7 @@ use Rattle.whole.specs.Bound.{under-weaken, under-floor, under-ceil}
 use Rattle.whole.specs.SignedEnds.{outward}
 use Rattle.expo.specs.Exponential.{expBetween}
 use Rattle.expo.specs.Billionths.{billionths}
-use Rattle.sheet.specs.declared.Params.{Params}
+use Rattle.params.specs.declared.Params.{Params}
 use Rattle.series.specs.declared.SignedEnds as code
 use Rattle.series.specs.Series.{logForce, inRange}
 use Rattle.closure.specs.Weights.{fitted, firstClosed, weightUnit}

@@ -15,8 +15,8 @@ use mir.Facts.{yes-and}
 use Rattle.whole.specs.Bound.{under-weaken}
 use Rattle.expo.specs.Billionths.{billionths}
 use Rattle.expo.specs.Exponential.{expBetween}
-use Rattle.sheet.specs.declared.Params.{Params}
-use Rattle.sheet.specs.Limits.{inLimits, lastYears}
+use Rattle.params.specs.declared.Params.{Params}
+use Rattle.params.specs.Limits.{inLimits, lastYears}
 use Rattle.series.specs.declared.SignedEnds as code
 use Rattle.series.specs.Code.{endsOf}
 use Rattle.series.specs.Series.{logForce, inRange}

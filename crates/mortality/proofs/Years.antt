@@ -6,9 +6,9 @@ use mir.Syntax.{w64}
 use mir.Val.{SFits}
 use Rattle.whole.specs.Split.{split, split-add, split-scale-left}
 use Rattle.whole.specs.Bound.{fits, back}
-use Rattle.sheet.specs.declared.Params.{Params}
-use Rattle.sheet.specs.Limits.{lastYears}
-use Rattle.sheet.specs.LimitsLaws.{in-limits-series}
+use Rattle.params.specs.declared.Params.{Params}
+use Rattle.params.specs.Limits.{lastYears}
+use Rattle.params.specs.LimitsLaws.{in-limits-series}
 use Rattle.series.specs.Series.{periodIndex}
 use Rattle.series.specs.BoundLaws.{periodIndex-under}
 use Rattle.series.proofs.Signed.{bits, read, sum}

@@ -1,8 +1,8 @@
 -- A cell that is answered: a set in its limits, an age and a year of the table, and every needed cell in range.
 use Prim.Native.Nat.{ℕ, _≤_}
 use lib.Dec.{T}
-use Rattle.sheet.specs.declared.Params.{Params}
-use Rattle.sheet.specs.Limits.{inLimits, lastYears}
+use Rattle.params.specs.declared.Params.{Params}
+use Rattle.params.specs.Limits.{inLimits, lastYears}
 use Rattle.closure.specs.Totals.{lastClosed}
 use Rattle.mortality.specs.Cell.{neededInRange}
 

@@ -11,7 +11,7 @@ use Rattle.expo.specs.Exponential.{total}
 use Rattle.expo.specs.Terms.{slack}
 use Rattle.expo.specs.WidthFacts.{expWidth, slackUpper, slackLower}
 use Rattle.expo.specs.Overlap.{Overlap}
-use Rattle.sheet.specs.declared.Params.{Params}
+use Rattle.params.specs.declared.Params.{Params}
 use Rattle.logarithm.specs.WidthFacts.{logWidth}
 use Rattle.logarithm.specs.BillionthsFacts as log
 use Rattle.closure.specs.Weights.{firstClosed}

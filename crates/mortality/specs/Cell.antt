@@ -8,7 +8,7 @@ use Rattle.whole.specs.Split.{below}
 use Rattle.whole.specs.SignedEnds.{SignedEnds}
 use Rattle.expo.specs.Grid.{Grid, Ends}
 use Rattle.expo.specs.Exponential.{expBetween}
-use Rattle.sheet.specs.declared.Params.{Params}
+use Rattle.params.specs.declared.Params.{Params}
 use Rattle.series.specs.Series.{logForce, inRange}
 use Rattle.logarithm.specs.Logarithm.{inverseLogistic}
 use Rattle.closure.specs.Weights.{fitted, firstFitted, firstClosed}

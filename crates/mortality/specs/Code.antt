@@ -8,8 +8,8 @@ use Rattle.expo.specs.Grid.{Ends}
 use Rattle.expo.specs.Billionths.{billionths}
 use Rattle.expo.specs.Exponential.{expBetween}
 use Rattle.expo.specs.declared.Ends as code
-use Rattle.sheet.specs.declared.Params.{Params}
-use Rattle.sheet.specs.Limits.{inLimits, lastYears}
+use Rattle.params.specs.declared.Params.{Params}
+use Rattle.params.specs.Limits.{inLimits, lastYears}
 use Rattle.series.specs.Series.{periodIndex, kappa}
 use Rattle.series.specs.Code.{endsOf}
 use Rattle.closure.specs.Weights.{fitted}

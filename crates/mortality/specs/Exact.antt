@@ -7,7 +7,7 @@ use lib.Dec.{ltb, lit<}
 use Rattle.fraction.specs.Ratio.{Ratio, complement}
 use Rattle.fraction.specs.Fraction.{Fraction, _+ℚ_, quotientℚ, signed, absolute}
 use Rattle.taylor.specs.Order.{orderLower, orderUpper}
-use Rattle.sheet.specs.declared.Params.{Params}
+use Rattle.params.specs.declared.Params.{Params}
 use Rattle.series.specs.Exact.{exactLogForce}
 use Rattle.logarithm.specs.Exact.{orderLogLower, orderLogUpper}
 use Rattle.closure.specs.Weights.{fitted, firstFitted, firstClosed}

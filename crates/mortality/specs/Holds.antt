@@ -24,9 +24,9 @@ use Rattle.expo.specs.Facts.{Sound}
 use Rattle.expo.specs.WidthFacts.{Narrow}
 use Rattle.expo.specs.Overlap.{inUnits, Overlap}
 use Rattle.expo.specs.Holds.{exp-overlap}
-use Rattle.sheet.specs.declared.Params.{Params}
-use Rattle.sheet.specs.Set.{ages}
-use Rattle.sheet.specs.Limits.{inLimits, lastYears}
+use Rattle.params.specs.declared.Params.{Params}
+use Rattle.params.specs.Set.{ages}
+use Rattle.params.specs.Limits.{inLimits, lastYears}
 use Rattle.series.specs.Series.{logForce, inRange}
 use Rattle.series.specs.Exact.{exactLogForce}
 use Rattle.series.specs.EndLaws.{Holds}

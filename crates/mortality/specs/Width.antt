@@ -18,9 +18,9 @@ use Rattle.expo.specs.Facts.{Sound}
 use Rattle.expo.specs.WidthFacts.{Narrow, expWidth}
 use Rattle.expo.specs.Overlap.{inUnits}
 use Rattle.expo.specs.Width.{exp-width}
-use Rattle.sheet.specs.declared.Params.{Params}
-use Rattle.sheet.specs.Set.{ages}
-use Rattle.sheet.specs.Limits.{inLimits, lastYears}
+use Rattle.params.specs.declared.Params.{Params}
+use Rattle.params.specs.Set.{ages}
+use Rattle.params.specs.Limits.{inLimits, lastYears}
 use Rattle.series.specs.Series.{logForce}
 use Rattle.series.specs.WidthLaws.{logForceWidth, logForce-width, logForce-ordered}
 use Rattle.series.specs.RangeLaws.{Negated}

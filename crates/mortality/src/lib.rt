@@ -5,8 +5,8 @@ ghost use lib.Dec.{T};
 ghost use Rattle.expo.specs.Billionths.{billionths};
 ghost use Rattle.expo.specs.Exponential.{expBetween};
 ghost use Rattle.expo.specs.Code.{endsOf as gridEnds};
-ghost use Rattle.sheet.specs.declared.Params.{Params};
-ghost use Rattle.sheet.specs.Limits.{inLimits, lastYears};
+ghost use Rattle.params.specs.declared.Params.{Params};
+ghost use Rattle.params.specs.Limits.{inLimits, lastYears};
 ghost use Rattle.series.specs.Code.{endsOf};
 ghost use Rattle.series.specs.Series.{logForce};
 ghost use Rattle.series.specs.WidthLaws.{logForceWidth};
@@ -18,8 +18,8 @@ ghost use Rattle.closure.specs.Code.{InLimit};
 ghost use Rattle.mortality.specs.Cell.{negated};
 ghost use Rattle.mortality.specs.Code.{YearOf, FittedOf, deathOf, cellOf};
 use expo::Ends;
+use params::Params;
 use series::SignedEnds;
-use sheet::Params;
 
 const UNIT: u64 = 1_000_000_000;
 

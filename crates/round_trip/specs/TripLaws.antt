@@ -10,15 +10,15 @@ use lib.Ieee.Bits.{is-true}
 use lib.ListN.{length, take, drop, length-append}
 use lib.Seq.{take-append-seam}
 use Rattle.tokens.specs.Text.{bytesOf, takeText}
-use Rattle.sheet.specs.declared.Params.{Params}
-use Rattle.sheet.specs.declared.Refusal.{Refusal}
-use Rattle.sheet.specs.declared.Refusal.the-variants.{Accepted, Torn, OffScale, NoSuchAge, NoSuchYear}
-use Rattle.sheet.specs.declared.Refusal.the-variants.{NoSuchSpan, Steep, Short}
+use Rattle.params.specs.declared.Params.{Params}
+use Rattle.params.specs.declared.Refusal.{Refusal}
+use Rattle.params.specs.declared.Refusal.the-variants.{Accepted, Torn, OffScale, NoSuchAge, NoSuchYear}
+use Rattle.params.specs.declared.Refusal.the-variants.{NoSuchSpan, Steep, Short}
 use Rattle.sheet.specs.declared.Reading.{Reading}
 use Rattle.sheet.specs.declared.Written.{Written}
-use Rattle.sheet.specs.Refusals.{refusalNumber}
-use Rattle.sheet.specs.Set.{Whole}
-use Rattle.sheet.specs.Limits.{inLimits}
+use Rattle.params.specs.Refusals.{refusalNumber}
+use Rattle.params.specs.Set.{Whole}
+use Rattle.params.specs.Limits.{inLimits}
 use Rattle.sheet.specs.Sheet.{sheetText, headText, readHead, readSet, refused, judged, readSheet}
 use Rattle.sheet.specs.Sheet.{writeRefusal, writtenLength, writeAnswer, writtenBuffer}
 use Rattle.sheet_writer.specs.Answers.{Answers}

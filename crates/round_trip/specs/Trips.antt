@@ -4,12 +4,12 @@ use mathlib.Core.Bool.{Bool, cond, _&&_}
 use mathlib.Core.List.{List, _++_}
 use lib.Dec.{eqb, leb}
 use lib.ListN.{length, drop}
-use Rattle.sheet.specs.declared.Params.{Params}
-use Rattle.sheet.specs.declared.Refusal.{Refusal}
-use Rattle.sheet.specs.declared.Refusal.the-variants.{Accepted, Torn, Short}
+use Rattle.params.specs.declared.Params.{Params}
+use Rattle.params.specs.declared.Refusal.{Refusal}
+use Rattle.params.specs.declared.Refusal.the-variants.{Accepted, Torn, Short}
 use Rattle.sheet.specs.declared.Reading.{Reading}
 use Rattle.sheet.specs.declared.Written.{Written}
-use Rattle.sheet.specs.Refusals.{refusalNumber}
+use Rattle.params.specs.Refusals.{refusalNumber}
 use Rattle.sheet.specs.Sheet.{refused, readSheet, writeRefusal}
 
 -- nothing is refused

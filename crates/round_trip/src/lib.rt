@@ -4,7 +4,7 @@ ghost use mathlib.Core.Path.{_≡_};
 ghost use lib.ListN.{length};
 ghost use Rattle.sheet.specs.Sheet.{writtenBuffer};
 ghost use Rattle.round_trip.specs.Trips.{readBack, copyAnswer, copied};
-use sheet::Params;
+use params::Params;
 use sheet::Reading;
 use sheet::Written;
 
@@ -25,7 +25,7 @@ pub fn read_then_write(bytes: &[u8], buffer: &mut [u8]) -> Written
 {
     let got = sheet_reader::read(bytes);
     let refusal = got.refusal;
-    if sheet::refusal_number(refusal) != 0 {
+    if params::refusal_number(refusal) != 0 {
         return Written { refusal, len: 0 };
     }
     let set = got.set;

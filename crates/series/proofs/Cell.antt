@@ -8,8 +8,8 @@ use mir.Val.{SFits}
 use Rattle.whole.specs.Division.{floorDiv, ceilDiv}
 use Rattle.whole.specs.Bound.{fits, back, under-add, under-mul}
 use Rattle.whole.specs.SignedEnds.{SignedEnds, leastProduct, greatestProduct, outward}
-use Rattle.sheet.specs.declared.Params.{Params}
-use Rattle.sheet.specs.Set.{A, B, alpha, beta}
+use Rattle.params.specs.declared.Params.{Params}
+use Rattle.params.specs.Set.{A, B, alpha, beta}
 use Rattle.series.specs.Series.{rateUnit, cellForce}
 use Rattle.series.specs.EndLaws.{least-under, greatest-under}
 use Rattle.series.specs.BoundLaws.{CellLimits, least-sum-under, greatest-sum-under, cellForce-under}

@@ -7,12 +7,12 @@ use lib.IntN.{ℤ, pos, negsuc, _+ℤ_, _*ℤ_}
 use Rattle.whole.specs.Split.{split, split-add, split-scale-left}
 use Rattle.whole.specs.Bound.{Under, under-between, under-low, under-high, under-add, under-mul}
 use Rattle.whole.specs.SignedEnds.{SignedEnds, leastProduct, greatestProduct}
-use Rattle.sheet.specs.declared.Params.{Params}
-use Rattle.sheet.specs.Set.{B, alpha, beta, ages}
-use Rattle.sheet.specs.Limits.{levelLimit, slopeLimit, aLimit, periodLimit, kappaLimit, lastYears, inLimits}
+use Rattle.params.specs.declared.Params.{Params}
+use Rattle.params.specs.Set.{B, alpha, beta, ages}
+use Rattle.params.specs.Limits.{levelLimit, slopeLimit, aLimit, periodLimit, kappaLimit, lastYears, inLimits}
 use Rattle.series.specs.Series.{periodIndex, kappaStep, kappa, cellForce, logForce}
 use Rattle.series.specs.EndLaws.{EndsUnder, least-under, greatest-under, outward-under}
-use Rattle.sheet.specs.LimitsLaws.{SeriesWithin, AgeWithin, in-limits-series, in-limits-age}
+use Rattle.params.specs.LimitsLaws.{SeriesWithin, AgeWithin, in-limits-series, in-limits-age}
 
 -- k + n·t lies between k and k + m·t
 between : (k t : ℤ) {n m b : ℕ} → n ≤ m → Under k b → Under (k +ℤ pos m *ℤ t) b → Under (k +ℤ pos n *ℤ t) b

@@ -10,9 +10,9 @@ use Rattle.whole.specs.Split.{above, below, split, split-add}
 use Rattle.whole.specs.SignedEnds.{SignedEnds}
 use Rattle.fraction.specs.Fraction.{Fraction, _≤ℚ_, _<ℚ_, wholeℚ, negℚ}
 use Rattle.fraction.specs.FractionLaws.{≤ℚ-trans, ≤ℚ-<ℚ-trans, negℚ-reverse, wholeℚ-≤ℚ, wholeℚ-<ℚ, wholeℚ-negℚ}
-use Rattle.sheet.specs.declared.Params.{Params}
-use Rattle.sheet.specs.Set.{ages}
-use Rattle.sheet.specs.Limits.{lastYears, inLimits}
+use Rattle.params.specs.declared.Params.{Params}
+use Rattle.params.specs.Set.{ages}
+use Rattle.params.specs.Limits.{lastYears, inLimits}
 use Rattle.series.specs.Series.{logForce, lowestForce, highestForce, inRange}
 use Rattle.series.specs.Exact.{exactLogForce}
 use Rattle.series.specs.EndLaws.{Holds, Wide}

@@ -5,8 +5,8 @@ use mathlib.Core.Bool.{Bool, _&&_}
 use lib.IntN.{ℤ, pos, negsuc, negℤ, _+ℤ_, _*ℤ_}
 use lib.Signed.{leZ}
 use Rattle.whole.specs.SignedEnds.{SignedEnds, leastProduct, greatestProduct, outward}
-use Rattle.sheet.specs.declared.Params.{Params}
-use Rattle.sheet.specs.Set.{A, B, alpha, beta}
+use Rattle.params.specs.declared.Params.{Params}
+use Rattle.params.specs.Set.{A, B, alpha, beta}
 
 -- the unit of a, B and beta: 10^-8
 abbrev pub rateUnit : ℕ

@@ -5,8 +5,8 @@ use lib.IntN.{ℤ, _+ℤ_, _*ℤ_}
 use Rattle.whole.specs.SignedEnds.{SignedEnds, leastProduct, greatestProduct, outward}
 use Rattle.fraction.specs.Fraction.{Fraction, _≤ℚ_, wholeℚ, _+ℚ_, scaleℚ}
 use Rattle.fraction.specs.FractionLaws.{≤ℚ-refl, ≤ℚ-trans, +ℚ-mono, wholeℚ-+ℚ}
-use Rattle.sheet.specs.declared.Params.{Params}
-use Rattle.sheet.specs.Set.{A, B, alpha, beta}
+use Rattle.params.specs.declared.Params.{Params}
+use Rattle.params.specs.Set.{A, B, alpha, beta}
 use Rattle.series.specs.Series.{rateUnit, periodIndex, kappaStep, kappa, cellForce, logForce}
 use Rattle.series.specs.Exact.{perRate, exactKappa, exactLogForce}
 use Rattle.series.specs.EndLaws.{Holds, least-product, greatest-product, outward-holds}

@@ -8,12 +8,12 @@ use lib.Signed.{_≤ℤ_}
 use Rattle.whole.specs.Split.{split, split-add}
 use Rattle.whole.specs.Bound.{Under}
 use Rattle.whole.specs.SignedEnds.{SignedEnds}
-use Rattle.sheet.specs.declared.Params.{Params}
-use Rattle.sheet.specs.Set.{A, B, alpha, beta, ages}
-use Rattle.sheet.specs.Limits.{slopeLimit, aLimit, lastYears, inLimits}
+use Rattle.params.specs.declared.Params.{Params}
+use Rattle.params.specs.Set.{A, B, alpha, beta, ages}
+use Rattle.params.specs.Limits.{slopeLimit, aLimit, lastYears, inLimits}
 use Rattle.series.specs.Series.{rateUnit, periodIndex, kappaStep, kappa, cellForce, logForce}
 use Rattle.series.specs.EndLaws.{Wide, product-width, outward-width}
-use Rattle.sheet.specs.LimitsLaws.{in-limits-series, in-limits-age}
+use Rattle.params.specs.LimitsLaws.{in-limits-series, in-limits-age}
 
 -- the greatest width of a log force in the years of a quote, in units
 abbrev pub logForceWidth : ℕ

@@ -8,14 +8,14 @@ ghost use mir.Val.{SFits};
 ghost use Rattle.whole.specs.Division.{floorDiv, ceilDiv};
 ghost use Rattle.whole.specs.Bound.{Under};
 ghost use Rattle.whole.specs.SignedEnds.{leastProduct, greatestProduct};
-ghost use Rattle.sheet.specs.Set.{ages};
-ghost use Rattle.sheet.specs.Limits.{aLimit, kappaLimit, lastYears, inLimits};
+ghost use Rattle.params.specs.Set.{ages};
+ghost use Rattle.params.specs.Limits.{aLimit, kappaLimit, lastYears, inLimits};
 ghost use Rattle.series.specs.Series.{rateUnit, periodIndex, kappaStep, kappa, cellForce, logForce, inRange};
 ghost use Rattle.series.specs.EndLaws.{EndsUnder};
-ghost use Rattle.sheet.specs.LimitsLaws.{SeriesWithin};
+ghost use Rattle.params.specs.LimitsLaws.{SeriesWithin};
 ghost use Rattle.series.specs.BoundLaws.{CellLimits};
 ghost use Rattle.series.specs.Code.{endsOf};
-use sheet::Params;
+use params::Params;
 
 // The unit of a, B and beta.
 const RATE_UNIT: i64 = 100_000_000;
@@ -104,9 +104,9 @@ pub fn log_force(p: Params, x: usize, period: i64, kappas: SignedEnds) -> Signed
     requires { ⌜ (x < ages) × CellLimits p x period (endsOf kappas) ⌝ }
     ensures { λ r. ⌜ endsOf r ≡ cellForce p x period (endsOf kappas) ⌝ }
 {
-    let fixed = sheet::level_at(p, x) + sheet::alpha_at(p, x);
-    let trend = sheet::slope_at(p, x) * period;
-    let beta = sheet::beta_at(p, x);
+    let fixed = params::level_at(p, x) + params::alpha_at(p, x);
+    let trend = params::slope_at(p, x) * period;
+    let beta = params::beta_at(p, x);
     SignedEnds {
         lower: fixed + per_rate(trend + least_product(beta, kappas), false),
         upper: fixed + per_rate(trend + greatest_product(beta, kappas), true),

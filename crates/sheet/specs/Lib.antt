@@ -1,9 +1,4 @@
-pub mod Refusals
-pub mod Set
-pub mod Limits
 pub mod Sheet
 pub mod NumberTrip
 pub mod SetTrip
 pub mod SheetTrip
-pub mod LimitsLaws
-pub mod Rows

@@ -8,9 +8,9 @@ use mathlib.Core.Logic.{⊎-elim}
 use lib.IntN.{ℤ, pos}
 use lib.ListN.{length, getD, take, drop, length-append, List·getD-append}
 use lib.Seq.{getD-append-add, take-add, drop-drop, drop-cons, take-all, take-suc}
-use Rattle.sheet.specs.declared.Params.{Params}
-use Rattle.sheet.specs.declared.Sex.{Sex}
-use Rattle.sheet.specs.Set.{A, B, alpha, beta, ages, blank, Whole}
+use Rattle.params.specs.declared.Params.{Params}
+use Rattle.params.specs.declared.Sex.{Sex}
+use Rattle.params.specs.Set.{A, B, alpha, beta, ages, blank, Whole}
 use Rattle.sheet.specs.Sheet.{forAges, ageKeys, keys, ageValues, values, runFrom, paramsOf}
 
 -- ---- f at each age, one after the other

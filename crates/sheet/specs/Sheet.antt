@@ -9,15 +9,15 @@ use lib.IntN.{ℤ, pos}
 use lib.ListN.{getD, length, drop}
 use Rattle.tokens.specs.Text.{bytesOf, Parse, torn, taken, takeText}
 use Rattle.tokens.specs.Number.{readNumber, numberText, unsignedText}
-use Rattle.sheet.specs.declared.Params.{Params}
-use Rattle.sheet.specs.declared.Sex.{Sex}
-use Rattle.sheet.specs.declared.Sex.the-variants.{M, F}
-use Rattle.sheet.specs.declared.Refusal.{Refusal}
-use Rattle.sheet.specs.declared.Refusal.the-variants.{Accepted, Torn, OffScale, Short}
+use Rattle.params.specs.declared.Params.{Params}
+use Rattle.params.specs.declared.Sex.{Sex}
+use Rattle.params.specs.declared.Sex.the-variants.{M, F}
+use Rattle.params.specs.declared.Refusal.{Refusal}
+use Rattle.params.specs.declared.Refusal.the-variants.{Accepted, Torn, OffScale, Short}
 use Rattle.sheet.specs.declared.Reading.{Reading}
 use Rattle.sheet.specs.declared.Written.{Written}
-use Rattle.sheet.specs.Set.{A, B, alpha, beta, ages, blank}
-use Rattle.sheet.specs.Limits.{inLimits}
+use Rattle.params.specs.Set.{A, B, alpha, beta, ages, blank}
+use Rattle.params.specs.Limits.{inLimits}
 
 -- the longest input that is read
 abbrev pub mostBytes : ℕ

@@ -16,19 +16,19 @@ use Rattle.tokens.specs.Steps.{andThen, goes}
 use Rattle.tokens.specs.TextLaws.{takeText-split, takeText-whole}
 use Rattle.tokens.specs.Number.{isDigit, readNumber, numberText, unsignedText, decimal}
 use Rattle.whole.specs.Bound.{Under}
-use Rattle.sheet.specs.declared.Params.{Params}
-use Rattle.sheet.specs.declared.Sex.{Sex}
-use Rattle.sheet.specs.declared.Sex.the-variants.{M, F}
-use Rattle.sheet.specs.declared.Refusal.{Refusal}
-use Rattle.sheet.specs.declared.Refusal.the-variants.{Accepted, Torn, OffScale}
+use Rattle.params.specs.declared.Params.{Params}
+use Rattle.params.specs.declared.Sex.{Sex}
+use Rattle.params.specs.declared.Sex.the-variants.{M, F}
+use Rattle.params.specs.declared.Refusal.{Refusal}
+use Rattle.params.specs.declared.Refusal.the-variants.{Accepted, Torn, OffScale}
 use Rattle.sheet.specs.declared.Reading.{Reading}
-use Rattle.sheet.specs.Refusals.{refusalNumber}
-use Rattle.sheet.specs.Set.{A, B, alpha, beta, ages, Whole}
-use Rattle.sheet.specs.Limits.{inLimits}
+use Rattle.params.specs.Refusals.{refusalNumber}
+use Rattle.params.specs.Set.{A, B, alpha, beta, ages, Whole}
+use Rattle.params.specs.Limits.{inLimits}
 use Rattle.sheet.specs.Sheet.{mostBytes, forAges, ageKeys, keys, ageValues, values, lineText, linesText, headText}
 use Rattle.sheet.specs.Sheet.{sheetText, readLine, readLines, readHead, paramsOf, readSet}
 use Rattle.sheet.specs.Sheet.{refused, judged, readSheet}
-use Rattle.sheet.specs.LimitsLaws.{in-limits-age, in-limits-series}
+use Rattle.params.specs.LimitsLaws.{in-limits-age, in-limits-series}
 use Rattle.sheet.specs.NumberTrip.{torn-not-taken, number-reads, number-read, number-short}
 use Rattle.sheet.specs.SetTrip.{keys-length, values-length, values-params, params-values}
 use Rattle.sheet.specs.SetTrip.{params-whole, blank-whole}

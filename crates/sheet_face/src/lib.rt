@@ -1,6 +1,6 @@
 // The sheet's reader, for C: `uint8_t sheet_no(const uint8_t *bytes, size_t len)`.
 ghost use mathlib.Core.Path.{_≡_};
-ghost use Rattle.sheet.specs.Refusals.{refusalNumber};
+ghost use Rattle.params.specs.Refusals.{refusalNumber};
 ghost use Rattle.sheet.specs.Sheet.{readSheet};
 
 // The number of the refusal that reading gives, and 0 where nothing is refused.
@@ -10,5 +10,5 @@ pub extern "C" fn sheet_no(bytes: &[u8]) -> u8
 {
     let got = sheet_reader::read(bytes);
     let refusal = got.refusal;
-    sheet::refusal_number(refusal)
+    params::refusal_number(refusal)
 }

@@ -8,9 +8,9 @@ use lib.ListN.{getD, drop}
 use Rattle.tokens.specs.Text.{Parse, torn, taken}
 use Rattle.tokens.specs.declared.NumberRead.{NumberRead}
 use Rattle.tokens.specs.declared.NumberRead.the-variants.{Torn, Number}
-use Rattle.sheet.specs.declared.Params.{Params}
-use Rattle.sheet.specs.declared.Sex.{Sex}
-use Rattle.sheet.specs.Set.{ages}
+use Rattle.params.specs.declared.Params.{Params}
+use Rattle.params.specs.declared.Sex.{Sex}
+use Rattle.params.specs.Set.{ages}
 use Rattle.sheet.specs.Sheet.{forAges, ageKeys, keys, readLines, paramsOf}
 use Rattle.sheet_reader.specs.declared.FourRead.{FourRead}
 use Rattle.sheet_reader.specs.declared.FourRead.the-variants.{Torn as TornFour, Four}

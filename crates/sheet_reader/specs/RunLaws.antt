@@ -7,9 +7,9 @@ use lib.IntN.{ℤ, pos}
 use lib.ListN.{length, getD, take, set, length-append, length-set, List·getD-append}
 use lib.Seq.{take-all, take-suc-set, getD-append-add}
 use Rattle.tokens.specs.Text.{bytesOf, Parse, torn, taken}
-use Rattle.sheet.specs.declared.Params.{Params}
-use Rattle.sheet.specs.declared.Sex.{Sex}
-use Rattle.sheet.specs.Set.{ages, Whole}
+use Rattle.params.specs.declared.Params.{Params}
+use Rattle.params.specs.declared.Sex.{Sex}
+use Rattle.params.specs.Set.{ages, Whole}
 use Rattle.sheet.specs.Sheet.{forAges, ageKeys, keys, readLines, runFrom, paramsOf}
 use Rattle.sheet_reader.specs.Read.{run, withRuns, fromAges, fromLines}
 use Rattle.tokens.specs.Steps.{andThen, goes, stops}

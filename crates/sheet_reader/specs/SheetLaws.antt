@@ -10,12 +10,12 @@ use lib.Seq.{drop-cons}
 use Rattle.tokens.specs.Text.{bytesOf, Parse, torn, taken, takeText}
 use Rattle.tokens.specs.Places.{textAt}
 use Rattle.tokens.specs.TextLaws.{text-found, text-missing}
-use Rattle.sheet.specs.declared.Params.{Params}
-use Rattle.sheet.specs.declared.Refusal.the-variants.{Accepted, Torn, OffScale}
-use Rattle.sheet.specs.declared.Sex.{Sex}
-use Rattle.sheet.specs.declared.Sex.the-variants.{M, F}
-use Rattle.sheet.specs.Set.{blank}
-use Rattle.sheet.specs.Limits.{inLimits}
+use Rattle.params.specs.declared.Params.{Params}
+use Rattle.params.specs.declared.Refusal.the-variants.{Accepted, Torn, OffScale}
+use Rattle.params.specs.declared.Sex.{Sex}
+use Rattle.params.specs.declared.Sex.the-variants.{M, F}
+use Rattle.params.specs.Set.{blank}
+use Rattle.params.specs.Limits.{inLimits}
 use Rattle.sheet.specs.Sheet.{mostBytes, keys, headText, readLines, readHead, paramsOf, readSet}
 use Rattle.sheet.specs.Sheet.{refused, judged, readSheet}
 use Rattle.sheet_reader.specs.declared.SetRead.{SetRead}

@@ -3,15 +3,15 @@ ghost use mathlib.Core.Path.{_≡_};
 ghost use mathlib.Core.List.{_++_};
 ghost use Prim.Native.Nat.{_<_};
 ghost use lib.ListN.{drop};
-ghost use Rattle.sheet.specs.Set.{ages, Whole};
+ghost use Rattle.params.specs.Set.{ages, Whole};
 ghost use Rattle.sheet.specs.Sheet.{readLine, readLines, ageKeys, refused, judged, readSheet};
-ghost use Rattle.sheet.specs.declared.Refusal.the-variants.{Torn};
+ghost use Rattle.params.specs.declared.Refusal.the-variants.{Torn};
 ghost use Rattle.sheet_reader.specs.Read.{numberRead, fourRead, setRead};
 ghost use Rattle.sheet_reader.specs.Read.{fourKeys, fromAges, afterHead, fromLines, whole};
-use sheet::Params;
+use params::Params;
+use params::Refusal;
+use params::Sex;
 use sheet::Reading;
-use sheet::Refusal;
-use sheet::Sex;
 use tokens::NumberRead;
 
 // The longest input that is read.
@@ -109,7 +109,7 @@ fn ages_at(bytes: &[u8], at: usize, start: Params) -> SetRead
     let mut set = start;
     let mut next = at;
     let mut x: usize = 0;
-    while x < sheet::AGES {
+    while x < params::AGES {
         let FourRead::Four(after, level, slope, alpha, beta) = age_at(bytes, next, x) else {
             return SetRead {
                 ok: false,
@@ -147,7 +147,7 @@ fn set_at(bytes: &[u8], sex: Sex) -> SetRead
         return SetRead {
             ok: false,
             next: 0,
-            set: sheet::blank(),
+            set: params::blank(),
         };
     };
     let start = Params {
@@ -170,7 +170,7 @@ fn torn() -> Reading
 {
     Reading {
         refusal: Refusal::Torn,
-        set: sheet::blank(),
+        set: params::blank(),
     }
 }
 
@@ -186,8 +186,8 @@ fn judged_set(bytes: &[u8], sex: Sex) -> Reading
         return torn();
     }
     let set = got.set;
-    let nothing = sheet::blank();
-    if !sheet::in_limits(set) {
+    let nothing = params::blank();
+    if !params::in_limits(set) {
         return Reading {
             refusal: Refusal::OffScale,
             set: nothing,

@@ -8,10 +8,10 @@ use mir.Syntax.{w64}
 use mir.Val.{toZ, ofZ}
 use Rattle.whole.specs.Bound.{Under, under-weaken, back}
 use Rattle.tokens.specs.Number.{mostDigits}
-use Rattle.sheet.specs.declared.Params.{Params}
-use Rattle.sheet.specs.Set.{A, B, alpha, beta, ages}
-use Rattle.sheet.specs.Limits.{periodLimit, inLimits}
-use Rattle.sheet.specs.LimitsLaws.{in-limits-series, in-limits-age}
+use Rattle.params.specs.declared.Params.{Params}
+use Rattle.params.specs.Set.{A, B, alpha, beta, ages}
+use Rattle.params.specs.Limits.{periodLimit, inLimits}
+use Rattle.params.specs.LimitsLaws.{in-limits-series, in-limits-age}
 
 -- the bits of v stand for z
 pub record Held (v z : ℤ) : Type 0 where

@@ -7,10 +7,10 @@ use native.Mathlib.Omega.{arith}
 use borrow.Author.Tests.{le-leb, lt-leb}
 use lib.ListN.{length}
 use Rattle.printing.specs.OverwrittenLaws.{overwritten-front}
-use Rattle.sheet.specs.declared.Params.{Params}
+use Rattle.params.specs.declared.Params.{Params}
 use Rattle.sheet.specs.declared.Written.{Written}
-use Rattle.sheet.specs.declared.Refusal.the-variants.{Accepted, OffScale, Short}
-use Rattle.sheet.specs.Limits.{inLimits}
+use Rattle.params.specs.declared.Refusal.the-variants.{Accepted, OffScale, Short}
+use Rattle.params.specs.Limits.{inLimits}
 use Rattle.sheet.specs.Sheet.{sheetText, writeRefusal, writtenLength, writeAnswer, writtenBuffer}
 use Rattle.sheet_writer.specs.Put.{Put}
 

@@ -5,7 +5,7 @@ use lib.IntN.{ℤ}
 use lib.ListN.{length}
 use Rattle.tokens.specs.Text.{bytesOf}
 use Rattle.tokens.specs.Number.{numberText}
-use Rattle.sheet.specs.declared.Params.{Params}
+use Rattle.params.specs.declared.Params.{Params}
 use Rattle.sheet.specs.Sheet.{forAges, ageKeys, ageValues, linesText}
 
 -- what follows a line's key

@@ -10,10 +10,10 @@ use lib.ListN.{length, length-append}
 use Rattle.tokens.specs.Text.{bytesOf}
 use Rattle.tokens.specs.Number.{unsignedText}
 use Rattle.printing.specs.NumberLengths.{text-small, text-step}
-use Rattle.sheet.specs.declared.Params.{Params}
-use Rattle.sheet.specs.declared.Sex.{Sex}
-use Rattle.sheet.specs.declared.Sex.the-variants.{M, F}
-use Rattle.sheet.specs.Set.{A, B, alpha, beta, ages}
+use Rattle.params.specs.declared.Params.{Params}
+use Rattle.params.specs.declared.Sex.{Sex}
+use Rattle.params.specs.declared.Sex.the-variants.{M, F}
+use Rattle.params.specs.Set.{A, B, alpha, beta, ages}
 use Rattle.sheet.specs.Sheet.{forAges, ageKeys, keys, ageValues, values, lineText, linesText, headText, sheetText}
 use Rattle.sheet_writer.specs.Parts.{lineLength, seriesText, ageText, agesText}
 

@@ -6,15 +6,15 @@ ghost use lib.Dec.{T};
 ghost use lib.IntN.{pos, natAbs};
 ghost use lib.ListN.{length};
 ghost use Rattle.tokens.specs.Number.{mostDigits, unsignedText};
-ghost use Rattle.sheet.specs.Set.{ages};
-ghost use Rattle.sheet.specs.Limits.{inLimits};
+ghost use Rattle.params.specs.Set.{ages};
+ghost use Rattle.params.specs.Limits.{inLimits};
 ghost use Rattle.sheet.specs.Sheet.{lineText, headText, sheetText, writeAnswer, writtenBuffer};
 ghost use Rattle.sheet_writer.specs.Parts.{lineLength, valueText, seriesText, ageText, agesText};
 ghost use Rattle.sheet_writer.specs.Put.{Room, Put};
-use sheet::AGES;
-use sheet::Params;
-use sheet::Refusal;
-use sheet::Sex;
+use params::AGES;
+use params::Params;
+use params::Refusal;
+use params::Sex;
 use sheet::Written;
 
 // The bytes of the first two lines.
@@ -50,9 +50,11 @@ fn age_len(p: Params, x: usize) -> usize
     ensures { λ r. ⌜ r ≡ length (ageText p x) ⌝ }
 {
     let digits = if x < 10 { 1 } else { 2 };
-    let first = line_len(2 + digits, sheet::level_at(p, x))
-        + line_len(2 + digits, sheet::slope_at(p, x));
-    first + line_len(3 + digits, sheet::alpha_at(p, x)) + line_len(3 + digits, sheet::beta_at(p, x))
+    let first = line_len(2 + digits, params::level_at(p, x))
+        + line_len(2 + digits, params::slope_at(p, x));
+    first
+        + line_len(3 + digits, params::alpha_at(p, x))
+        + line_len(3 + digits, params::beta_at(p, x))
 }
 
 // How many bytes the sheet has.
@@ -126,10 +128,10 @@ fn put_age(buffer: &mut [u8], at: usize, p: Params, x: usize) -> usize
     requires { ⌜ T (inLimits p) × (x < ages) × Room (now buffer) at (ageText p x) ⌝ }
     ensures { λ r. ⌜ Put (now (buffer .entry)) at (ageText p x) (now (buffer .exit)) r ⌝ }
 {
-    let level = sheet::level_at(p, x);
-    let slope = sheet::slope_at(p, x);
-    let alpha = sheet::alpha_at(p, x);
-    let beta = sheet::beta_at(p, x);
+    let level = params::level_at(p, x);
+    let slope = params::slope_at(p, x);
+    let alpha = params::alpha_at(p, x);
+    let beta = params::beta_at(p, x);
     let second = put_age_line(buffer, at, b"A.", x, level);
     let third = put_age_line(buffer, second, b"B.", x, slope);
     let fourth = put_age_line(buffer, third, b"al.", x, alpha);
@@ -165,7 +167,7 @@ fn put_sheet(buffer: &mut [u8], p: Params) -> usize
 pub fn write(p: Params, buffer: &mut [u8]) -> Written
     ensures { λ r. ⌜ (r ≡ writeAnswer p (length (now (buffer .entry)))) × (now (buffer .exit) ≡ writtenBuffer p (now (buffer .entry))) ⌝ }
 {
-    if !sheet::in_limits(p) {
+    if !params::in_limits(p) {
         return Written {
             refusal: Refusal::OffScale,
             len: 0,

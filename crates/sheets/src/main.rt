@@ -12,10 +12,10 @@ ghost use mathlib.Core.Path.{_≡_};
 ghost use lib.ListN.{length};
 use libc::STDIN_FILENO;
 use libc::STDOUT_FILENO;
+use params::Params;
+use params::Sex;
 use raw::RAW;
-use sheet::Params;
 use sheet::Reading;
-use sheet::Sex;
 
 // The longest sheet that a record may hold.
 const MOST_SHEET: usize = 70_000;
@@ -51,11 +51,11 @@ fn print_sex(sex: Sex) {
 // The parameters of each age, in the sheet's order.
 fn print_ages(p: Params) {
     let mut x: usize = 0;
-    while x < sheet::AGES {
-        print_number(sheet::level_at(p, x));
-        print_number(sheet::slope_at(p, x));
-        print_number(sheet::alpha_at(p, x));
-        print_number(sheet::beta_at(p, x));
+    while x < params::AGES {
+        print_number(params::level_at(p, x));
+        print_number(params::slope_at(p, x));
+        print_number(params::alpha_at(p, x));
+        print_number(params::beta_at(p, x));
         x += 1;
     }
 }
@@ -65,7 +65,7 @@ fn print_reading(got: Reading) {
     let set = got.set;
     let sex = set.sex;
     print_text(b"R ");
-    io::print_decimal(STDOUT_FILENO, sheet::refusal_number(refusal) as u64);
+    io::print_decimal(STDOUT_FILENO, params::refusal_number(refusal) as u64);
     print_sex(sex);
     print_number(set.a);
     print_number(set.theta);
@@ -80,7 +80,7 @@ fn print_written(set: Params, buffer: &mut [u8]) {
     let got = sheet_writer::write(set, buffer);
     let refusal = got.refusal;
     print_text(b"W ");
-    io::print_decimal(STDOUT_FILENO, sheet::refusal_number(refusal) as u64);
+    io::print_decimal(STDOUT_FILENO, params::refusal_number(refusal) as u64);
     print_text(b" ");
     io::print_decimal(STDOUT_FILENO, got.len as u64);
     print_text(b"\n");

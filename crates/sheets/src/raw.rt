@@ -8,8 +8,8 @@ ghost use lib.Dec.{eqb};
 ghost use lib.IntN.{pos, negsuc};
 ghost use lib.ListN.{length};
 ghost use lib.Signed.{mag};
-use sheet::Params;
-use sheet::Sex;
+use params::Params;
+use params::Sex;
 
 // How many bytes a set has.
 pub const RAW: usize = 3313;
@@ -59,7 +59,7 @@ fn run(bytes: &[u8; 3313], i: usize) -> [i64; 91]
 {
     let mut out = [0i64; 91];
     let mut x: usize = 0;
-    while x < sheet::AGES {
+    while x < params::AGES {
         out[x] = number(bytes, i + 4 * x);
         x += 1;
     }

@@ -3,7 +3,7 @@ use mathlib.Core.Path.{refl}
 use native.Mathlib.Numerals.{add-one}
 use borrow.Author.Needs.{needs}
 use Rattle.whole.specs.Bound.{back}
-use Rattle.sheet.specs.LimitsLaws.{SeriesWithin, in-limits-series}
+use Rattle.params.specs.LimitsLaws.{SeriesWithin, in-limits-series}
 use Rattle.series.specs.Series.{kappa}
 use Rattle.series.specs.BoundLaws.{kappa-under}
 use Rattle.mortality.proofs.Years.{period-next}

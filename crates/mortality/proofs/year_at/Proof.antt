@@ -1,6 +1,6 @@
 -- `year_at` meets its contract: a set in its limits meets what K and kappa of a year require.
 use borrow.Author.Needs.{needs}
-use Rattle.sheet.specs.LimitsLaws.{in-limits-series}
+use Rattle.params.specs.LimitsLaws.{in-limits-series}
 use Rattle.mortality.proofs.year_at.Statement.{statement}
 use Rattle.mortality.proofs.year_at.Tie as tie
 

@@ -1,7 +1,7 @@
 -- `log_force` meets its contract: for a cell in its limits nothing overflows, and the ends are those of the definition.
 use mathlib.Core.Path.{_≡_}
 use lib.IntN.{_+ℤ_, _*ℤ_}
-use Rattle.sheet.specs.Set.{A, B, alpha}
+use Rattle.params.specs.Set.{A, B, alpha}
 use Rattle.series.proofs.Signed.{bits, ends}
 use Rattle.series.proofs.Cell.{fixed, trend, least-read-fits, greatest-read-fits, low, high, lower-end, upper-end}
 use borrow.Author.Needs.{needs}

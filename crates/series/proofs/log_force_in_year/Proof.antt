@@ -2,7 +2,7 @@
 use mathlib.Core.Path.{_≡_}
 use Rattle.whole.specs.Bound.{fits}
 use Rattle.series.specs.Series.{periodIndex, logForce}
-use Rattle.sheet.specs.LimitsLaws.{in-limits-series}
+use Rattle.params.specs.LimitsLaws.{in-limits-series}
 use Rattle.series.specs.BoundLaws.{periodIndex-under, cell-limits}
 use Rattle.series.proofs.Signed.{bits, read}
 use Rattle.series.proofs.log_force_in_year.Statement.{statement}

@@ -2,7 +2,7 @@
 use borrow.Author.Needs.{needs}
 use mathlib.Core.Path.{ap, _∙_}
 use Rattle.sheet.specs.declared.Reading.{Reading}
-use Rattle.sheet.specs.Refusals.{refusalNumber}
+use Rattle.params.specs.Refusals.{refusalNumber}
 use Rattle.sheet_face.proofs.sheet_no.Statement.{statement}
 use Rattle.sheet_face.proofs.sheet_no.Tie as tie
 

@@ -6,7 +6,7 @@ use Prim.Native.Nat.{_-_, _≤_}
 use native.Mathlib.Omega.{arith}
 use native.Mathlib.Numerals.{add-one}
 use lib.ListN.{drop}
-use Rattle.sheet.specs.Set.{ages}
+use Rattle.params.specs.Set.{ages}
 use Rattle.sheet_reader.specs.RunLaws.{Filled, fill-start, fill-next, fill-torn, fill-end}
 use Rattle.sheet_reader.proofs.Results.{held, four-torn, four-taken}
 use Rattle.sheet_reader.proofs.ages_at.Statement.{statement}

@@ -8,7 +8,7 @@ use native.Mathlib.Omega.{arith}
 use lib.IntN.{ℤ}
 use lib.ListN.{length}
 use Rattle.tokens.specs.Number.{unsignedText, numberText}
-use Rattle.sheet.specs.Set.{A, B, alpha, beta}
+use Rattle.params.specs.Set.{A, B, alpha, beta}
 use Rattle.sheet_writer.specs.Parts.{lineLength}
 use Rattle.sheet_writer.specs.PartsLaws.{one-digit, two-digits, age-length}
 use Rattle.sheet_writer.proofs.Values.{Held, AgeHeld, age-held}

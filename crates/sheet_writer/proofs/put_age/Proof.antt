@@ -6,7 +6,7 @@ use Prim.Native.Nat.{ℕ}
 use lib.IntN.{ℤ}
 use Rattle.tokens.specs.Text.{bytesOf}
 use Rattle.tokens.specs.Number.{unsignedText}
-use Rattle.sheet.specs.Set.{A, B, alpha, beta}
+use Rattle.params.specs.Set.{A, B, alpha, beta}
 use Rattle.sheet.specs.Sheet.{ageKeys, ageValues, lineText, linesText}
 use Rattle.sheet_writer.specs.Put.{Put}
 use Rattle.sheet_writer.specs.PutLaws.{put-as, room-as}

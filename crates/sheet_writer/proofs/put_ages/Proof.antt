@@ -5,7 +5,7 @@ use mathlib.Core.List.{_++_}
 use Prim.Native.Nat.{ℕ, suc, _-_, _≤_, _<_}
 use native.Mathlib.Numerals.{add-one}
 use native.Mathlib.Omega.{arith}
-use Rattle.sheet.specs.Set.{ages}
+use Rattle.params.specs.Set.{ages}
 use Rattle.sheet_writer.specs.Put.{Room, Put}
 use Rattle.sheet_writer.specs.PutLaws.{put-none, put-as, room-as, put-length, room-rest, put-join}
 use Rattle.sheet_writer.specs.Parts.{ageText, agesText}

@@ -2,7 +2,7 @@
 use borrow.Author.Needs.{needs}
 use mathlib.Core.Path.{sym}
 use mathlib.Core.List.{_++_}
-use Rattle.sheet.specs.Set.{ages}
+use Rattle.params.specs.Set.{ages}
 use Rattle.sheet.specs.Sheet.{headText}
 use Rattle.sheet_writer.specs.Put.{Room, Put}
 use Rattle.sheet_writer.specs.PutLaws.{put-as, room-as, room-first, room-rest, put-join}

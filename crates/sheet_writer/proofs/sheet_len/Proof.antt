@@ -6,7 +6,7 @@ use Prim.Native.Nat.{suc, _+_, _-_, _≤_}
 use native.Mathlib.Numerals.{add-one}
 use native.Mathlib.Omega.{arith}
 use lib.ListN.{length}
-use Rattle.sheet.specs.Set.{ages}
+use Rattle.params.specs.Set.{ages}
 use Rattle.sheet.specs.SheetTrip.{sheet-length}
 use Rattle.sheet_writer.specs.Parts.{seriesText, agesText}
 use Rattle.sheet_writer.specs.PartsLaws.{ages-none, ages-step, ages-grow, sheet-sum}

@@ -2,7 +2,7 @@
 -- left.
 use borrow.Author.Needs.{needs}
 use Prim.Native.Nat.{_≤_, _-_}
-use Rattle.sheet.specs.Set.{ages}
+use Rattle.params.specs.Set.{ages}
 use Rattle.sheets.proofs.print_ages.Statement.{statement}
 use Rattle.sheets.proofs.print_ages.Tie as tie
 

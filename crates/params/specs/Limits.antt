@@ -5,8 +5,8 @@ use Prim.Native.Nat.{ℕ, zero, suc}
 use mathlib.Core.Bool.{Bool, true, _&&_}
 use lib.Dec.{leb}
 use lib.IntN.{ℤ, pos, natAbs, _+ℤ_, _*ℤ_}
-use Rattle.sheet.specs.declared.Params.{Params}
-use Rattle.sheet.specs.Set.{A, B, alpha, beta, ages}
+use Rattle.params.specs.declared.Params.{Params}
+use Rattle.params.specs.Set.{A, B, alpha, beta, ages}
 
 abbrev pub levelLimit : ℕ
 levelLimit = 40000000000

@@ -1,9 +1,9 @@
 -- `alpha_at` meets its contract: the element at x of the run of alpha.
 use borrow.Author.Needs.{needs}
 use mir.Facts.{toZ-ofZ}
-use Rattle.sheet.specs.Set.{alpha}
-use Rattle.sheet.proofs.alpha_at.Statement.{statement}
-use Rattle.sheet.proofs.alpha_at.Tie as tie
+use Rattle.params.specs.Set.{alpha}
+use Rattle.params.proofs.alpha_at.Statement.{statement}
+use Rattle.params.proofs.alpha_at.Tie as tie
 
 mul-result : tie.Need-mul-result
 mul-result c = search needs

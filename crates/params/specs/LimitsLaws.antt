@@ -9,10 +9,10 @@ use lib.Dec.{T}
 use lib.Ieee.Fits.{and-l, and-r}
 use lib.IntN.{pos, _+ℤ_, _*ℤ_}
 use Rattle.whole.specs.Bound.{Under, under-lit}
-use Rattle.sheet.specs.declared.Params.{Params}
-use Rattle.sheet.specs.Set.{A, B, alpha, beta, ages}
-use Rattle.sheet.specs.Limits.{levelLimit, slopeLimit, aLimit, thetaLimit, periodLimit, kappaLimit, lastYears}
-use Rattle.sheet.specs.Limits.{within, ageInLimits, agesInLimits, seriesInLimits, inLimits}
+use Rattle.params.specs.declared.Params.{Params}
+use Rattle.params.specs.Set.{A, B, alpha, beta, ages}
+use Rattle.params.specs.Limits.{levelLimit, slopeLimit, aLimit, thetaLimit, periodLimit, kappaLimit, lastYears}
+use Rattle.params.specs.Limits.{within, ageInLimits, agesInLimits, seriesInLimits, inLimits}
 
 -- the four parameters of an age
 pub record AgeWithin (p : Params) (x : ℕ) : Type 0 where

@@ -1,9 +1,9 @@
 -- `level_at` meets its contract: the element at x of the run of A.
 use borrow.Author.Needs.{needs}
 use mir.Facts.{toZ-ofZ}
-use Rattle.sheet.specs.Set.{A}
-use Rattle.sheet.proofs.level_at.Statement.{statement}
-use Rattle.sheet.proofs.level_at.Tie as tie
+use Rattle.params.specs.Set.{A}
+use Rattle.params.proofs.level_at.Statement.{statement}
+use Rattle.params.proofs.level_at.Tie as tie
 
 mul-result : tie.Need-mul-result
 mul-result c = search needs

@@ -7,12 +7,12 @@ use Prim.Native.Nat.{_≤_, _-_}
 use native.Mathlib.Numerals.{add-one}
 use native.Mathlib.Omega.{arith}
 use borrow.Author.Tests.{not-true, not-false}
-use Rattle.sheet.specs.Set.{ages}
-use Rattle.sheet.specs.Limits.{inLimits, agesInLimits}
-use Rattle.sheet.specs.LimitsLaws.{age-out}
-use Rattle.sheet.proofs.Sizes.{fails, passes}
-use Rattle.sheet.proofs.in_limits.Statement.{statement}
-use Rattle.sheet.proofs.in_limits.Tie as tie
+use Rattle.params.specs.Set.{ages}
+use Rattle.params.specs.Limits.{inLimits, agesInLimits}
+use Rattle.params.specs.LimitsLaws.{age-out}
+use Rattle.params.proofs.Sizes.{fails, passes}
+use Rattle.params.proofs.in_limits.Statement.{statement}
+use Rattle.params.proofs.in_limits.Tie as tie
 
 abbrev Inv-loop : tie.InvT-loop
 Inv-loop p x₀ x = (x ≤ ages) × (agesInLimits p x ≡ true)

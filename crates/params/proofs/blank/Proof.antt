@@ -1,8 +1,8 @@
 -- `blank` meets its contract: its value is the definition's, written out.
 use mathlib.Core.Path.{refl}
-use Rattle.sheet.specs.Set.{blank}
-use Rattle.sheet.proofs.blank.Statement.{statement}
-use Rattle.sheet.proofs.blank.Tie as tie
+use Rattle.params.specs.Set.{blank}
+use Rattle.params.proofs.blank.Statement.{statement}
+use Rattle.params.proofs.blank.Tie as tie
 
 returns : tie.Need-returns
 unfolding blank

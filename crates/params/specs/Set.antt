@@ -3,8 +3,8 @@ use Prim.Native.Nat.{ℕ}
 use lib.IntN.{ℤ, pos}
 use lib.ListN.{getD, length, replicate}
 use mathlib.Core.Path.{_≡_}
-use Rattle.sheet.specs.declared.Params.{Params}
-use Rattle.sheet.specs.declared.Sex.the-variants.{M}
+use Rattle.params.specs.declared.Params.{Params}
+use Rattle.params.specs.declared.Sex.the-variants.{M}
 
 -- ages 0 to 90 have parameters
 abbrev pub ages : ℕ

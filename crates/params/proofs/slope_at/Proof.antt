@@ -1,9 +1,9 @@
 -- `slope_at` meets its contract: the element at x of the run of B.
 use borrow.Author.Needs.{needs}
 use mir.Facts.{toZ-ofZ}
-use Rattle.sheet.specs.Set.{B}
-use Rattle.sheet.proofs.slope_at.Statement.{statement}
-use Rattle.sheet.proofs.slope_at.Tie as tie
+use Rattle.params.specs.Set.{B}
+use Rattle.params.proofs.slope_at.Statement.{statement}
+use Rattle.params.proofs.slope_at.Tie as tie
 
 mul-result : tie.Need-mul-result
 mul-result c = search needs

@@ -1,8 +1,8 @@
 -- The table of refusals: each case's number in the papers, and 0 where nothing is refused.
 use Prim.Native.Nat.{ℕ}
-use Rattle.sheet.specs.declared.Refusal.{Refusal}
-use Rattle.sheet.specs.declared.Refusal.the-variants.{Accepted, Torn, OffScale, NoSuchAge, NoSuchYear}
-use Rattle.sheet.specs.declared.Refusal.the-variants.{NoSuchSpan, Steep, Short}
+use Rattle.params.specs.declared.Refusal.{Refusal}
+use Rattle.params.specs.declared.Refusal.the-variants.{Accepted, Torn, OffScale, NoSuchAge, NoSuchYear}
+use Rattle.params.specs.declared.Refusal.the-variants.{NoSuchSpan, Steep, Short}
 
 unfoldable pub refusalNumber : Refusal → ℕ
 refusalNumber Accepted = 0

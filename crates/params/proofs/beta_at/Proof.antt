@@ -1,9 +1,9 @@
 -- `beta_at` meets its contract: the element at x of the run of beta.
 use borrow.Author.Needs.{needs}
 use mir.Facts.{toZ-ofZ}
-use Rattle.sheet.specs.Set.{beta}
-use Rattle.sheet.proofs.beta_at.Statement.{statement}
-use Rattle.sheet.proofs.beta_at.Tie as tie
+use Rattle.params.specs.Set.{beta}
+use Rattle.params.proofs.beta_at.Statement.{statement}
+use Rattle.params.proofs.beta_at.Tie as tie
 
 mul-result : tie.Need-mul-result
 mul-result c = search needs

@@ -4,10 +4,10 @@ use Prim.Native.Nat.{ℕ}
 use mathlib.Core.Bool.{true, false}
 use lib.IntN.{pos}
 use lib.ListN.{replicate}
-use Rattle.sheet.specs.declared.Params.{Params}
-use Rattle.sheet.specs.declared.Sex.the-variants.{M}
-use Rattle.sheet.specs.Set.{A, B, alpha, beta, ages}
-use Rattle.sheet.specs.Limits.{inLimits, seriesInLimits, agesInLimits, ageInLimits}
+use Rattle.params.specs.declared.Params.{Params}
+use Rattle.params.specs.declared.Sex.the-variants.{M}
+use Rattle.params.specs.Set.{A, B, alpha, beta, ages}
+use Rattle.params.specs.Limits.{inLimits, seriesInLimits, agesInLimits, ageInLimits}
 
 -- this theta, and every other number 0
 withTheta : ℕ → Params

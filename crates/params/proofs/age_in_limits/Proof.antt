@@ -2,11 +2,11 @@
 use borrow.Author.Needs.{needs}
 use mathlib.Core.Path.{_≡_}
 use mathlib.Core.Bool.{Bool, _&&_}
-use Rattle.sheet.specs.Set.{A, B, alpha, beta}
-use Rattle.sheet.specs.Limits.{levelLimit, slopeLimit, within, ageInLimits}
-use Rattle.sheet.proofs.Sizes.{tested, fails, passes}
-use Rattle.sheet.proofs.age_in_limits.Statement.{statement}
-use Rattle.sheet.proofs.age_in_limits.Tie as tie
+use Rattle.params.specs.Set.{A, B, alpha, beta}
+use Rattle.params.specs.Limits.{levelLimit, slopeLimit, within, ageInLimits}
+use Rattle.params.proofs.Sizes.{tested, fails, passes}
+use Rattle.params.proofs.age_in_limits.Statement.{statement}
+use Rattle.params.proofs.age_in_limits.Tie as tie
 
 -- ---- the function's start, from after each test
 

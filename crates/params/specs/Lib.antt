@@ -1,0 +1,5 @@
+pub mod Refusals
+pub mod Set
+pub mod Limits
+pub mod LimitsLaws
+pub mod Rows
