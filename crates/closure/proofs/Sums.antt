@@ -1,42 +1,38 @@
--- The weighted sums as the code forms them: each product and each sum fits 64 bits, and is read as the number that the
--- definition has.
+-- The weighted sums as the code forms them: each fits 64 bits, and is read as the number that the definition has.
 use mathlib.Core.Path.{_≡_, refl}
 use mathlib.Core.List.{List}
 use Prim.Native.Nat.{ℕ, zero, suc, _+_, _*_, _≤_, _<_}
 use native.Mathlib.Numerals.{add-one}
 use native.Mathlib.Omega.{arith}
-use lib.IntN.{ℤ, pos, _+ℤ_, _*ℤ_}
+use lib.IntN.{ℤ, pos, _+ℤ_}
 use lib.ListN.{getD, List·getD-map}
 use mir.Syntax.{w64}
 use mir.Val.{SFits}
-use Rattle.whole.specs.Bound.{Under, under-lit, under-weaken, under-add, under-mul, fits, back}
-use Rattle.whole.specs.SignedEnds.{SignedEnds}
-use Rattle.series.specs.declared.SignedEnds as code
-use Rattle.series.specs.Code.{endsOf}
-use Rattle.series.specs.EndLaws.{EndsUnder, least-under, greatest-under}
-use Rattle.series.proofs.Signed.{bits, sum, product}
-use Rattle.closure.specs.Weights.{firstClosed, fitted, weight}
-use Rattle.closure.specs.Totals.{lastClosed}
+use Rattle.whole.specs.Bound.{Under, under-lit, under-weaken, under-add, fits, back}
+use Rattle.whole.specs.SignedEnds.{SignedEnds, leastProduct, greatestProduct}
+use Rattle.ends.specs.declared.SignedEnds as code
+use Rattle.ends.specs.Code.{endsOf}
+use Rattle.ends.specs.EndLaws.{Within, least-under, greatest-under}
+use Rattle.ends.proofs.Signed.{bits, read, sum}
+use Rattle.weights.specs.Weights.{fitted, firstClosed, lastClosed, weight}
+use Rattle.weights.specs.Totals.{weightLimit}
+use Rattle.weights.specs.WeightLaws.{weight-under}
 use Rattle.closure.specs.Closure.{endsAt, leastSum, greatestSum}
-use Rattle.closure.specs.Units.{Within}
-use Rattle.closure.specs.Code.{listOf, endLimit, weightLimit, sumsLimit, InLimit, withProduct}
-use Rattle.closure.proofs.Table.{weight-under}
+use Rattle.closure.specs.Code.{listOf, endLimit, sumsLimit, InLimit, withProduct}
 
--- the product of a weight with an end fits, and so does a sum with it, which is read as it is
-pub product-fits : {w e : ℤ} → Under w weightLimit → Under e endLimit → SFits w64 (bits w *ℤ bits e)
-product-fits hw he = product (back hw tt) (back he tt) refl (fits (under-mul hw he) tt) .0
+-- a sum with the least or the greatest product of a weight with the ends of H: it fits, and is read as it is
+module _ {s w : ℤ} {e : SignedEnds} (hs : Under s sumsLimit) (hw : Under w weightLimit) (he : Within endLimit e) where
+  next : {p r : ℤ} → Under p (weightLimit * endLimit) → r ≡ p
+      → SFits w64 (bits s +ℤ bits r) × (bits (bits s +ℤ bits r) ≡ s +ℤ p)
+  next u f = sum (back hs tt) (read f (fits u tt)) refl (fits (under-add hs u) tt)
 
-module _ {s w e : ℤ} (hs : Under s sumsLimit) (hw : Under w weightLimit) (he : Under e endLimit) where
-  next : SFits w64 (bits s +ℤ bits (bits w *ℤ bits e)) × (bits (bits s +ℤ bits (bits w *ℤ bits e)) ≡ s +ℤ w *ℤ e)
-  next =
-      let u = under-mul hw he in
-      sum (back hs tt) (product (back hw tt) (back he tt) refl (fits u tt) .1) refl (fits (under-add hs u) tt)
+  pub next-least : {r : ℤ} → r ≡ leastProduct (bits w) e
+      → SFits w64 (bits s +ℤ bits r) × (bits (bits s +ℤ bits r) ≡ s +ℤ leastProduct w e)
+  next-least f = next (least-under hw he) (rw (back hw tt) at f)
 
-  pub sum-fits : SFits w64 (bits s +ℤ bits (bits w *ℤ bits e))
-  sum-fits = next .0
-
-  pub sum-read : {p : ℤ} → p ≡ w *ℤ e → bits (bits s +ℤ bits (bits w *ℤ bits e)) ≡ s +ℤ p
-  sum-read d = rw d (next .1)
+  pub next-greatest : {r : ℤ} → r ≡ greatestProduct (bits w) e
+      → SFits w64 (bits s +ℤ bits r) × (bits (bits s +ℤ bits r) ≡ s +ℤ greatestProduct w e)
+  next-greatest f = next (greatest-under hw he) (rw (back hw tt) at f)
 
 -- the sums of the first n products
 abbrev pub sumsTo : ℕ → List SignedEnds → ℕ → SignedEnds
@@ -68,10 +64,9 @@ module _ {x : ℕ} (hs : List SignedEnds) (l : firstClosed ≤ x) (m : x ≤ las
   sums-grow (suc n) k =
       let a = sums-grow n (omega arith) in
       let w = weight-under l m k in
-      let b : EndsUnder (endsAt hs n) endLimit = record { lower = h n k .low; upper = h n k .high } in
       record {
-        low = under-weaken (under-add (a .low) (least-under w b)) (omega arith);
-        high = under-weaken (under-add (a .high) (greatest-under w b)) (omega arith);
+        low = under-weaken (under-add (a .low) (least-under w (h n k))) (omega arith);
+        high = under-weaken (under-add (a .high) (greatest-under w (h n k))) (omega arith);
       }
 
   pub sums-within : (n : ℕ) → n ≤ fitted → Within sumsLimit (sumsTo x hs n)

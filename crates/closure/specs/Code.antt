@@ -1,32 +1,26 @@
 -- What the code's contracts say beside the definitions: the ends of H as the code's array has them, the limits in which
 -- their weighted sums are worked, and the sums with one product added.
 use mathlib.Core.List.{List, map}
-use Prim.Native.Nat.{ℕ, _*_, _-_, _^_, _<_}
+use Prim.Native.Nat.{ℕ, _*_, _^_, _<_}
 use lib.IntN.{ℤ, _+ℤ_}
 use Rattle.whole.specs.SignedEnds.{SignedEnds, leastProduct, greatestProduct}
-use Rattle.series.specs.declared.SignedEnds as code
-use Rattle.series.specs.Code.{endsOf}
-use Rattle.closure.specs.Weights.{fitted}
+use Rattle.ends.specs.declared.SignedEnds as code
+use Rattle.ends.specs.Code.{endsOf}
+use Rattle.ends.specs.EndLaws.{Within}
+use Rattle.weights.specs.Weights.{fitted}
+use Rattle.weights.specs.Totals.{weightLimit}
 use Rattle.closure.specs.Closure.{endsAt}
-use Rattle.closure.specs.Units.{Within}
 
 -- the code's ends of H as the definitions'
 abbrev pub listOf : List code.SignedEnds → List SignedEnds
 listOf h = map endsOf h
 
--- how far from 0 an end of H, a weight and the weighted sums may lie
+-- how far from 0 an end of H and the weighted sums may lie
 abbrev pub endLimit : ℕ
 endLimit = 10 ^ 12
 
-abbrev pub weightLimit : ℕ
-weightLimit = 185
-
 abbrev pub sumsLimit : ℕ
 sumsLimit = fitted * (weightLimit * endLimit)
-
--- and an end of G: any number of 64 bits but the least
-abbrev pub closedLimit : ℕ
-closedLimit = 2 ^ 63 - 1
 
 -- every end of H is within its limit
 abbrev pub InLimit : List code.SignedEnds → Type 0

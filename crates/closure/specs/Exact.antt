@@ -1,23 +1,17 @@
--- The closure exactly: an order's ends are taken from its brackets outward as on the grid, without rounding.
-use Prim.Native.Nat.{ℕ, zero, suc, _+_, _*_, _<_}
-use native.Mathlib.Nat.{add-comm}
-use mathlib.Core.Bool.{Bool, true, false, cond}
+-- G exactly: "an order's ends are taken from its brackets outward as on the grid, without rounding" (paper 01, "The exact
+-- value").
+use Prim.Native.Nat.{ℕ, zero, suc}
+use mathlib.Core.Bool.{cond}
 use mathlib.Core.List.{List}
 use lib.Dec.{lit<}
-use lib.IntN.{ℤ, pos, negsuc, natAbs}
+use lib.IntN.{ℤ, pos}
 use lib.ListN.{getD}
 use lib.Signed.{nonNeg}
-use Rattle.fraction.specs.Ratio.{Ratio}
-use Rattle.fraction.specs.Fraction.{Fraction, wholeℚ, _+ℚ_, scaleℚ, quotientℚ, absolute}
-use Rattle.taylor.specs.Order.{orderLower, orderUpper}
-use Rattle.closure.specs.Weights.{fitted, weightUnit, weight}
-use Rattle.closure.specs.Positive.{sum-positive}
+use Rattle.fraction.specs.Fraction.{Fraction, wholeℚ, _+ℚ_, scaleℚ, quotientℚ}
+use Rattle.weights.specs.Weights.{fitted, weightUnit, weight}
+use Rattle.logistic.specs.Units.{Interval}
 
--- an interval of fractions
-pub record Interval : Type 0 where
-  pub least : Fraction
-  pub most : Fraction
-
+-- an order's interval of H at the i-th fitted age, of eleven
 abbrev pub intervalAt : List Interval → ℕ → Interval
 intervalAt hs i = getD hs i (record { least = wholeℚ (pos 0); most = wholeℚ (pos 0) })
 
@@ -43,17 +37,3 @@ exactClosedSum x hs =
       least = quotientℚ (exactLeastSum x hs fitted) weightUnit (lit< tt);
       most = quotientℚ (exactGreatestSum x hs fitted) weightUnit (lit< tt);
     }
-
--- 1/(1 + E) and E/(1 + E)
-unfoldable pub overOne : Ratio → Ratio
-overOne e = record { num = e .den; den = e .den + e .num; positive = sum-positive (e .den) (e .num) (e .positive) }
-
-unfoldable pub share : Ratio → Ratio
-share e = record { num = e .num; den = e .den + e .num; positive = sum-positive (e .den) (e .num) (e .positive) }
-
--- the force at order j from an end of G
-unfoldable pub orderLogisticLower : Fraction → ℕ → Ratio
-orderLogisticLower G j = cond (nonNeg (G .num)) (overOne (orderUpper (absolute G) j)) (share (orderLower (absolute G) j))
-
-unfoldable pub orderLogisticUpper : Fraction → ℕ → Ratio
-orderLogisticUpper G j = cond (nonNeg (G .num)) (overOne (orderLower (absolute G) j)) (share (orderUpper (absolute G) j))

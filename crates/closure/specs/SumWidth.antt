@@ -1,69 +1,22 @@
 -- G's ends on a grid: they lie in order, how far apart they lie at most, and how far from 0.
 use mathlib.Core.List.{List}
 use Prim.Native.Nat.{ℕ, zero, suc, _+_, _*_, _/_, _≤_, _<_}
-use native.Mathlib.Nat.{mul-le-mul-left, mul-le-mul-right, le-refl, add-mul}
+use native.Mathlib.Nat.{mul-le-mul-right, le-refl, add-mul}
 use native.Mathlib.Omega.{arith}
 use lib.Dec.{lit<}
-use lib.IntN.{ℤ, pos, negsuc, natAbs, _+ℤ_}
-use lib.Signed.{_≤ℤ_, ≤ℤ-refl, nonNeg}
+use lib.IntN.{ℤ, pos, natAbs, _+ℤ_}
+use lib.Signed.{_≤ℤ_, ≤ℤ-refl}
 use Rattle.whole.specs.Split.{split, split-add}
-use Rattle.whole.specs.Difference.{Difference, difference, difference-pos, difference-add, difference-mul}
-use Rattle.whole.specs.Difference.{difference-le}
 use Rattle.whole.specs.Order.{≤ℤ-trans, +ℤ-mono}
-use Rattle.whole.specs.Bound.{Under, under-pos, under-add, under-mul, under-cond, under-floor-to, under-ceil-to}
+use Rattle.whole.specs.Bound.{Under, under-pos, under-add}
 use Rattle.whole.specs.SignedEnds.{SignedEnds, leastProduct, greatestProduct, outward}
 use Rattle.whole.specs.Division.{floorDiv, ceilDiv}
 use Rattle.whole.specs.DivisionLaws.{split-floor, split-ceil, floor-mono, floor-le-ceil}
-use Rattle.closure.specs.Weights.{firstClosed, fitted, weightUnit, weight}
+use Rattle.ends.specs.EndLaws.{Within, product-spread, product-ordered, least-under, greatest-under, outward-under}
+use Rattle.weights.specs.Weights.{fitted, firstClosed, lastClosed, weightUnit, weight}
+use Rattle.weights.specs.Totals.{mostSize, sizeTotal}
+use Rattle.weights.specs.WeightLaws.{weights-size}
 use Rattle.closure.specs.Closure.{endsAt, leastSum, greatestSum, closedSum}
-use Rattle.closure.specs.Totals.{lastClosed, mostSize, sizeTotal}
-use Rattle.closure.specs.WeightLaws.{weights-size}
-use Rattle.closure.specs.Units.{Within}
-
--- ---- one product: a weight w widens W to |w|·W
-
-negative : (k : ℕ) → Difference (negsuc k) 0 (suc k)
-negative k = difference (negsuc k)
-
-product-width : (w : ℤ) (h : SignedEnds) (W : ℕ) → h .upper ≤ℤ (h .lower +ℤ pos W)
-    → greatestProduct w h ≤ℤ (leastProduct w h +ℤ pos (natAbs w * W))
-unfolding greatestProduct leastProduct
-product-width (pos k) h W l =
-    let a = difference (h .upper) in
-    let b = difference (h .lower) in
-    difference-le (difference-mul (difference-pos k) a)
-    (difference-add (difference-mul (difference-pos k) b) (difference-pos (k * W))) .0
-    (omega (arith, mul-le-mul-left k (difference-le a (difference-add b (difference-pos W)) .1 l)))
-product-width (negsuc k) h W l =
-    let a = difference (h .upper) in
-    let b = difference (h .lower) in
-    difference-le (difference-mul (negative k) b)
-    (difference-add (difference-mul (negative k) a) (difference-pos (suc k * W))) .0
-    (omega (arith, mul-le-mul-left (suc k) (difference-le a (difference-add b (difference-pos W)) .1 l)))
-
--- and keeps ends that are in order
-product-ordered : (w : ℤ) (h : SignedEnds) → h .lower ≤ℤ h .upper → leastProduct w h ≤ℤ greatestProduct w h
-unfolding greatestProduct leastProduct
-product-ordered (pos k) h l =
-    let a = difference (h .upper) in
-    let b = difference (h .lower) in
-    difference-le (difference-mul (difference-pos k) b) (difference-mul (difference-pos k) a) .0
-    (omega (arith, mul-le-mul-left k (difference-le b a .1 l)))
-product-ordered (negsuc k) h l =
-    let a = difference (h .upper) in
-    let b = difference (h .lower) in
-    difference-le (difference-mul (negative k) a) (difference-mul (negative k) b) .0
-    (omega (arith, mul-le-mul-left (suc k) (difference-le b a .1 l)))
-
--- ends within B of 0 give products within |w|·B
-product-within : (w : ℤ) (h : SignedEnds) (B : ℕ) → Within B h
-    → Under (leastProduct w h) (natAbs w * B) × Under (greatestProduct w h) (natAbs w * B)
-unfolding greatestProduct leastProduct
-product-within w h B u =
-    let v : Under w (natAbs w) = record { under = le-refl (natAbs w) } in (
-      under-cond (nonNeg w) (under-mul v (u .low)) (under-mul v (u .high)),
-      under-cond (nonNeg w) (under-mul v (u .high)) (under-mul v (u .low)),
-    )
 
 -- ---- the sums of the first n
 
@@ -89,7 +42,7 @@ module _ (x : ℕ) (hs : List SignedEnds) where
       let e = endsAt hs n in
       sum-algebra (greatestSum x hs n) (leastSum x hs n) (greatestProduct w e) (leastProduct w e) (sizeTotal x n)
       (natAbs w) W
-      (sum-width W n (λ i l. h i (omega arith))) (product-width w e W (h n (omega arith)))
+      (sum-width W n (λ i l. h i (omega arith))) (product-spread w e W (h n (omega arith)))
 
   sum-ordered : (n : ℕ) → ((i : ℕ) → i < n → endsAt hs i .lower ≤ℤ endsAt hs i .upper)
       → leastSum x hs n ≤ℤ greatestSum x hs n
@@ -105,8 +58,10 @@ module _ (x : ℕ) (hs : List SignedEnds) where
   sum-within B zero h = (under-pos (omega arith), under-pos (omega arith))
   sum-within B (suc n) h =
       let a = sum-within B n (λ i l. h i (omega arith)) in
-      let b = product-within (weight x n) (endsAt hs n) B (h n (omega arith)) in
-      rw (add-mul (sizeTotal x n) (natAbs (weight x n)) B) (under-add (a .0) (b .0), under-add (a .1) (b .1))
+      let w = weight x n in
+      let v : Under w (natAbs w) = record { under = le-refl (natAbs w) } in
+      let u = h n (omega arith) in
+      rw (add-mul (sizeTotal x n) (natAbs w) B) (under-add (a .0) (least-under v u), under-add (a .1) (greatest-under v u))
 
 -- ---- G
 
@@ -139,12 +94,9 @@ module _ (x : ℕ) (hs : List SignedEnds) where
   -- and within 1,060·B/110 and 1 of 0 where H's are within B
   pub closedSum-within : (B : ℕ) → firstClosed ≤ x → x ≤ lastClosed → ((i : ℕ) → i < fitted → Within B (endsAt hs i))
       → Within (mostSize * B / weightUnit + 1) (closedSum x hs)
-  unfolding closedSum outward
+  unfolding closedSum
   closedSum-within B l m h =
       let u = sum-within x hs B fitted h in
       let k : sizeTotal x fitted * B ≤ (mostSize * B / weightUnit + 1) * weightUnit =
       omega (arith, mul-le-mul-right B (weights-size x l m)) in
-      record {
-        low = under-floor-to (mostSize * B / weightUnit + 1) (lit< tt) k (u .0);
-        high = under-ceil-to (mostSize * B / weightUnit + 1) (lit< tt) k (u .1);
-      }
+      outward-under (mostSize * B / weightUnit + 1) (lit< tt) k (u .0) (u .1)

@@ -18,11 +18,11 @@ use Rattle.fraction.specs.FractionLaws.{≤ℚ-trans, ≤ℚ-difference, ≈ℚ
 use Rattle.fraction.specs.FractionLaws.{scaleℚ-exchanges, quotientℚ-mono}
 use Rattle.expo.specs.Grid.{Grid}
 use Rattle.expo.specs.Facts.{Sound}
-use Rattle.closure.specs.Weights.{fitted, weightUnit, weight}
+use Rattle.weights.specs.Weights.{fitted, weightUnit, weight}
+use Rattle.logistic.specs.Units.{Interval, inUnitsℚ, SignedOverlap}
 use Rattle.closure.specs.Closure.{endsAt, leastSum, greatestSum, closedSum}
-use Rattle.closure.specs.Exact.{Interval, intervalAt, leastScaled, greatestScaled, exactLeastSum}
+use Rattle.closure.specs.Exact.{intervalAt, leastScaled, greatestScaled, exactLeastSum}
 use Rattle.closure.specs.Exact.{exactGreatestSum, exactClosedSum}
-use Rattle.closure.specs.Units.{inUnitsℚ, SignedOverlap}
 
 -- a negative whole number is at most 0
 pub negsuc-nonpos : (n : ℕ) → negsuc n ≤ℤ pos 0

@@ -11,18 +11,21 @@ use Rattle.whole.specs.SignedEnds.{outward}
 use Rattle.expo.specs.Exponential.{expBetween}
 use Rattle.expo.specs.Billionths.{billionths}
 use Rattle.params.specs.declared.Params.{Params}
-use Rattle.series.specs.declared.SignedEnds as code
+use Rattle.ends.specs.declared.SignedEnds as code
+use Rattle.ends.specs.EndLaws.{Within}
 use Rattle.series.specs.Series.{logForce, inRange}
-use Rattle.closure.specs.Weights.{fitted, firstClosed, weightUnit}
-use Rattle.closure.specs.Totals.{lastClosed}
-use Rattle.closure.specs.Units.{Within}
-use Rattle.closure.specs.Closure.{closedSum, logistic}
-use Rattle.closure.specs.Code.{listOf, closedLimit, InLimit}
+use Rattle.weights.specs.Weights.{fitted, firstClosed, lastClosed, weightUnit}
+use Rattle.logistic.specs.Logistic.{logistic}
+use Rattle.logistic.specs.Code.{closedLimit}
+use Rattle.closure.specs.Closure.{closedSum}
+use Rattle.closure.specs.Code.{listOf, InLimit}
 use Rattle.closure.proofs.Sums.{sums-within}
 use Rattle.mortality.specs.declared.Cell.the-variants.{Steep, Of}
 use Rattle.mortality.specs.declared.Fitted.{Fitted}
-use Rattle.mortality.specs.Cell.{negated, youngForce, oldForce, force, survival, death, neededInRange}
-use Rattle.mortality.specs.Code.{FittedOf, deathOf, coded, cellOf}
+use Rattle.force.specs.Force.{negated}
+use Rattle.mortality.specs.Cell.{youngForce, oldForce, force, survival, death, neededInRange}
+use Rattle.force.specs.Force.{deathOf}
+use Rattle.mortality.specs.Code.{FittedOf, coded, cellOf}
 
 -- ---- to age 90
 
@@ -32,8 +35,8 @@ module _ (p : Params) (x n : ℕ) (l : x < firstClosed) where
   young-steep e = rw (lt-ltb x firstClosed l, e)
 
   pub young-of : inRange (logForce p x n) ≡ true
-      → Of (coded (deathOf (expBetween billionths (negated (logForce p x n))))) ≡ cellOf p x n
-  unfolding cellOf neededInRange deathOf death survival force youngForce
+      → Of (coded (deathOf billionths (expBetween billionths (negated (logForce p x n))))) ≡ cellOf p x n
+  unfolding cellOf neededInRange death force youngForce
   young-of e = rw (lt-ltb x firstClosed l, e)
 
 -- ---- above
@@ -55,6 +58,6 @@ module _ (p : Params) (x n : ℕ) (f : Fitted) (h : FittedOf p n f) (l : firstCl
   old-steep e = rw (le-ltb x firstClosed l, ← h .ok, e)
 
   pub old-of : f .ok ≡ true
-      → Of (coded (deathOf (logistic billionths (closedSum x (listOf (f .ends)))))) ≡ cellOf p x n
-  unfolding cellOf neededInRange deathOf death survival force oldForce
+      → Of (coded (deathOf billionths (logistic billionths (closedSum x (listOf (f .ends)))))) ≡ cellOf p x n
+  unfolding cellOf neededInRange death force oldForce
   old-of e = rw (le-ltb x firstClosed l, ← h .ok, e, ← h .ends (rw e tt))

@@ -17,22 +17,22 @@ use Rattle.expo.specs.Billionths.{billionths}
 use Rattle.expo.specs.Exponential.{expBetween}
 use Rattle.params.specs.declared.Params.{Params}
 use Rattle.params.specs.Limits.{inLimits, lastYears}
-use Rattle.series.specs.declared.SignedEnds as code
-use Rattle.series.specs.Code.{endsOf}
+use Rattle.ends.specs.declared.SignedEnds as code
+use Rattle.ends.specs.Code.{endsOf}
+use Rattle.ends.specs.EndLaws.{Within}
 use Rattle.series.specs.Series.{logForce, inRange}
 use Rattle.series.specs.WidthLaws.{logForceWidth}
 use Rattle.series.specs.RangeLaws.{Negated}
 use Rattle.logarithm.specs.Logarithm.{inverseLogistic}
-use Rattle.closure.specs.Weights.{fitted, firstFitted}
-use Rattle.closure.specs.Totals.{lastClosed}
-use Rattle.closure.specs.Units.{Within}
+use Rattle.weights.specs.Weights.{firstFitted, fitted, lastClosed}
 use Rattle.closure.specs.Code.{listOf, endLimit}
-use Rattle.mortality.specs.Cell.{negated, youngForce, fittedEnds, fittedList, fittedInRange, neededInRange}
+use Rattle.force.specs.Force.{negated}
+use Rattle.mortality.specs.Cell.{youngForce, fittedEnds, fittedList, fittedInRange, neededInRange}
 use Rattle.mortality.specs.Answered.{Answered}
 use Rattle.mortality.specs.Needed.{old-needed}
 use Rattle.mortality.specs.Holds.{fitted-at}
 use Rattle.mortality.specs.Code.{FittedOf}
-use Rattle.mortality.proofs.Ends.{under-lower, under-upper, exp-small, log-lower-small, log-upper-small, end-under}
+use Rattle.force.proofs.Ends.{under-lower, under-upper, exp-small, log-lower-small, log-upper-small, end-under}
 
 -- the first i cells are in range, and the first i ends are those of H
 pub record Filled (p : Params) (n : ℕ) (es : List code.SignedEnds) (i : ℕ) : Type 0 where

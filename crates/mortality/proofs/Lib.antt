@@ -1,4 +1,3 @@
 pub mod Years
-pub mod Ends
 pub mod Filled
 pub mod Answers

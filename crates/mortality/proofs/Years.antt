@@ -9,9 +9,9 @@ use Rattle.whole.specs.Bound.{fits, back}
 use Rattle.params.specs.declared.Params.{Params}
 use Rattle.params.specs.Limits.{lastYears}
 use Rattle.params.specs.LimitsLaws.{in-limits-series}
+use Rattle.ends.proofs.Signed.{bits, read, sum}
 use Rattle.series.specs.Series.{periodIndex}
 use Rattle.series.specs.BoundLaws.{periodIndex-under}
-use Rattle.series.proofs.Signed.{bits, read, sum}
 use Rattle.mortality.specs.declared.Year.{Year}
 use Rattle.mortality.specs.Code.{YearOf}
 

@@ -14,9 +14,9 @@ use Rattle.expo.specs.Overlap.{Overlap}
 use Rattle.params.specs.declared.Params.{Params}
 use Rattle.logarithm.specs.WidthFacts.{logWidth}
 use Rattle.logarithm.specs.BillionthsFacts as log
-use Rattle.closure.specs.Weights.{firstClosed}
-use Rattle.closure.specs.WidthFacts.{Fine}
-use Rattle.closure.specs.Billionths.{billionths-fine}
+use Rattle.weights.specs.Weights.{firstClosed}
+use Rattle.logistic.specs.WidthFacts.{Fine}
+use Rattle.logistic.specs.Billionths.{billionths-fine}
 use Rattle.mortality.specs.Cell.{death}
 use Rattle.mortality.specs.Exact.{orderDeath}
 use Rattle.mortality.specs.Facts.{Fit}

@@ -11,12 +11,10 @@ use Rattle.expo.specs.Exponential.{expBetween}
 use Rattle.params.specs.declared.Params.{Params}
 use Rattle.series.specs.Series.{logForce, inRange}
 use Rattle.logarithm.specs.Logarithm.{inverseLogistic}
-use Rattle.closure.specs.Weights.{fitted, firstFitted, firstClosed}
-use Rattle.closure.specs.Closure.{closedSum, logistic}
-
--- −m of a log force that is in range, as z with two ends
-unfoldable pub negated : SignedEnds → Ends
-negated m = record { lower = below (m .upper); upper = below (m .lower) }
+use Rattle.weights.specs.Weights.{fitted, firstFitted, firstClosed}
+use Rattle.logistic.specs.Logistic.{logistic}
+use Rattle.closure.specs.Closure.{closedSum}
+use Rattle.force.specs.Force.{negated, deathOf}
 
 -- "Force at ages to 90: exponential of m."
 unfoldable pub youngForce : Grid → Params → ℕ → ℕ → Ends
@@ -42,9 +40,7 @@ unfoldable pub survival : Grid → Params → ℕ → ℕ → Ends
 survival g p x n = expBetween g (force g p x n)
 
 unfoldable pub death : Grid → Params → ℕ → ℕ → Ends
-death g p x n =
-    let s = survival g p x n in
-    record { lower = g .unit - s .upper; upper = g .unit - s .lower }
+death g p x n = deathOf g (force g p x n)
 
 -- "Age above 90 needs the cells 80 to 90 of its year."
 unfoldable pub fittedInRange : Params → ℕ → ℕ → Bool

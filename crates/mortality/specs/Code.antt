@@ -1,5 +1,5 @@
--- What the code's contracts say beside the definitions: K and kappa of a year, the ends of H of a year, q from a force, and
--- the answer at a cell.
+-- What the code's contracts say beside the definitions: K and kappa of a year, the ends of H of a year, and the
+-- answer at a cell.
 use mathlib.Core.Path.{_≡_}
 use mathlib.Core.Bool.{cond}
 use Prim.Native.Nat.{ℕ, _-_, _≤_}
@@ -10,9 +10,9 @@ use Rattle.expo.specs.Exponential.{expBetween}
 use Rattle.expo.specs.declared.Ends as code
 use Rattle.params.specs.declared.Params.{Params}
 use Rattle.params.specs.Limits.{inLimits, lastYears}
+use Rattle.ends.specs.Code.{endsOf}
 use Rattle.series.specs.Series.{periodIndex, kappa}
-use Rattle.series.specs.Code.{endsOf}
-use Rattle.closure.specs.Weights.{fitted}
+use Rattle.weights.specs.Weights.{fitted}
 use Rattle.closure.specs.Code.{listOf, InLimit}
 use Rattle.mortality.specs.declared.Year.{Year}
 use Rattle.mortality.specs.declared.Fitted.{Fitted}
@@ -32,12 +32,6 @@ pub record FittedOf (p : Params) (n : ℕ) (f : Fitted) : Type 0 where
   pub ok : f .ok ≡ fittedInRange p n fitted
   pub ends : T (f .ok) → listOf (f .ends) ≡ fittedList billionths p n fitted
   pub limit : T (f .ok) → InLimit (f .ends)
-
--- q of a force with these ends
-unfoldable pub deathOf : Ends → Ends
-deathOf f =
-    let s = expBetween billionths f in
-    record { lower = billionths .unit - s .upper; upper = billionths .unit - s .lower }
 
 -- the grid's two ends as the code's
 abbrev pub coded : Ends → code.Ends

@@ -10,8 +10,10 @@ use Rattle.taylor.specs.Order.{orderLower, orderUpper}
 use Rattle.params.specs.declared.Params.{Params}
 use Rattle.series.specs.Exact.{exactLogForce}
 use Rattle.logarithm.specs.Exact.{orderLogLower, orderLogUpper}
-use Rattle.closure.specs.Weights.{fitted, firstFitted, firstClosed}
-use Rattle.closure.specs.Exact.{Interval, exactClosedSum, orderLogisticLower, orderLogisticUpper}
+use Rattle.weights.specs.Weights.{fitted, firstFitted, firstClosed}
+use Rattle.logistic.specs.Units.{Interval}
+use Rattle.logistic.specs.Exact.{orderLogisticLower, orderLogisticUpper}
+use Rattle.closure.specs.Exact.{exactClosedSum}
 
 -- an order's two ends
 pub record Bracket : Type 0 where

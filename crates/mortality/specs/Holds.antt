@@ -27,9 +27,9 @@ use Rattle.expo.specs.Holds.{exp-overlap}
 use Rattle.params.specs.declared.Params.{Params}
 use Rattle.params.specs.Set.{ages}
 use Rattle.params.specs.Limits.{inLimits, lastYears}
+use Rattle.ends.specs.EndLaws.{Holds}
 use Rattle.series.specs.Series.{logForce, inRange}
 use Rattle.series.specs.Exact.{exactLogForce}
-use Rattle.series.specs.EndLaws.{Holds}
 use Rattle.series.specs.SeriesLaws.{logForce-holds}
 use Rattle.series.specs.WidthLaws.{logForceWidth}
 use Rattle.series.specs.RangeLaws.{Negated, negated-holds, logForce-negated}
@@ -38,13 +38,14 @@ use Rattle.logarithm.specs.Exact.{orderLogLower, orderLogUpper}
 use Rattle.logarithm.specs.Range.{leastLogForce}
 use Rattle.logarithm.specs.Force.{force-half}
 use Rattle.logarithm.specs.Holds.{log-overlap}
-use Rattle.closure.specs.Weights.{fitted, firstFitted, firstClosed}
+use Rattle.weights.specs.Weights.{fitted, firstFitted, firstClosed}
+use Rattle.logistic.specs.LogisticHolds.{logistic-overlap}
+use Rattle.logistic.specs.Units.{inUnitsℚ, SignedOverlap}
 use Rattle.closure.specs.Closure.{endsAt, closedSum}
 use Rattle.closure.specs.Exact.{intervalAt, exactClosedSum}
 use Rattle.closure.specs.WeightedSum.{closedSum-overlap}
-use Rattle.closure.specs.LogisticHolds.{logistic-overlap}
-use Rattle.closure.specs.Units.{inUnitsℚ, SignedOverlap}
-use Rattle.mortality.specs.Cell.{negated, youngForce, fittedEnds, fittedList, oldForce, force, survival, death}
+use Rattle.force.specs.Force.{negated, deathOf}
+use Rattle.mortality.specs.Cell.{youngForce, fittedEnds, fittedList, oldForce, force, survival, death}
 use Rattle.mortality.specs.Exact.{sheetUnit, exactM, exactZ, orderYoungForce, orderFitted, orderFittedList, orderOldForce, orderForce, orderSurvival, orderDeath}
 use Rattle.mortality.specs.Facts.{Fit}
 use Rattle.mortality.specs.Lists.{listed-at}
@@ -204,6 +205,6 @@ module _ (g : Grid) (s : Sound g) (fit : Fit g) where
 
     -- q holds every order's bracket
     pub death-holds : Overlap g s (death g p x n) (orderDeath p x n j .least) (orderDeath p x n j .most)
-    unfolding death orderDeath inUnits complement
+    unfolding death deathOf survival orderDeath inUnits complement
     death-holds =
         record { below = complement-reverse (survival-holds .above); above = complement-reverse (survival-holds .below) }

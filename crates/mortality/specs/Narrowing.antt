@@ -9,11 +9,11 @@ use lib.Signed.{nonNeg}
 use borrow.Author.Tests.{lt-ltb, le-ltb}
 use Rattle.fraction.specs.Ratio.{Ratio, _≤/_, _</_, whole/, quotient/, complement, _+/_, _*/_}
 use Rattle.fraction.specs.RatioLaws.{≤/-refl, ≤/-trans, +/-mono, +/-comm, +/-assoc, +/-cancel, */-mono, </→≤/, +/-complement, whole/-+/, whole/-*/}
+use Rattle.fraction.specs.Fraction.{Fraction, _≤ℚ_, _+ℚ_, signed, absolute}
+use Rattle.fraction.specs.FractionLaws.{≤ℚ-refl, ≤ℚ-trans, +ℚ-mono, +ℚ-assoc, signed-≤ℚ, signed-+ℚ}
 use Rattle.taylor.specs.Order.{leastOrder, orderLower, orderUpper}
 use Rattle.taylor.specs.Narrowing.{narrowOrder}
 use Rattle.taylor.specs.OrderLaws.{narrow-below, upper-below-one, brackets-agree}
-use Rattle.fraction.specs.Fraction.{Fraction, _≤ℚ_, _+ℚ_, signed, absolute}
-use Rattle.fraction.specs.FractionLaws.{≤ℚ-refl, ≤ℚ-trans, +ℚ-mono, +ℚ-assoc, signed-≤ℚ, signed-+ℚ}
 use Rattle.expo.specs.Billionths.{billionths}
 use Rattle.expo.specs.BillionthsFacts.{billionths-sound}
 use Rattle.expo.specs.Overlap.{inUnits}
@@ -27,16 +27,17 @@ use Rattle.logarithm.specs.Half.{half, logOrder}
 use Rattle.logarithm.specs.Range.{leastLogForce}
 use Rattle.logarithm.specs.Narrowing.{log-narrow}
 use Rattle.logarithm.specs.BillionthsFacts.{order-range-half}
-use Rattle.closure.specs.Units.{Bounded}
+use Rattle.weights.specs.Weights.{fitted, firstFitted, firstClosed}
+use Rattle.logistic.specs.Units.{Bounded}
+use Rattle.logistic.specs.Exact.{overOne, share, orderLogisticLower, orderLogisticUpper}
+use Rattle.logistic.specs.LogisticNarrow.{logistic-narrow}
+use Rattle.logistic.specs.ExpNarrow.{exp-narrow-below}
+use Rattle.logistic.specs.LogisticHolds.{order-lower-one}
 use Rattle.closure.specs.SumBound.{absolute-sum, closedSum-bounded}
-use Rattle.closure.specs.Weights.{fitted, firstFitted, firstClosed}
-use Rattle.closure.specs.Exact.{overOne, share, orderLogisticLower, orderLogisticUpper, exactClosedSum}
+use Rattle.closure.specs.Exact.{exactClosedSum}
 use Rattle.closure.specs.SumNarrow.{closedSum-narrow}
-use Rattle.closure.specs.LogisticNarrow.{logistic-narrow}
-use Rattle.closure.specs.ExpNarrow.{exp-narrow-below}
-use Rattle.closure.specs.LogisticHolds.{order-lower-one}
 use Rattle.mortality.specs.Exact.{exactM, exactZ, orderYoungForce, orderFitted, orderFittedList, orderOldForce, orderForce, orderSurvival, orderDeath}
-use Rattle.mortality.specs.Cell.{negated}
+use Rattle.force.specs.Force.{negated}
 use Rattle.mortality.specs.Answered.{Answered}
 use Rattle.mortality.specs.Needed.{young-needed, old-needed}
 use Rattle.mortality.specs.Holds.{z-overlap, order-fitted-at}

@@ -13,7 +13,7 @@ use Rattle.params.specs.Set.{ages}
 use Rattle.series.specs.Series.{logForce, inRange}
 use Rattle.series.specs.WidthLaws.{logForceWidth}
 use Rattle.series.specs.RangeLaws.{Negated, logForce-negated}
-use Rattle.closure.specs.Weights.{fitted, firstFitted, firstClosed}
+use Rattle.weights.specs.Weights.{fitted, firstFitted, firstClosed}
 use Rattle.mortality.specs.Cell.{fittedInRange, neededInRange}
 use Rattle.mortality.specs.Answered.{Answered}
 

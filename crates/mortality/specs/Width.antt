@@ -29,14 +29,16 @@ use Rattle.logarithm.specs.WidthFacts.{logWidth}
 use Rattle.logarithm.specs.Sums.{log-sum-monotone}
 use Rattle.logarithm.specs.Holds.{terms-below, terms-above}
 use Rattle.logarithm.specs.Width.{log-width}
-use Rattle.closure.specs.Weights.{fitted, firstFitted, firstClosed, weightUnit}
-use Rattle.closure.specs.Totals.{mostSize, lastClosed}
-use Rattle.closure.specs.Closure.{endsAt, closedSum, logistic}
+use Rattle.weights.specs.Weights.{firstFitted, fitted, firstClosed, lastClosed, weightUnit}
+use Rattle.weights.specs.Totals.{mostSize}
+use Rattle.logistic.specs.Logistic.{logistic}
+use Rattle.logistic.specs.RelativeWidth.{exp-ordered}
+use Rattle.logistic.specs.WidthFacts.{Fine}
+use Rattle.logistic.specs.LogisticWidth.{logistic-width, logistic-ordered}
+use Rattle.closure.specs.Closure.{endsAt, closedSum}
 use Rattle.closure.specs.SumWidth.{closedSum-width, closedSum-ordered}
-use Rattle.closure.specs.RelativeWidth.{exp-ordered}
-use Rattle.closure.specs.WidthFacts.{Fine}
-use Rattle.closure.specs.LogisticWidth.{logistic-width, logistic-ordered}
-use Rattle.mortality.specs.Cell.{negated, youngForce, fittedEnds, fittedList, oldForce, force, survival, death}
+use Rattle.force.specs.Force.{negated, deathOf}
+use Rattle.mortality.specs.Cell.{youngForce, fittedEnds, fittedList, oldForce, force, survival, death}
 use Rattle.mortality.specs.Facts.{Fit}
 use Rattle.mortality.specs.Answered.{Answered}
 use Rattle.mortality.specs.Needed.{young-needed, old-needed}
@@ -154,13 +156,13 @@ module _ (g : Grid) (s : Sound g) (w : Narrow g s) where
 
       -- the force, p and q of an age to 90, and of one above
       pub young-width : x < firstClosed → Narrowed (death g p x n) (youngDeathWidth g)
-      unfolding death survival force youngDeathWidth
+      unfolding death deathOf force youngDeathWidth
       young-width l =
           rw (lt-ltb x firstClosed l)
           (complement-narrowed (g .unit) _ _ (exp-narrowed (youngForce g p x n) (youngWidth g) (young-narrowed p x n (young-needed a l))))
 
       pub old-width : firstClosed ≤ x → Narrowed (death g p x n) (oldDeathWidth g)
-      unfolding death survival force oldDeathWidth
+      unfolding death deathOf force oldDeathWidth
       old-width l =
           rw (le-ltb x firstClosed l)
           (complement-narrowed (g .unit) _ _ (exp-narrowed (oldForce g p x n) (oldWidth g) (old-narrowed l)))

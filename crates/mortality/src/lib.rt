@@ -7,21 +7,17 @@ ghost use Rattle.expo.specs.Exponential.{expBetween};
 ghost use Rattle.expo.specs.Code.{endsOf as gridEnds};
 ghost use Rattle.params.specs.declared.Params.{Params};
 ghost use Rattle.params.specs.Limits.{inLimits, lastYears};
-ghost use Rattle.series.specs.Code.{endsOf};
+ghost use Rattle.ends.specs.Code.{endsOf};
 ghost use Rattle.series.specs.Series.{logForce};
 ghost use Rattle.series.specs.WidthLaws.{logForceWidth};
 ghost use Rattle.series.specs.RangeLaws.{Negated};
 ghost use Rattle.logarithm.specs.Logarithm.{inverseLogistic};
-ghost use Rattle.closure.specs.Weights.{firstClosed};
-ghost use Rattle.closure.specs.Totals.{lastClosed};
+ghost use Rattle.weights.specs.Weights.{firstClosed, lastClosed};
 ghost use Rattle.closure.specs.Code.{InLimit};
-ghost use Rattle.mortality.specs.Cell.{negated};
-ghost use Rattle.mortality.specs.Code.{YearOf, FittedOf, deathOf, cellOf};
+ghost use Rattle.mortality.specs.Code.{YearOf, FittedOf, cellOf};
+use ends::SignedEnds;
 use expo::Ends;
 use params::Params;
-use series::SignedEnds;
-
-const UNIT: u64 = 1_000_000_000;
 
 // Ages 80 to 90 are fitted, and ages from 91 on are closed.
 const FIRST_FITTED: usize = 80;
@@ -86,40 +82,6 @@ fn log_force_at(p: Params, x: usize, y: Year) -> SignedEnds
     series::log_force(p, x, y.period, kappas)
 }
 
-// The force at an age to 90, e^m, of a log force in range.
-fn force_to_90(m: SignedEnds) -> Ends
-    requires { ⌜ Negated (endsOf m) logForceWidth ⌝ }
-    ensures { λ r. ⌜ gridEnds r ≡ expBetween billionths (negated (endsOf m)) ⌝ }
-{
-    expo::exp_between(Ends {
-        lower: (-m.upper) as u64,
-        upper: (-m.lower) as u64,
-    })
-}
-
-// q = 1 − e^−force, ends exchanged.
-fn death_of(force: Ends) -> Ends
-    ensures { λ r. ⌜ gridEnds r ≡ deathOf (gridEnds force) ⌝ }
-{
-    let p = expo::exp_between(force);
-    Ends {
-        lower: UNIT - p.upper,
-        upper: UNIT - p.lower,
-    }
-}
-
-// H = m − ln(1 − e^m), of a log force in range.
-fn inverse_logistic(m: SignedEnds) -> SignedEnds
-    requires { ⌜ Negated (endsOf m) logForceWidth ⌝ }
-    ensures { λ r. ⌜ endsOf r ≡ inverseLogistic billionths (endsOf m) (expBetween billionths (negated (endsOf m))) ⌝ }
-{
-    let u = force_to_90(m);
-    SignedEnds {
-        lower: m.lower + logarithm::log_lower(u.lower) as i64,
-        upper: m.upper + logarithm::log_upper(u.upper) as i64,
-    }
-}
-
 // The ends of H of a year.
 pub fn fitted_in(p: Params, y: Year) -> Fitted
     requires { ⌜ YearOf p y ⌝ }
@@ -132,7 +94,7 @@ pub fn fitted_in(p: Params, y: Year) -> Fitted
         if !series::in_range(m) {
             return Fitted { ok: false, ends };
         }
-        ends[i] = inverse_logistic(m);
+        ends[i] = force::inverse_logistic(m);
         i += 1;
     }
     Fitted { ok: true, ends }
@@ -147,7 +109,7 @@ pub fn young_cell(p: Params, x: usize, y: Year) -> Cell
     if !series::in_range(m) {
         return Cell::Steep;
     }
-    Cell::Of(death_of(force_to_90(m)))
+    Cell::Of(force::death_to_90(m))
 }
 
 // The cell at an age above 90, of the ends of H of its year.
@@ -159,7 +121,7 @@ pub fn old_cell(x: usize, f: Fitted) -> Cell
         return Cell::Steep;
     }
     let ends = f.ends;
-    Cell::Of(death_of(closure::logistic(closure::closed_sum(x, ends))))
+    Cell::Of(force::death_of(logistic::logistic(closure::closed_sum(x, ends))))
 }
 
 // The cell at age x in year n.

@@ -2,58 +2,34 @@
 -- they are made.
 use mathlib.Core.Path.{_≡_, refl, sym, ap, _∙_}
 use mathlib.Core.Logic.{_⊎_, inl, inr, ⊎-elim}
-use mathlib.Core.Bool.{Bool, true, false}
 use mathlib.Core.List.{List, [], _∷_, _++_}
 use Prim.Native.Nat.{ℕ, zero, suc, _+_, _/_, _%_, _^_, _≤_, _<_}
 use native.Mathlib.Nat.{pow-suc}
 use native.Mathlib.Omega.{arith}
-use lib.Dec.{ltb}
 use lib.IntN.{ℤ, pos, negsuc, natAbs}
 use lib.Signed.{_≤ℤ_, _<ℤ_}
-use lib.ListN.{length, getD, length-append}
-use borrow.Author.Tests.{lt-ltb, le-ltb, le-leb, ltb-true, ltb-false}
+use lib.ListN.{length, getD}
 use Rattle.whole.specs.Split.{split}
-use Rattle.tokens.specs.Number.{zeroDigit, minusSign, mostDigits, decimal, isDigit, unsignedText, numberText}
+use Rattle.tokens.specs.Number.{zeroDigit, minusSign, mostDigits, decimal, unsignedText, numberText}
+use Rattle.tokens.specs.DecimalLaws.{decimal-last, decimal-more, by-size}
+pub use Rattle.tokens.specs.DecimalLaws.{text-small, unsigned-length, number-length}
 
 -- ---- digit by digit
 
--- one digit
-decimal-small : (m n : ℕ) → n < 10 → decimal (suc m) n ≡ (zeroDigit + n) ∷ []
-unfolding decimal
-decimal-small m n h = rw (lt-ltb n 10 h, decimal)
-
--- the digits of the tenth, and the last digit
-decimal-step : (m n : ℕ) → 10 ≤ n → decimal (suc m) n ≡ decimal m (n / 10) ++ ((zeroDigit + n % 10) ∷ [])
-unfolding decimal
-decimal-step m n h = rw (le-ltb n 10 h, decimal)
-
--- which of the two
-by-test : (n : ℕ) (b : Bool) → ltb n 10 ≡ b → (n < 10) ⊎ (10 ≤ n)
-by-test n true e = inl (ltb-true n 10 e)
-by-test n false e = inr (ltb-false n 10 e)
-
-digit-or-more : (n : ℕ) → (n < 10) ⊎ (10 ≤ n)
-digit-or-more n = by-test n (ltb n 10) refl
-
 -- room for one digit more changes nothing, where all digits have room
 decimal-room : (m n : ℕ) → n < 10 ^ suc m → decimal (suc (suc m)) n ≡ decimal (suc m) n
-decimal-room zero n h = let k : n < 10 = omega arith in decimal-small 1 n k ∙ sym (decimal-small 0 n k)
+decimal-room zero n h = let k : n < 10 = omega arith in decimal-last 1 n k ∙ sym (decimal-last 0 n k)
 decimal-room (suc m) n h =
     let ih = decimal-room m (n / 10) (omega (arith, rw (pow-suc 10 (suc m)) at h)) in
-    ⊎-elim
-    (λ k. rw (decimal-small (suc (suc m)) n k, decimal-small (suc m) n k))
-    (λ k. rw (decimal-step (suc (suc m)) n k, decimal-step (suc m) n k, ih))
-    (digit-or-more n)
+    by-size n
+    (λ k. rw (decimal-last (suc (suc m)) n k, decimal-last (suc m) n k))
+    (λ k. rw (decimal-more (suc (suc m)) n k, decimal-more (suc m) n k, ih))
 
--- below 10, and from 10 on
-pub text-small : (n : ℕ) → n < 10 → unsignedText n ≡ (zeroDigit + n) ∷ []
-unfolding unsignedText
-text-small n h = decimal-small 14 n h
-
+-- from 10 on
 pub text-step : (n : ℕ) → 10 ≤ n → n < 10 ^ mostDigits
     → unsignedText n ≡ unsignedText (n / 10) ++ ((zeroDigit + n % 10) ∷ [])
 unfolding unsignedText
-text-step n h k = decimal-step 14 n h
+text-step n h k = decimal-more 14 n h
     ∙ ap (λ (l : List ℕ). l ++ ((zeroDigit + n % 10) ∷ [])) (sym (decimal-room 13 (n / 10) (omega arith)))
 
 -- below 0, and from 0 on
@@ -67,46 +43,12 @@ unfolding numberText
 text-natural {v = pos n} h = refl
 text-natural {v = negsuc n} h = absurd (h .le)
 
--- ---- lengths
-
-decimal-most : (m n : ℕ) → length (decimal m n) ≤ m
-unfolding decimal
-decimal-most zero n = omega arith
-decimal-most (suc m) n =
-    ⊎-elim
-    (λ h. rw (decimal-small m n h) (omega arith))
-    (λ h. rw (decimal-step m n h, length-append) (omega (arith, decimal-most m (n / 10))))
-    (digit-or-more n)
-
-decimal-least : (m n : ℕ) → 1 ≤ length (decimal (suc m) n)
-decimal-least m n =
-    ⊎-elim
-    (λ h. rw (decimal-small m n h) (omega arith))
-    (λ h. rw (decimal-step m n h, length-append) (omega arith))
-    (digit-or-more n)
-
--- 1 to 15 digits
-pub unsigned-length : (n : ℕ) → (1 ≤ length (unsignedText n)) × (length (unsignedText n) ≤ mostDigits)
-unfolding unsignedText
-unsigned-length n = (decimal-least 14 n, decimal-most 15 n)
-
--- and a sign
-pub number-length : (v : ℤ) → (1 ≤ length (numberText v)) × (length (numberText v) ≤ suc mostDigits)
-unfolding numberText
-number-length (pos n) = omega (arith, unsigned-length n)
-number-length (negsuc n) = omega (arith, unsigned-length (suc n))
-
 -- ---- bytes
 
 -- a byte that is a digit
 pub record Digit (b : ℕ) : Type 0 where
   pub least : zeroDigit ≤ b
   pub most : b ≤ zeroDigit + 9
-
--- and it passes the test for digits
-pub digit-test : {b : ℕ} → Digit b → isDigit b ≡ true
-unfolding isDigit
-digit-test {b} d = rw (le-leb zeroDigit b (d .least), le-leb b (zeroDigit + 9) (d .most))
 
 abbrev AllDigits : List ℕ → Type 0
 AllDigits l = (i : ℕ) → i < length l → Digit (getD l i 0)
@@ -121,10 +63,9 @@ decimal-digits : (m n : ℕ) → AllDigits (decimal m n)
 unfolding decimal
 decimal-digits zero n = λ i h. absurd (omega arith)
 decimal-digits (suc m) n =
-    ⊎-elim {C = AllDigits (decimal (suc m) n)}
-    (λ h. rw (decimal-small m n h) (all-more [] (zeroDigit + n) (λ i k. absurd (omega arith)) (omega arith)))
-    (λ h. rw (decimal-step m n h) (all-more (decimal m (n / 10)) _ (decimal-digits m (n / 10)) (omega arith)))
-    (digit-or-more n)
+    by-size {P = AllDigits (decimal (suc m) n)} n
+    (λ h. rw (decimal-last m n h) (all-more [] (zeroDigit + n) (λ i k. absurd (omega arith)) (omega arith)))
+    (λ h. rw (decimal-more m n h) (all-more (decimal m (n / 10)) _ (decimal-digits m (n / 10)) (omega arith)))
 
 -- each byte of a number without its sign is a digit
 pub unsigned-digits : (n i : ℕ) → i < length (unsignedText n) → Digit (getD (unsignedText n) i 0)

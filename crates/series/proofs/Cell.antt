@@ -10,10 +10,10 @@ use Rattle.whole.specs.Bound.{fits, back, under-add, under-mul}
 use Rattle.whole.specs.SignedEnds.{SignedEnds, leastProduct, greatestProduct, outward}
 use Rattle.params.specs.declared.Params.{Params}
 use Rattle.params.specs.Set.{A, B, alpha, beta}
+use Rattle.ends.specs.EndLaws.{least-under, greatest-under}
+use Rattle.ends.proofs.Signed.{bits, read, read-floor, read-ceil, sum, product}
 use Rattle.series.specs.Series.{rateUnit, cellForce}
-use Rattle.series.specs.EndLaws.{least-under, greatest-under}
 use Rattle.series.specs.BoundLaws.{CellLimits, least-sum-under, greatest-sum-under, cellForce-under}
-use Rattle.series.proofs.Signed.{bits, read, read-floor, read-ceil, sum, product}
 
 module _ {p : Params} {x : ℕ} {k : ℤ} {e : SignedEnds} (l : CellLimits p x k e) where
   -- A + alpha
@@ -56,10 +56,10 @@ module _ {p : Params} {x : ℕ} {k : ℤ} {e : SignedEnds} (l : CellLimits p x k
       → q ≡ floorDiv y rateUnit → SFits w64 (f +ℤ bits q) × (bits (f +ℤ bits q) ≡ cellForce p x k e .lower)
   unfolding cellForce outward
   lower-end h g d =
-      sum h (read-floor rateUnit g (fits (least-sum-under l) tt) d) refl (fits (cellForce-under l .lower) tt)
+      sum h (read-floor rateUnit g (fits (least-sum-under l) tt) d) refl (fits (cellForce-under l .low) tt)
 
   pub upper-end : {f y q : ℤ} → f ≡ A p x +ℤ alpha p x → y ≡ B p x *ℤ k +ℤ greatestProduct (beta p x) e
       → q ≡ ceilDiv y rateUnit → SFits w64 (f +ℤ bits q) × (bits (f +ℤ bits q) ≡ cellForce p x k e .upper)
   unfolding cellForce outward
   upper-end h g d =
-      sum h (read-ceil rateUnit g (fits (greatest-sum-under l) tt) d) refl (fits (cellForce-under l .upper) tt)
+      sum h (read-ceil rateUnit g (fits (greatest-sum-under l) tt) d) refl (fits (cellForce-under l .high) tt)

@@ -10,9 +10,9 @@ use Rattle.whole.specs.SignedEnds.{SignedEnds, leastProduct, greatestProduct}
 use Rattle.params.specs.declared.Params.{Params}
 use Rattle.params.specs.Set.{B, alpha, beta, ages}
 use Rattle.params.specs.Limits.{levelLimit, slopeLimit, aLimit, periodLimit, kappaLimit, lastYears, inLimits}
-use Rattle.series.specs.Series.{periodIndex, kappaStep, kappa, cellForce, logForce}
-use Rattle.series.specs.EndLaws.{EndsUnder, least-under, greatest-under, outward-under}
 use Rattle.params.specs.LimitsLaws.{SeriesWithin, AgeWithin, in-limits-series, in-limits-age}
+use Rattle.ends.specs.EndLaws.{Within, least-under, greatest-under, outward-under}
+use Rattle.series.specs.Series.{periodIndex, kappaStep, kappa, cellForce, logForce}
 
 -- k + n·t lies between k and k + m·t
 between : (k t : ℤ) {n m b : ℕ} → n ≤ m → Under k b → Under (k +ℤ pos m *ℤ t) b → Under (k +ℤ pos n *ℤ t) b
@@ -37,14 +37,14 @@ unfolding periodIndex
 periodIndex-under p l h = between (p .period) (p .theta) h (l .period) (l .last)
 
 -- kappa, in every year
-pub kappaStep-under : {a : ℤ} {e : SignedEnds} → Under a aLimit → EndsUnder e kappaLimit
-    → EndsUnder (kappaStep a e) kappaLimit
+pub kappaStep-under : {a : ℤ} {e : SignedEnds} → Under a aLimit → Within kappaLimit e
+    → Within kappaLimit (kappaStep a e)
 unfolding kappaStep
 kappaStep-under u v = outward-under kappaLimit (lit< tt) (lit≤ tt) (least-under u v) (greatest-under u v)
 
-pub kappa-under : (p : Params) (n : ℕ) → SeriesWithin p → EndsUnder (kappa p n) kappaLimit
+pub kappa-under : (p : Params) (n : ℕ) → SeriesWithin p → Within kappaLimit (kappa p n)
 unfolding kappa
-kappa-under p zero l = record { lower = l .kappa; upper = l .kappa }
+kappa-under p zero l = record { low = l .kappa; high = l .kappa }
 kappa-under p (suc n) l = kappaStep-under (l .a) (kappa-under p n l)
 
 -- ---- the log force of a cell
@@ -63,7 +63,7 @@ forceLimit = levelLimit + levelLimit + quotientLimit
 pub record CellLimits (p : Params) (x : ℕ) (k : ℤ) (e : SignedEnds) : Type 0 where
   pub age : AgeWithin p x
   pub period : Under k periodLimit
-  pub kappas : EndsUnder e kappaLimit
+  pub kappas : Within kappaLimit e
 
 -- so it is for a set in its limits, in every year of a quote
 pub cell-limits : (p : Params) → T (inLimits p) → {x n : ℕ} → x < ages → n ≤ lastYears
@@ -82,14 +82,14 @@ pub greatest-sum-under : {p : Params} {x : ℕ} {k : ℤ} {e : SignedEnds} → C
 greatest-sum-under c = under-add (under-mul (c .age .slope) (c .period)) (greatest-under (c .age .beta) (c .kappas))
 
 pub cellForce-under : {p : Params} {x : ℕ} {k : ℤ} {e : SignedEnds} → CellLimits p x k e
-    → EndsUnder (cellForce p x k e) forceLimit
+    → Within forceLimit (cellForce p x k e)
 unfolding cellForce
 cellForce-under c =
     let u = under-add (c .age .level) (c .age .alpha) in
     let q = outward-under quotientLimit (lit< tt) (lit≤ tt) (least-sum-under c) (greatest-sum-under c) in
-    record { lower = under-add u (q .lower); upper = under-add u (q .upper) }
+    record { low = under-add u (q .low); high = under-add u (q .high) }
 
 pub logForce-under : (p : Params) → T (inLimits p) → {x n : ℕ} → x < ages → n ≤ lastYears
-    → EndsUnder (logForce p x n) forceLimit
+    → Within forceLimit (logForce p x n)
 unfolding logForce
 logForce-under p t hx hn = cellForce-under (cell-limits p t hx hn)

@@ -1,7 +1,7 @@
 -- The time series and the log force exactly (paper 01, "The exact value"): fractions, in the parameters' units of 10^-9.
 use Prim.Native.Nat.{ℕ, zero, suc, _<_}
 use lib.Dec.{lit<}
-use lib.IntN.{ℤ, pos, _+ℤ_, _*ℤ_}
+use lib.IntN.{_+ℤ_, _*ℤ_}
 use Rattle.fraction.specs.Fraction.{Fraction, wholeℚ, _+ℚ_, scaleℚ, quotientℚ}
 use Rattle.params.specs.declared.Params.{Params}
 use Rattle.params.specs.Set.{A, B, alpha, beta}

@@ -1,9 +1,7 @@
 -- definitions
 pub mod Series
 pub mod Exact
-pub mod Code
 -- laws
-pub mod EndLaws
 pub mod SeriesLaws
 pub mod WidthLaws
 pub mod BoundLaws

@@ -1,5 +1,5 @@
--- A log force m in range, negated: the ends of z = −m are natural numbers from 700,000,000 to 30,000,000,000, the lower
--- end of m gives the upper end of z, and z is as wide as m. They hold the exact log force, negated.
+-- A log force m in range, negated: the ends of z = −m are natural numbers between the bounds of the range, negated, the
+-- lower end of m gives the upper end of z, and z is as wide as m. They hold the exact log force, negated.
 use mathlib.Core.Path.{_≡_, refl}
 use Prim.Native.Nat.{ℕ, _+_, _≤_, _<_}
 use lib.Dec.{T}
@@ -13,9 +13,9 @@ use Rattle.fraction.specs.FractionLaws.{≤ℚ-trans, ≤ℚ-<ℚ-trans, negℚ
 use Rattle.params.specs.declared.Params.{Params}
 use Rattle.params.specs.Set.{ages}
 use Rattle.params.specs.Limits.{lastYears, inLimits}
+use Rattle.ends.specs.EndLaws.{Holds, Wide}
 use Rattle.series.specs.Series.{logForce, lowestForce, highestForce, inRange}
 use Rattle.series.specs.Exact.{exactLogForce}
-use Rattle.series.specs.EndLaws.{Holds, Wide}
 use Rattle.series.specs.SeriesLaws.{logForce-holds}
 use Rattle.series.specs.WidthLaws.{logForceWidth, logForce-wide}
 
@@ -33,8 +33,8 @@ in-range m t =
 
 -- the ends of z = −m
 pub record Negated (m : SignedEnds) (w : ℕ) : Type 0 where
-  pub least : 700000000 ≤ below (m .upper)
-  pub most : below (m .lower) ≤ 30000000000
+  pub least : below highestForce ≤ below (m .upper)
+  pub most : below (m .lower) ≤ below lowestForce
   pub ordered : below (m .upper) ≤ below (m .lower)
   pub width : below (m .lower) ≤ below (m .upper) + w
   pub lower : negℤ (m .lower) ≡ pos (below (m .lower))

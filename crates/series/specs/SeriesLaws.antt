@@ -7,9 +7,9 @@ use Rattle.fraction.specs.Fraction.{Fraction, _≤ℚ_, wholeℚ, _+ℚ_, scale
 use Rattle.fraction.specs.FractionLaws.{≤ℚ-refl, ≤ℚ-trans, +ℚ-mono, wholeℚ-+ℚ}
 use Rattle.params.specs.declared.Params.{Params}
 use Rattle.params.specs.Set.{A, B, alpha, beta}
+use Rattle.ends.specs.EndLaws.{Holds, least-product, greatest-product, outward-holds}
 use Rattle.series.specs.Series.{rateUnit, periodIndex, kappaStep, kappa, cellForce, logForce}
 use Rattle.series.specs.Exact.{perRate, exactKappa, exactLogForce}
-use Rattle.series.specs.EndLaws.{Holds, least-product, greatest-product, outward-holds}
 
 -- one year holds a·y/10^8
 pub kappaStep-holds : (a : ℤ) {e : SignedEnds} {y : Fraction} → Holds e y → Holds (kappaStep a e) (perRate (scaleℚ a y))

@@ -11,9 +11,9 @@ use Rattle.whole.specs.SignedEnds.{SignedEnds}
 use Rattle.params.specs.declared.Params.{Params}
 use Rattle.params.specs.Set.{A, B, alpha, beta, ages}
 use Rattle.params.specs.Limits.{slopeLimit, aLimit, lastYears, inLimits}
-use Rattle.series.specs.Series.{rateUnit, periodIndex, kappaStep, kappa, cellForce, logForce}
-use Rattle.series.specs.EndLaws.{Wide, product-width, outward-width}
 use Rattle.params.specs.LimitsLaws.{in-limits-series, in-limits-age}
+use Rattle.ends.specs.EndLaws.{Wide, product-width, outward-width}
+use Rattle.series.specs.Series.{rateUnit, periodIndex, kappaStep, kappa, cellForce, logForce}
 
 -- the greatest width of a log force in the years of a quote, in units
 abbrev pub logForceWidth : ℕ

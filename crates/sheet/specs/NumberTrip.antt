@@ -3,20 +3,24 @@ use mathlib.Core.Path.{_≡_, refl, ap, sym, _∙_}
 use mathlib.Core.Bool.{Bool, true, false, not, cond}
 use mathlib.Core.List.{List, [], _∷_, _++_, append-assoc, append-nil}
 use Prim.Native.Nat.{ℕ, zero, suc, _+_, _-_, _*_, _/_, _%_, _^_, _≤_, _<_}
-use native.Mathlib.Nat.{pow-suc, mul-le-mul-left, pow-le-pow-right, zero-lt-suc, lt-of-lt-of-le}
+use native.Mathlib.Nat.{pow-suc, zero-lt-suc}
 use native.Mathlib.Nat.{div-add-mod', mod-lt, add-zero, add-suc, suc-add}
 use native.Mathlib.Omega.{arith}
-use borrow.Author.Tests.{lt-ltb, le-ltb, ne-eqb, ltb-true, ltb-false, eqb-false, eqb-true}
+use borrow.Author.Tests.{ne-eqb, eqb-false, eqb-true}
 use lib.Arith.{digits-div, digits-mod}
-use lib.Dec.{T, leb, ltb, eqb, leb→le, le→leb}
+use lib.Dec.{T, leb, eqb, le→leb}
 use lib.Ieee.Bits.{is-true, is-false}
-use lib.Ieee.Fits.{and-i, and-l, and-r}
+use lib.Ieee.Fits.{and-i, and-l}
 use lib.IntN.{ℤ, pos, negsuc, natAbs}
-use lib.ListN.{length, length-append}
+use lib.ListN.{length}
 use Rattle.tokens.specs.Text.{Parse, torn, taken}
 use Rattle.tokens.specs.Number.{zeroDigit, minusSign, isDigit, digits, afterDigits, valueFrom, value}
 use Rattle.tokens.specs.Number.{noLeadingZero, wellFormed, readUnsigned, negated, positive, readNumber}
 use Rattle.tokens.specs.Number.{decimal, unsignedText, numberText}
+use Rattle.tokens.specs.DigitLaws.{digit-between, digit-bounds, digits-more, digits-end, after-more, after-end}
+use Rattle.tokens.specs.DigitLaws.{digits-split, well-bounds}
+use Rattle.tokens.specs.DecimalLaws.{decimal-last, decimal-more, by-size, unsigned-length}
+use Rattle.tokens.specs.NumberLaws.{digits-taken}
 
 -- the bytes do not begin with a digit
 abbrev pub noDigitFirst : List ℕ → Bool
@@ -26,57 +30,33 @@ noDigitFirst (b ∷ bs) = not (isDigit b)
 -- each byte is a digit
 abbrev AllDigits : List ℕ → Type 0
 AllDigits [] = Unit
-AllDigits (d ∷ ds) = T (isDigit d) × AllDigits ds
+AllDigits (d ∷ ds) = (isDigit d ≡ true) × AllDigits ds
 
 -- ---- digits at the front
-
-digit-range : (b : ℕ) → T (isDigit b) → (48 ≤ b) × (b ≤ 57)
-unfolding isDigit
-digit-range b t = (leb→le 48 b (and-l (leb 48 b) (leb b 57) t), leb→le b 57 (and-r (leb 48 b) (leb b 57) t))
-
-range-digit : (b : ℕ) → 48 ≤ b → b ≤ 57 → T (isDigit b)
-unfolding isDigit
-range-digit b l h = and-i (leb 48 b) (leb b 57) (le→leb 48 b l) (le→leb b 57 h)
-
-digits-more : (b : ℕ) (bs : List ℕ) → isDigit b ≡ true
-    → (digits (b ∷ bs) ≡ b ∷ digits bs) × (afterDigits (b ∷ bs) ≡ afterDigits bs)
-unfolding digits afterDigits
-digits-more b bs e = (rw (e, digits), rw (e, afterDigits))
-
-digits-end : (b : ℕ) (bs : List ℕ) → isDigit b ≡ false → (digits (b ∷ bs) ≡ []) × (afterDigits (b ∷ bs) ≡ b ∷ bs)
-unfolding digits afterDigits
-digits-end b bs e = (rw (e, digits), rw (e, afterDigits))
 
 digits-front : (ds rest : List ℕ) → AllDigits ds → T (noDigitFirst rest)
     → (digits (ds ++ rest) ≡ ds) × (afterDigits (ds ++ rest) ≡ rest)
 unfolding digits afterDigits
 digits-front [] [] a n = (refl, refl)
-digits-front [] (b ∷ bs) a n = digits-end b bs (is-false (isDigit b) n)
+digits-front [] (b ∷ bs) a n = let e = is-false (isDigit b) n in (digits-end b bs e, after-end b bs e)
 digits-front (d ∷ ds) rest a n =
-    let m = digits-more d (ds ++ rest) (is-true (isDigit d) (a .0)) in
     let h = digits-front ds rest (a .1) n in
-    (rw (m .0, h .0), rw (m .1, h .1))
+    (rw (digits-more d (ds ++ rest) (a .0), h .0), rw (after-more d (ds ++ rest) (a .0), h .1))
 
--- what is read as digits and what follows make up the whole
-record Front (bs ds rest : List ℕ) : Type 0 where
-  whole : ds ++ rest ≡ bs
+-- what is read as digits, and what follows
+record Front (ds rest : List ℕ) : Type 0 where
   all : AllDigits ds
   ends : T (noDigitFirst rest)
 
-front : (bs : List ℕ) → Front bs (digits bs) (afterDigits bs)
+front : (bs : List ℕ) → Front (digits bs) (afterDigits bs)
 unfolding digits afterDigits
-front [] = record { whole = refl; all = tt; ends = tt }
+front [] = record { all = tt; ends = tt }
 front (b ∷ bs) = go (isDigit b) refl (front bs)
   where
-    go : (c : Bool) → isDigit b ≡ c → Front bs (digits bs) (afterDigits bs)
-        → Front (b ∷ bs) (digits (b ∷ bs)) (afterDigits (b ∷ bs))
-    go true e f =
-        let m = digits-more b bs e in
-        let w = ap (λ (l : List ℕ). b ∷ l) (f .whole) in
-        rw (m .0, m .1) (record { whole = w; all = (rw e tt, f .all); ends = f .ends })
-    go false e f =
-        let m = digits-end b bs e in
-        rw (m .0, m .1) (record { whole = refl; all = tt; ends = rw e tt })
+    go : (c : Bool) → isDigit b ≡ c → Front (digits bs) (afterDigits bs)
+        → Front (digits (b ∷ bs)) (afterDigits (b ∷ bs))
+    go true e f = rw (digits-more b bs e, after-more b bs e) (record { all = (e, f .all); ends = f .ends })
+    go false e f = rw (digits-end b bs e, after-end b bs e) (record { all = tt; ends = rw e tt })
 
 -- ---- the number that digits stand for
 
@@ -85,35 +65,7 @@ unfolding valueFrom
 valueFrom-append n [] es = refl
 valueFrom-append n (d ∷ ds) es = valueFrom-append (n * 10 + (d - zeroDigit)) ds es
 
-value-step : (n d b p : ℕ) → d ≤ 9 → b < suc (n * 10 + d) * p → b < suc n * (p * 10)
-value-step n d b p h k = lt-of-lt-of-le k (omega (arith, mul-le-mul-left p h))
-
--- k digits after those of n stay below (n + 1)·10^k
-value-bound : (n : ℕ) (ds : List ℕ) → AllDigits ds → valueFrom n ds < suc n * 10 ^ length ds
-unfolding valueFrom
-value-bound n [] a = omega arith
-value-bound n (d ∷ ds) a =
-    let r = digit-range d (a .0) in
-    rw (pow-suc 10 (length ds))
-    (value-step n (d - zeroDigit) (valueFrom (n * 10 + (d - zeroDigit)) ds) (10 ^ length ds) (omega arith)
-    (value-bound (n * 10 + (d - zeroDigit)) ds (a .1)))
-
 -- ---- decimal digits
-
-decimal-last : (m n : ℕ) → n < 10 → decimal (suc m) n ≡ (zeroDigit + n) ∷ []
-unfolding decimal
-decimal-last m n h = rw (lt-ltb n 10 h, decimal)
-
-decimal-more : (m n : ℕ) → 10 ≤ n → decimal (suc m) n ≡ decimal m (n / 10) ++ ((zeroDigit + n % 10) ∷ [])
-unfolding decimal
-decimal-more m n h = rw (le-ltb n 10 h, decimal)
-
-by-size : {P : Type 0} (n : ℕ) → (n < 10 → P) → (10 ≤ n → P) → P
-by-size {P} n f g = go (ltb n 10) refl
-  where
-    go : (c : Bool) → ltb n 10 ≡ c → P
-    go true e = f (ltb-true n 10 e)
-    go false e = g (ltb-false n 10 e)
 
 all-append : (ds es : List ℕ) → AllDigits ds → AllDigits es → AllDigits (ds ++ es)
 all-append [] es a b = b
@@ -123,17 +75,10 @@ decimal-all : (m n : ℕ) → AllDigits (decimal m n)
 unfolding decimal
 decimal-all zero n = tt
 decimal-all (suc m) n = by-size n
-    (λ h. rw (decimal-last m n h) (range-digit (48 + n) (omega arith) (omega arith), tt))
+    (λ h. rw (decimal-last m n h) (digit-between (48 + n) (omega arith) (omega arith), tt))
     (λ h. rw (decimal-more m n h)
     (all-append (decimal m (n / 10)) _ (decimal-all m (n / 10))
-    (range-digit (48 + n % 10) (omega arith) (omega (arith, mod-lt n {m = 10} (zero-lt-suc 9))), tt)))
-
-decimal-short : (m n : ℕ) → length (decimal m n) ≤ m
-unfolding decimal
-decimal-short zero n = omega arith
-decimal-short (suc m) n = by-size n
-    (λ h. rw (decimal-last m n h) (omega arith))
-    (λ h. rw (decimal-more m n h, length-append) (omega (arith, decimal-short m (n / 10))))
+    (digit-between (48 + n % 10) (omega arith) (omega (arith, mod-lt n {m = 10} (zero-lt-suc 9))), tt)))
 
 tenth : (m n : ℕ) → n < 10 ^ suc m → n / 10 < 10 ^ m
 tenth m n h = let h′ = rw (pow-suc 10 m) at h in omega arith
@@ -179,9 +124,9 @@ decimal-no-leading m n h = by-size n
     (λ k. first-no-leading (decimal (suc m) n) (decimal-first (suc m) n (omega arith) h))
 
 -- one digit after those of a number that is not 0, and several
-decimal-push : (m n d : ℕ) → 0 < n → T (isDigit d) → decimal (suc m) (n * 10 + (d - zeroDigit)) ≡ decimal m n ++ (d ∷ [])
+decimal-push : (m n d : ℕ) → 0 < n → isDigit d ≡ true → decimal (suc m) (n * 10 + (d - zeroDigit)) ≡ decimal m n ++ (d ∷ [])
 decimal-push m n d p a =
-    let r = digit-range d a in
+    let r = digit-bounds d a in
     let h : d - 48 < 10 = omega arith in
     let e : 48 + (d - 48) ≡ d = omega arith in
     rw (decimal-more m (n * 10 + (d - 48)) (omega arith), digits-div n h, digits-mod n h, e)
@@ -205,11 +150,11 @@ value-decimal : (m : ℕ) (ds : List ℕ) → AllDigits ds → T (noLeadingZero 
 unfolding valueFrom noLeadingZero
 value-decimal m [] a t h = absurd t
 value-decimal m (d ∷ []) a t h =
-    let r = digit-range d (a .0) in
+    let r = digit-bounds d (a .0) in
     let e : 48 + (0 * 10 + (d - 48)) ≡ d = omega arith in
     rw (decimal-last m (0 * 10 + (d - 48)) (omega arith), e)
 value-decimal m (d ∷ e ∷ ds) a t h =
-    let r = digit-range d (a .0) in
+    let r = digit-bounds d (a .0) in
     let q = eqb-false d 48 (is-false (eqb d 48) t) in
     let k = m - length (e ∷ ds) in
     let z : suc k + length (e ∷ ds) ≡ suc m = omega arith in
@@ -229,7 +174,7 @@ unfolding readUnsigned unsignedText wellFormed
 unsigned-reads n rest h t =
     let f = digits-front (decimal 15 n) rest (decimal-all 15 n) t in
     let w = is-true (wellFormed (decimal 15 n)) (and-i (noLeadingZero (decimal 15 n)) (leb (length (decimal 15 n)) 15)
-    (decimal-no-leading 14 n h) (le→leb (length (decimal 15 n)) 15 (decimal-short 15 n))) in
+    (decimal-no-leading 14 n h) (le→leb (length (decimal 15 n)) 15 (unsigned-length n .1))) in
     rw (f .0, f .1, w, decimal-value 15 n h)
 
 -- what was read, and where it ends
@@ -252,18 +197,15 @@ unsigned-read bs n rest e = go (wellFormed (digits bs)) refl e
         let f = front bs in
         let t : T (wellFormed (digits bs)) = rw w tt in
         let z = and-l (noLeadingZero (digits bs)) (leb (length (digits bs)) 15) t in
-        let l = and-r (noLeadingZero (digits bs)) (leb (length (digits bs)) 15) t in
-        let h = leb→le (length (digits bs)) 15 l in
-        let d = value-decimal 14 (digits bs) (f .all) z h in
-        let b = value-bound 0 (digits bs) (f .all) in
-        let k = pow-le-pow-right {n = 10} (zero-lt-suc 9) h in
-        rw (← v, ← r) (record { is = rw (d, f .whole); small = omega arith; ends = f .ends })
+        let d = value-decimal 14 (digits bs) (f .all) z (well-bounds (digits bs) w .1) in
+        rw (← v, ← r)
+        (record { is = rw (d, digits-split bs); small = digits-taken bs w .small; ends = f .ends })
     go false w q = torn-not-taken q
 
 -- ---- a number
 
-digit-not-minus : (b : ℕ) → T (isDigit b) → eqb b minusSign ≡ false
-digit-not-minus b t = let r = digit-range b t in ne-eqb b 45 (omega arith)
+digit-not-minus : (b : ℕ) → isDigit b ≡ true → eqb b minusSign ≡ false
+digit-not-minus b t = let r = digit-bounds b t in ne-eqb b 45 (omega arith)
 
 -- bytes that begin with a digit are read without a sign
 number-positive : (ds rest : List ℕ) → T (noLeadingZero ds) → AllDigits ds
@@ -318,9 +260,3 @@ number-read (b ∷ bs) v rest e = go (eqb b minusSign) refl e
         → TextOf (numberText v) (natAbs v) (b ∷ bs) rest
     go true w q = rw (eqb-true b 45 w) (negated-read bs v rest (readUnsigned bs) refl q)
     go false w q = positive-read (b ∷ bs) v rest (readUnsigned (b ∷ bs)) refl q
-
--- a number's text has at most a sign and 15 digits
-pub number-short : (v : ℤ) → length (numberText v) ≤ 16
-unfolding numberText unsignedText
-number-short (pos n) = omega (arith, decimal-short 15 n)
-number-short (negsuc n) = omega (arith, decimal-short 15 (suc n))

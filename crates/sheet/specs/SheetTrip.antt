@@ -15,6 +15,7 @@ use Rattle.tokens.specs.Text.{bytesOf, Parse, torn, taken, takeText}
 use Rattle.tokens.specs.Steps.{andThen, goes}
 use Rattle.tokens.specs.TextLaws.{takeText-split, takeText-whole}
 use Rattle.tokens.specs.Number.{isDigit, readNumber, numberText, unsignedText, decimal}
+use Rattle.tokens.specs.DecimalLaws.{number-length}
 use Rattle.whole.specs.Bound.{Under}
 use Rattle.params.specs.declared.Params.{Params}
 use Rattle.params.specs.declared.Sex.{Sex}
@@ -29,7 +30,7 @@ use Rattle.sheet.specs.Sheet.{mostBytes, forAges, ageKeys, keys, ageValu
 use Rattle.sheet.specs.Sheet.{sheetText, readLine, readLines, readHead, paramsOf, readSet}
 use Rattle.sheet.specs.Sheet.{refused, judged, readSheet}
 use Rattle.params.specs.LimitsLaws.{in-limits-age, in-limits-series}
-use Rattle.sheet.specs.NumberTrip.{torn-not-taken, number-reads, number-read, number-short}
+use Rattle.sheet.specs.NumberTrip.{torn-not-taken, number-reads, number-read}
 use Rattle.sheet.specs.SetTrip.{keys-length, values-length, values-params, params-values}
 use Rattle.sheet.specs.SetTrip.{params-whole, blank-whole}
 
@@ -232,7 +233,7 @@ lines-short (k ∷ ks) [] t = omega arith
 lines-short (k ∷ ks) (v ∷ vs) t =
     let h = leb→le (length k) 5 (and-l (leb (length k) 5) (allShort ks) t) in
     let l = lines-short ks vs (and-r (leb (length k) 5) (allShort ks) t) in
-    simp length-append (omega (arith, number-short v))
+    simp length-append (omega (arith, number-length v))
 
 head-length : (sex : Sex) → length (headText sex) ≡ 19
 unfolding headText bytesOf

@@ -1,9 +1,11 @@
 -- The sheet in the steps of the code: its length, its first two lines, its other lines to their end, and the limits.
-use mathlib.Core.Path.{_≡_, refl, sym, _∙_}
+use mathlib.Core.Path.{_≡_, refl, sym, ap, _∙_}
 use Prim.Native.Nat.{ℕ, _≤_, _<_}
-use mathlib.Core.Bool.{true, false}
+use native.Mathlib.Omega.{arith}
+use mathlib.Core.Bool.{Bool, true, false, cond}
 use mathlib.Core.List.{List, [], _∷_}
-use borrow.Author.Tests.{le-leb, lt-leb}
+use borrow.Author.Tests.{le-leb, lt-leb, leb-true, leb-false}
+use lib.Dec.{leb}
 use lib.IntN.{ℤ}
 use lib.ListN.{length, drop, drop-of-length-le}
 use lib.Seq.{drop-cons}
@@ -11,15 +13,19 @@ use Rattle.tokens.specs.Text.{bytesOf, Parse, torn, taken, takeText}
 use Rattle.tokens.specs.Places.{textAt}
 use Rattle.tokens.specs.TextLaws.{text-found, text-missing}
 use Rattle.params.specs.declared.Params.{Params}
+use Rattle.params.specs.declared.Refusal.{Refusal}
 use Rattle.params.specs.declared.Refusal.the-variants.{Accepted, Torn, OffScale}
 use Rattle.params.specs.declared.Sex.{Sex}
 use Rattle.params.specs.declared.Sex.the-variants.{M, F}
+use Rattle.params.specs.Refusals.{refusalNumber}
 use Rattle.params.specs.Set.{blank}
 use Rattle.params.specs.Limits.{inLimits}
 use Rattle.sheet.specs.Sheet.{mostBytes, keys, headText, readLines, readHead, paramsOf, readSet}
 use Rattle.sheet.specs.Sheet.{refused, judged, readSheet}
-use Rattle.sheet_reader.specs.declared.SetRead.{SetRead}
-use Rattle.sheet_reader.specs.Read.{setRead, afterHead, fromLines, whole}
+use Rattle.sheet_ages.specs.declared.SetRead.{SetRead}
+use Rattle.sheet_ages.specs.Ages.{setRead}
+use Rattle.sheet_set.specs.SetLines.{afterHead, fromLines}
+use Rattle.sheet_reader.specs.Read.{whole, atEnd, refusalOf}
 use Rattle.tokens.specs.Steps.{goes, stops}
 
 -- ---- its length
@@ -75,34 +81,85 @@ module _ (bs : List ℕ) where
         at-none : takeText (headText M) bs ≡ torn → takeText (headText F) bs ≡ torn → readHead bs ≡ torn
         at-none d e = rw (d, readHead) (rw e)
 
--- ---- what the code read, to the sheet's end
+-- ---- to the sheet's end
+
+-- nothing follows, the lines are torn, or something follows
+pub ended : {ok : Bool} {next n : ℕ} → ok ≡ true → n ≤ next → atEnd ok next n ≡ true
+unfolding atEnd
+ended {next} {n} e h = rw (e, le-leb n next h)
+
+pub unread : {ok : Bool} (next n : ℕ) → ok ≡ false → atEnd ok next n ≡ false
+unfolding atEnd
+unread next n e = rw e
+
+pub followed : {ok : Bool} {next n : ℕ} → ok ≡ true → next < n → atEnd ok next n ≡ false
+unfolding atEnd
+followed {next} {n} e h = rw (e, lt-leb n next h)
+
+module _ (bytes : List ℕ) (r : SetRead) where
+  -- what the code read is the set, where it came to the sheet's end
+  whole-set : whole (setRead bytes r) ≡ cond (atEnd (r .ok) (r .next) (length bytes)) (taken (r .set) []) torn
+  unfolding whole
+  whole-set = go (r .ok) refl (leb (length bytes) (r .next)) refl
+    where
+      go : (b : Bool) → r .ok ≡ b → (c : Bool) → leb (length bytes) (r .next) ≡ c
+          → whole (setRead bytes r) ≡ cond (atEnd (r .ok) (r .next) (length bytes)) (taken (r .set) []) torn
+      go false e c f = rw (unread (r .next) (length bytes) e, e)
+      go true e true f =
+          let h = leb-true (length bytes) (r .next) f in
+          rw (ended e h, e, drop-of-length-le bytes h)
+      go true e false f =
+          let h = leb-false (length bytes) (r .next) f in
+          rw (followed e h, e, drop-cons bytes (r .next) 0 h)
+
+-- ---- the refusal
+
+-- the cases in their order: torn, whatever the limits say, then off scale, then accepted
+pub torn-first : {w : Bool} (i : Bool) → w ≡ false → refusalOf w i ≡ Torn
+unfolding refusalOf
+torn-first i e = rw e
+
+pub then-off-scale : {w i : Bool} → w ≡ true → i ≡ false → refusalOf w i ≡ OffScale
+unfolding refusalOf
+then-off-scale e f = rw (e, f)
+
+pub then-accepted : {w i : Bool} → w ≡ true → i ≡ true → refusalOf w i ≡ Accepted
+unfolding refusalOf
+then-accepted e f = rw (e, f)
+
+-- what is decided on a set that the code read
+abbrev pub decided : List ℕ → SetRead → Refusal
+decided bytes r = refusalOf (atEnd (r .ok) (r .next) (length bytes)) (inLimits (r .set))
+
+module _ (p : Params) where
+  -- a refusal is given with the blank set
+  gives-refusal : (w i : Bool) → inLimits p ≡ i → (refusalNumber (refusalOf w i) ≡ 0 → ⊥)
+      → judged (cond w (taken p []) torn) ≡ refused (refusalOf w i)
+  unfolding judged refusalOf refusalNumber
+  gives-refusal true true e h = absurd (h refl)
+  gives-refusal true false e h = rw e
+  gives-refusal false i e h = refl
+
+  -- and where there is none, the set is the one that was read
+  gives-set : (w i : Bool) → inLimits p ≡ i → refusalNumber (refusalOf w i) ≡ 0
+      → judged (cond w (taken p []) torn) ≡ record { refusal = refusalOf w i; set = p }
+  unfolding judged refusalOf refusalNumber
+  gives-set true true e h = rw e
+  gives-set true false e h = absurd (omega arith)
+  gives-set false i e h = absurd (omega arith)
 
 module _ (bytes : List ℕ) (r : SetRead) (q : Parse Params) (e : setRead bytes r ≡ q) where
-  pub set-torn : r .ok ≡ false → judged (whole q) ≡ refused Torn
-  unfolding whole judged
-  set-torn h = let k : q ≡ torn = sym e ∙ rw h in rw k
+  -- so it is with the reading that the result stands for
+  read-whole : whole q ≡ cond (atEnd (r .ok) (r .next) (length bytes)) (taken (r .set) []) torn
+  read-whole = ap whole (sym e) ∙ whole-set bytes r
 
-  module _ (h : r .ok ≡ true) where
-    -- something follows
-    pub set-more : r .next < length bytes → judged (whole q) ≡ refused Torn
-    unfolding whole judged
-    set-more l =
-        let k : q ≡ taken (r .set) (drop (r .next) bytes) = sym e ∙ rw h in
-        rw (k, drop-cons bytes (r .next) 0 l)
+  pub set-refused : {f : Refusal} {s : Params} → f ≡ decided bytes r → s ≡ blank → (refusalNumber f ≡ 0 → ⊥)
+      → judged (whole q) ≡ record { refusal = f; set = s }
+  unfolding refused
+  set-refused d b h =
+      rw (d, b) (ap judged read-whole ∙ gives-refusal (r .set) _ _ refl (λ k. h (ap refusalNumber d ∙ k)))
 
-    -- nothing follows
-    set-whole : length bytes ≤ r .next → whole q ≡ taken (r .set) []
-    unfolding whole
-    set-whole l =
-        let k : q ≡ taken (r .set) (drop (r .next) bytes) = sym e ∙ rw h in
-        rw (k, drop-of-length-le bytes l)
-
-    pub set-off-scale : length bytes ≤ r .next → inLimits (r .set) ≡ false → {s : Params} → s ≡ blank
-        → judged (whole q) ≡ record { refusal = OffScale; set = s }
-    unfolding judged refused
-    set-off-scale l i b = rw (set-whole l, i, b)
-
-    pub set-accepted : length bytes ≤ r .next → inLimits (r .set) ≡ true
-        → judged (whole q) ≡ record { refusal = Accepted; set = r .set }
-    unfolding judged
-    set-accepted l i = rw (set-whole l, i)
+  pub set-accepted : {f : Refusal} → f ≡ decided bytes r → refusalNumber f ≡ 0
+      → judged (whole q) ≡ record { refusal = f; set = r .set }
+  set-accepted d h =
+      rw d (ap judged read-whole ∙ gives-set (r .set) _ _ refl (ap refusalNumber (sym d) ∙ h))

@@ -9,4 +9,5 @@ pub mod Rows
 pub mod Steps
 pub mod TextLaws
 pub mod DigitLaws
+pub mod DecimalLaws
 pub mod NumberLaws

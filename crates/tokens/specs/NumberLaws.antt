@@ -32,7 +32,8 @@ later b {bs} {rest} t =
     let e : suc (length bs) - length rest ≡ suc (length bs - length rest) = omega (arith, t .shorter) in
     record { small = t .small; shorter = omega (arith, t .shorter); left = rw e (t .left) }
 
-digits-taken : (bs : List ℕ) → wellFormed (digits bs) ≡ true → Taken bs (value (digits bs)) (afterDigits bs)
+-- digits that are a number
+pub digits-taken : (bs : List ℕ) → wellFormed (digits bs) ≡ true → Taken bs (value (digits bs)) (afterDigits bs)
 digits-taken bs e =
     let w = well-bounds (digits bs) e in
     let q : length bs - length (afterDigits bs) ≡ length (digits bs) = omega (arith, digits-length bs) in

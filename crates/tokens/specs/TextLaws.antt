@@ -1,7 +1,7 @@
 -- Reading a text: it succeeds exactly where the bytes begin with the text, and leaves what follows it. The last laws pass
 -- from a place in a slice to the bytes from that place on.
 use mathlib.Core.Path.{_≡_, refl, sym, ap, _∙_}
-use Prim.Native.Nat.{ℕ, _+_, _≤_}
+use Prim.Native.Nat.{ℕ, _+_, _-_, _≤_}
 use native.Mathlib.Omega.{arith}
 use mathlib.Core.Bool.{Bool, true, false}
 use mathlib.Core.List.{List, [], _∷_, _++_}
@@ -84,10 +84,10 @@ text-found bytes at text e = go (takeText text (drop at bytes)) refl e
     go torn q h = cc
     go (taken u rest) q h = q ∙ ap (taken tt) (takeText-rest text (drop at bytes) q ∙ drop-drop (length text) at bytes)
 
--- it lies within the bytes
-pub text-room : (bytes : List ℕ) (at : ℕ) (text : List ℕ) → at ≤ length bytes → textAt bytes at text ≡ true
-    → at + length text ≤ length bytes
-text-room bytes at text h e =
+-- it lies within the bytes from the place on
+pub text-room : (bytes : List ℕ) (at : ℕ) (text : List ℕ) → textAt bytes at text ≡ true
+    → at + length text ≤ at + (length bytes - at)
+text-room bytes at text e =
     omega (arith, takeText-room text (drop at bytes) (text-found bytes at text e), length-drop at bytes)
 
 -- a text that is not found is torn

@@ -6,13 +6,13 @@ use native.Mathlib.Omega.{arith}
 use borrow.Author.Needs.{needs}
 use Rattle.whole.specs.Bound.{fits}
 use Rattle.whole.specs.SignedEnds.{SignedEnds, outward}
-use Rattle.series.specs.Code.{endsOf}
-use Rattle.series.proofs.Signed.{bits, read, read-floor, read-ceil, ends}
-use Rattle.closure.specs.Weights.{fitted, weightUnit, weight}
+use Rattle.ends.specs.Code.{endsOf}
+use Rattle.ends.specs.EndLaws.{Within}
+use Rattle.ends.proofs.Signed.{bits, read, read-floor, read-ceil, ends}
+use Rattle.weights.specs.Weights.{fitted, weightUnit, weight}
+use Rattle.weights.specs.WeightLaws.{weight-under}
 use Rattle.closure.specs.Closure.{leastSum, greatestSum, closedSum}
-use Rattle.closure.specs.Units.{Within}
 use Rattle.closure.specs.Code.{listOf, sumsLimit}
-use Rattle.closure.proofs.Table.{weight-under}
 use Rattle.closure.proofs.Sums.{sumsTo, sums-next, ends-within, sums-within}
 use Rattle.closure.proofs.closed_sum.Statement.{statement}
 use Rattle.closure.proofs.closed_sum.Tie as tie
@@ -74,17 +74,17 @@ loop-again c =
     let e = rw (l .loop .inv .0, weight-read (c .before)) at (c .add-product .ensures) in
     (e ∙ sums-next (s .args .x) (s .args .t2) (l .loop .i), omega arith)
 
-floor-div-requires : tie.Need-floor-div-requires Inv-loop μ-loop
-floor-div-requires c κs = search needs
+outward-div-requires : tie.Need-outward-div-requires Inv-loop μ-loop
+outward-div-requires c κs = search needs
 
-ceil-div-requires : tie.Need-ceil-div-requires Inv-loop μ-loop
-ceil-div-requires c κs = search needs
+outward-div-requires-2 : tie.Need-outward-div-requires-2 Inv-loop μ-loop
+outward-div-requires-2 c κs = search needs
 
 returns : tie.Need-returns Inv-loop μ-loop
 unfolding closedSum outward
 returns c =
-    let f = c .before .before in
-    let l = f .before .before .before in
+    let f = c .before in
+    let l = f .before .before .before .before in
     let s = l .before in
     let p = s .pre in
     let i : l .loop .i ≡ fitted = omega arith in
@@ -92,8 +92,8 @@ returns c =
     let u = sums-within (listOf (s .args .t2)) (p .0) (p .1) (p .2) fitted (omega arith) in
     let low = fits (u .low) tt in
     let high = fits (u .high) tt in
-    ends (read-floor weightUnit (read (ap (λ (k : SignedEnds). k .lower) e) low) low (f .floor-div .ensures))
-    (read-ceil weightUnit (read (ap (λ (k : SignedEnds). k .upper) e) high) high (c .ceil-div .ensures))
+    ends (read-floor weightUnit (read (ap (λ (k : SignedEnds). k .lower) e) low) low (f .outward-div .ensures))
+    (read-ceil weightUnit (read (ap (λ (k : SignedEnds). k .upper) e) high) high (c .outward-div2 .ensures))
 
 pub closed-sum-spec : {M : Type 1} → statement M
 closed-sum-spec =
@@ -109,6 +109,6 @@ closed-sum-spec =
     add-i
     loop-less
     loop-again
-    floor-div-requires
-    ceil-div-requires
+    outward-div-requires
+    outward-div-requires-2
     returns)

@@ -1,8 +1,7 @@
 -- `print_old` is safe and ends. The loop's invariant: x is a closed age; the measure is how many are left.
 use borrow.Author.Needs.{needs}
 use Prim.Native.Nat.{_≤_, _-_}
-use Rattle.closure.specs.Weights.{firstClosed}
-use Rattle.closure.specs.Totals.{lastClosed}
+use Rattle.weights.specs.Weights.{firstClosed, lastClosed}
 use Rattle.columns.proofs.print_old.Statement.{statement}
 use Rattle.columns.proofs.print_old.Tie as tie
 

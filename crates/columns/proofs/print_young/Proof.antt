@@ -2,7 +2,7 @@
 -- ages are left.
 use borrow.Author.Needs.{needs}
 use Prim.Native.Nat.{_≤_, _-_}
-use Rattle.closure.specs.Weights.{firstClosed}
+use Rattle.weights.specs.Weights.{firstClosed}
 use Rattle.columns.proofs.print_young.Statement.{statement}
 use Rattle.columns.proofs.print_young.Tie as tie
 

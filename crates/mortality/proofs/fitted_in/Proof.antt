@@ -12,8 +12,9 @@ use Rattle.expo.specs.Exponential.{expBetween}
 use Rattle.series.specs.Series.{logForce, inRange}
 use Rattle.series.specs.RangeLaws.{logForce-negated}
 use Rattle.logarithm.specs.Logarithm.{inverseLogistic}
-use Rattle.closure.specs.Weights.{firstFitted, fitted}
-use Rattle.mortality.specs.Cell.{negated, youngForce, fittedEnds}
+use Rattle.weights.specs.Weights.{firstFitted, fitted}
+use Rattle.force.specs.Force.{negated}
+use Rattle.mortality.specs.Cell.{youngForce, fittedEnds}
 use Rattle.mortality.proofs.Filled.{Filled, filled-none, filled-more, filled-out, filled-all}
 use Rattle.mortality.proofs.fitted_in.Statement.{statement}
 use Rattle.mortality.proofs.fitted_in.Tie as tie

@@ -4,10 +4,11 @@ use borrow.Author.Needs.{needs}
 use borrow.Author.Tests.{not-true, not-false}
 use Rattle.expo.specs.Grid.{Ends}
 use Rattle.expo.specs.Billionths.{billionths}
-use Rattle.closure.specs.Closure.{logistic}
+use Rattle.logistic.specs.Logistic.{logistic}
 use Rattle.closure.specs.Code.{InLimit}
 use Rattle.mortality.specs.declared.Cell.the-variants.{Of}
-use Rattle.mortality.specs.Code.{deathOf, coded}
+use Rattle.force.specs.Force.{deathOf}
+use Rattle.mortality.specs.Code.{coded}
 use Rattle.mortality.proofs.Answers.{closed-within, old-steep, old-of}
 use Rattle.mortality.proofs.old_cell.Statement.{statement}
 use Rattle.mortality.proofs.old_cell.Tie as tie
@@ -45,7 +46,7 @@ returns-2 c =
     let s = e .before .before in
     λ p n h.
     ap (λ (q : Ends). Of (coded q))
-    (c .death-of .ensures ∙ ap deathOf (l .logistic .ensures ∙ ap (logistic billionths) (g .closed-sum .ensures)))
+    (c .death-of .ensures ∙ ap (deathOf billionths) (l .logistic .ensures ∙ ap (logistic billionths) (g .closed-sum .ensures)))
     ∙ old-of p (s .args .x) n (s .args .f) h (s .pre .0) (not-false _ (e .if1 .left))
 
 pub old-cell-spec : {M : Type 1} → statement M

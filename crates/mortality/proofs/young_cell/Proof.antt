@@ -10,8 +10,9 @@ use Rattle.whole.specs.SignedEnds.{SignedEnds}
 use Rattle.series.specs.Series.{logForce, inRange}
 use Rattle.series.specs.RangeLaws.{logForce-negated}
 use Rattle.mortality.specs.declared.Cell.the-variants.{Of}
-use Rattle.mortality.specs.Cell.{negated}
-use Rattle.mortality.specs.Code.{deathOf, coded}
+use Rattle.force.specs.Force.{negated}
+use Rattle.force.specs.Force.{deathOf}
+use Rattle.mortality.specs.Code.{coded}
 use Rattle.mortality.proofs.Answers.{young-steep, young-of}
 use Rattle.mortality.proofs.young_cell.Statement.{statement}
 use Rattle.mortality.proofs.young_cell.Tie as tie
@@ -37,26 +38,22 @@ returns c =
     young-steep (s .args .p) (s .args .x) (s .args .y .number) (s .pre .1)
     (sym (tested (c .before)) ∙ not-true _ (c .if1 .taken))
 
-force-to-90-requires : tie.Need-force-to-90-requires
-force-to-90-requires c κs =
+death-to-90-requires : tie.Need-death-to-90-requires
+death-to-90-requires c κs =
     let m = c .before .before in
     let s = m .before in
     let h = s .pre .0 in
     rw (m .log-force-at .ensures)
     (logForce-negated (s .args .p) (h .limits) (s .pre .1) (h .year) (rw (in-range c) tt))
 
-death-of-requires : tie.Need-death-of-requires
-death-of-requires c κs = search needs
-
 returns-2 : tie.Need-returns-2
 returns-2 c =
-    let f = c .before in
-    let e = f .before in
+    let e = c .before in
     let m = e .before .before in
     let s = m .before in
     ap (λ (q : Ends). Of (coded q))
-    (c .death-of .ensures
-    ∙ ap deathOf (f .force-to-90 .ensures ∙ ap (λ (k : SignedEnds). expBetween billionths (negated k)) (m .log-force-at .ensures)))
+    (c .death-to-90 .ensures
+    ∙ ap (λ (k : SignedEnds). deathOf billionths (expBetween billionths (negated k))) (m .log-force-at .ensures))
     ∙ young-of (s .args .p) (s .args .x) (s .args .y .number) (s .pre .1) (in-range e)
 
 pub young-cell-spec : {M : Type 1} → statement M
@@ -66,6 +63,5 @@ young-cell-spec =
     log-force-at-requires
     in-range-requires
     returns
-    force-to-90-requires
-    death-of-requires
+    death-to-90-requires
     returns-2)

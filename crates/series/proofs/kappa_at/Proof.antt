@@ -5,9 +5,9 @@ use Prim.Native.Nat.{_-_, _≤_}
 use native.Mathlib.Numerals.{add-one}
 use native.Mathlib.Omega.{arith}
 use Rattle.whole.specs.Bound.{back}
+use Rattle.ends.specs.Code.{endsOf}
 use Rattle.series.specs.Series.{kappa}
 use Rattle.series.specs.BoundLaws.{kappa-under}
-use Rattle.series.specs.Code.{endsOf}
 use Rattle.series.proofs.kappa_at.Statement.{statement}
 use Rattle.series.proofs.kappa_at.Tie as tie
 

@@ -5,10 +5,10 @@ use mir.Val.{SFits}
 use mir.Facts.{toZ-ofZ}
 use Rattle.whole.specs.Bound.{fits}
 use Rattle.whole.specs.SignedEnds.{leastProduct, greatestProduct, outward}
+use Rattle.ends.specs.Code.{endsOf}
+use Rattle.ends.specs.EndLaws.{least-under, greatest-under}
+use Rattle.ends.proofs.Signed.{read, read-floor, read-ceil, ends}
 use Rattle.series.specs.Series.{rateUnit, kappaStep}
-use Rattle.series.specs.Code.{endsOf}
-use Rattle.series.specs.EndLaws.{least-under, greatest-under}
-use Rattle.series.proofs.Signed.{read, read-floor, read-ceil, ends}
 use Rattle.series.proofs.kappa_step.Statement.{statement}
 use Rattle.series.proofs.kappa_step.Tie as tie
 
@@ -21,34 +21,34 @@ greatest-fits s = fits (greatest-under (s .pre .0) (s .pre .1)) tt
 least-product-requires : tie.Need-least-product-requires
 least-product-requires c κs = rw (toZ-ofZ (c .fits .a)) (least-fits c)
 
-per-rate-requires : tie.Need-per-rate-requires
-per-rate-requires c κs = search needs
-
 greatest-product-requires : tie.Need-greatest-product-requires
-greatest-product-requires c κs = let s = c .before .before in rw (toZ-ofZ (s .fits .a)) (greatest-fits s)
+greatest-product-requires c κs = let s = c .before in rw (toZ-ofZ (s .fits .a)) (greatest-fits s)
 
-per-rate-requires-2 : tie.Need-per-rate-requires-2
-per-rate-requires-2 c κs = search needs
+outward-div-requires : tie.Need-outward-div-requires
+outward-div-requires c κs = search needs
+
+outward-div-requires-2 : tie.Need-outward-div-requires-2
+outward-div-requires-2 c κs = search needs
 
 returns : tie.Need-returns
 unfolding kappaStep outward
 returns c =
-    let g = c .before in
-    let f = g .before in
-    let l = f .before in
+    let f = c .before in
+    let g = f .before in
+    let l = g .before in
     let s = l .before in
     let a = toZ-ofZ (s .fits .a) in
     let low = read (rw a at (l .least-product .ensures)) (least-fits s) in
     let high = read (rw a at (g .greatest-product .ensures)) (greatest-fits s) in
-    ends (read-floor rateUnit low (least-fits s) (f .per-rate .ensures))
-    (read-ceil rateUnit high (greatest-fits s) (c .per-rate2 .ensures))
+    ends (read-floor rateUnit low (least-fits s) (f .outward-div .ensures))
+    (read-ceil rateUnit high (greatest-fits s) (c .outward-div2 .ensures))
 
 pub kappa-step-spec : {M : Type 1} → statement M
 kappa-step-spec =
     tie.close
     (tie.spec
     least-product-requires
-    per-rate-requires
     greatest-product-requires
-    per-rate-requires-2
+    outward-div-requires
+    outward-div-requires-2
     returns)

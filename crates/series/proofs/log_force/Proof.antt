@@ -2,7 +2,7 @@
 use mathlib.Core.Path.{_≡_}
 use lib.IntN.{_+ℤ_, _*ℤ_}
 use Rattle.params.specs.Set.{A, B, alpha}
-use Rattle.series.proofs.Signed.{bits, ends}
+use Rattle.ends.proofs.Signed.{bits, ends}
 use Rattle.series.proofs.Cell.{fixed, trend, least-read-fits, greatest-read-fits, low, high, lower-end, upper-end}
 use borrow.Author.Needs.{needs}
 use Rattle.series.proofs.log_force.Statement.{statement}
@@ -42,59 +42,59 @@ least-product-requires : tie.Need-least-product-requires
 least-product-requires c κs =
     least-read-fits (c .before .before .before .before .pre .1) (c .beta-at .ensures)
 
-add-per-rate : tie.Need-add-per-rate
-add-per-rate c =
+add-least : tie.Need-add-least
+add-least c =
     let b = c .before in
     let t = b .before in
     low (t .before .before .before .pre .1) (trend-read t) (b .beta-at .ensures) (c .least-product .ensures) .0
 
-per-rate-requires : tie.Need-per-rate-requires
-per-rate-requires c κs = search needs
+greatest-product-requires : tie.Need-greatest-product-requires
+greatest-product-requires c κs =
+    let b = c .before in
+    greatest-read-fits (b .before .before .before .before .pre .1) (b .beta-at .ensures)
 
-add-t11 : tie.Need-add-t11
-add-t11 c =
-    let d = c .before in
+add-greatest : tie.Need-add-greatest
+add-greatest c =
+    let b = c .before .before in
+    let t = b .before in
+    high (t .before .before .before .pre .1) (trend-read t) (b .beta-at .ensures) (c .greatest-product .ensures) .0
+
+outward-div-requires : tie.Need-outward-div-requires
+outward-div-requires c κs = search needs
+
+add-lower : tie.Need-add-lower
+add-lower c =
+    let d = c .before .before in
     let b = d .before in
     let t = b .before in
     let l = t .before .before .before .pre .1 in
     lower-end l (fixed-read (t .before)) (low l (trend-read t) (b .beta-at .ensures) (d .least-product .ensures) .1)
-    (c .per-rate .ensures) .0
+    (c .outward-div .ensures) .0
 
-greatest-product-requires : tie.Need-greatest-product-requires
-greatest-product-requires c κs =
-    let b = c .before .before in
-    greatest-read-fits (b .before .before .before .before .pre .1) (b .beta-at .ensures)
+outward-div-requires-2 : tie.Need-outward-div-requires-2
+outward-div-requires-2 c κs = search needs
 
-add-per-rate-2 : tie.Need-add-per-rate-2
-add-per-rate-2 c =
-    let b = c .before .before .before in
-    let t = b .before in
-    high (t .before .before .before .pre .1) (trend-read t) (b .beta-at .ensures) (c .greatest-product .ensures) .0
-
-per-rate-requires-2 : tie.Need-per-rate-requires-2
-per-rate-requires-2 c κs = search needs
-
-add-t15 : tie.Need-add-t15
-add-t15 c =
-    let d = c .before in
-    let b = d .before .before .before in
+add-upper : tie.Need-add-upper
+add-upper c =
+    let d = c .before .before in
+    let b = d .before .before in
     let t = b .before in
     let l = t .before .before .before .pre .1 in
     upper-end l (fixed-read (t .before)) (high l (trend-read t) (b .beta-at .ensures) (d .greatest-product .ensures) .1)
-    (c .per-rate2 .ensures) .0
+    (c .outward-div2 .ensures) .0
 
 returns : tie.Need-returns
 returns c =
-    let g = c .before in
-    let q = g .before in
-    let d = q .before in
+    let q = c .before in
+    let g = q .before in
+    let d = g .before in
     let b = d .before in
     let t = b .before in
     let l = t .before .before .before .pre .1 in
     let f = fixed-read (t .before) in
     let m = low l (trend-read t) (b .beta-at .ensures) (d .least-product .ensures) .1 in
     let n = high l (trend-read t) (b .beta-at .ensures) (g .greatest-product .ensures) .1 in
-    ends (lower-end l f m (q .per-rate .ensures) .1) (upper-end l f n (c .per-rate2 .ensures) .1)
+    ends (lower-end l f m (q .outward-div .ensures) .1) (upper-end l f n (c .outward-div2 .ensures) .1)
 
 pub log-force-spec : {M : Type 1} → statement M
 log-force-spec =
@@ -107,11 +107,11 @@ log-force-spec =
     mul-trend
     beta-at-requires
     least-product-requires
-    add-per-rate
-    per-rate-requires
-    add-t11
+    add-least
     greatest-product-requires
-    add-per-rate-2
-    per-rate-requires-2
-    add-t15
+    add-greatest
+    outward-div-requires
+    add-lower
+    outward-div-requires-2
+    add-upper
     returns)

@@ -1,10 +1,10 @@
 -- `log_force_in_year` meets its contract: a set in its limits meets what each step requires, in every year of a quote.
 use mathlib.Core.Path.{_≡_}
 use Rattle.whole.specs.Bound.{fits}
-use Rattle.series.specs.Series.{periodIndex, logForce}
 use Rattle.params.specs.LimitsLaws.{in-limits-series}
+use Rattle.ends.proofs.Signed.{bits, read}
+use Rattle.series.specs.Series.{periodIndex, logForce}
 use Rattle.series.specs.BoundLaws.{periodIndex-under, cell-limits}
-use Rattle.series.proofs.Signed.{bits, read}
 use Rattle.series.proofs.log_force_in_year.Statement.{statement}
 use Rattle.series.proofs.log_force_in_year.Tie as tie
 

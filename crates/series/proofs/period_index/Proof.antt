@@ -6,9 +6,9 @@ use mir.Syntax.{w64}
 use mir.Val.{SFits}
 use mir.Facts.{toZ-ofZ}
 use Rattle.whole.specs.Bound.{fits, back, under-pos, under-mul}
+use Rattle.ends.proofs.Signed.{sum, product}
 use Rattle.series.specs.Series.{periodIndex}
 use Rattle.series.specs.BoundLaws.{periodIndex-under}
-use Rattle.series.proofs.Signed.{sum, product}
 use Rattle.series.proofs.period_index.Statement.{statement}
 use Rattle.series.proofs.period_index.Tie as tie
 

@@ -6,10 +6,10 @@ use Prim.Native.Nat.{ℕ, suc, _-_, _≤_, _<_}
 use native.Mathlib.Numerals.{add-one}
 use native.Mathlib.Omega.{arith}
 use Rattle.params.specs.Set.{ages}
-use Rattle.sheet_writer.specs.Put.{Room, Put}
-use Rattle.sheet_writer.specs.PutLaws.{put-none, put-as, room-as, put-length, room-rest, put-join}
-use Rattle.sheet_writer.specs.Parts.{ageText, agesText}
-use Rattle.sheet_writer.specs.PartsLaws.{ages-none, ages-more, ages-grow}
+use Rattle.line_writer.specs.Put.{Room, Put}
+use Rattle.line_writer.specs.PutLaws.{put-none, put-as, room-as, put-length, room-rest, put-join}
+use Rattle.sheet_length.specs.Parts.{ageText, agesText}
+use Rattle.sheet_length.specs.PartsLaws.{ages-none, ages-more, ages-grow}
 use Rattle.sheet_writer.proofs.put_ages.Statement.{statement}
 use Rattle.sheet_writer.proofs.put_ages.Tie as tie
 
@@ -40,7 +40,7 @@ put-age-requires : tie.Need-put-age-requires Inv-loop μ-loop
 put-age-requires c κs =
     let s = c .before .before .before .before in
     let l = c .before .before .loop in
-    let h = c .before .loop-test .taken in
+    let h : l .age < ages = omega arith in
     (s .pre .0, h, room-rest (l .inv .1) (room s (l .age) h))
 
 add-age : tie.Need-add-age Inv-loop μ-loop
@@ -53,7 +53,7 @@ loop-again : tie.Need-loop-again Inv-loop μ-loop
 loop-again c =
     let s = c .before .before .before .before .before .before .before in
     let l = c .before .before .before .before .before .loop in
-    let h = c .before .before .before .before .loop-test .taken in
+    let h : l .age < ages = omega arith in
     let more = put-join (l .inv .1) (c .before .before .put-age .ensures) (room s (l .age) h) in
     (omega arith, rw (add-one (l .age)) (put-as (sym (ages-more (s .args .p) (l .age))) more))
 

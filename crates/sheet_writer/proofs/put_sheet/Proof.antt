@@ -4,10 +4,10 @@ use mathlib.Core.Path.{sym}
 use mathlib.Core.List.{_++_}
 use Rattle.params.specs.Set.{ages}
 use Rattle.sheet.specs.Sheet.{headText}
-use Rattle.sheet_writer.specs.Put.{Room, Put}
-use Rattle.sheet_writer.specs.PutLaws.{put-as, room-as, room-first, room-rest, put-join}
-use Rattle.sheet_writer.specs.Parts.{seriesText, agesText}
-use Rattle.sheet_writer.specs.PartsLaws.{sheet-parts}
+use Rattle.line_writer.specs.Put.{Room, Put}
+use Rattle.line_writer.specs.PutLaws.{put-as, room-as, room-first, room-rest, put-join}
+use Rattle.sheet_length.specs.Parts.{seriesText, agesText}
+use Rattle.sheet_length.specs.PartsLaws.{sheet-parts}
 use Rattle.sheet_writer.proofs.put_sheet.Statement.{statement}
 use Rattle.sheet_writer.proofs.put_sheet.Tie as tie
 

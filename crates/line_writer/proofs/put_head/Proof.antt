@@ -1,0 +1,67 @@
+-- `put_head` meets its contract: the text of the set's sex.
+use borrow.Author.Needs.{needs}
+use mathlib.Core.Path.{sym, ap}
+use Prim.Native.Nat.{_≤_}
+use native.Mathlib.Omega.{arith}
+use lib.ListN.{length}
+use Rattle.tokens.specs.Text.{bytesOf}
+use Rattle.sheet.specs.Sheet.{headText}
+use Rattle.line_writer.specs.PutLaws.{put-of, put-as}
+use Rattle.sheet_length.specs.PartsLaws.{head-length}
+use Rattle.line_writer.proofs.put_head.Statement.{statement}
+use Rattle.line_writer.proofs.put_head.Tie as tie
+
+-- both texts have 19 bytes
+fits : (s : tie.Start) → 19 ≤ length (s .args .buffer .now)
+fits s = omega (arith, s .pre .fits, head-length (s .args .sex))
+
+enum-told : tie.Need-enum-told
+enum-told c = search needs
+
+slice-aggregate-put-text : tie.Need-slice-aggregate-put-text
+slice-aggregate-put-text c = search needs
+
+put-text-requires : tie.Need-put-text-requires
+put-text-requires c κs = fits (c .before .before .before .before .before)
+
+enum-told-2 : tie.Need-enum-told-2
+enum-told-2 c = search needs
+
+slice-aggregate-put-text-2 : tie.Need-slice-aggregate-put-text-2
+slice-aggregate-put-text-2 c = search needs
+
+put-text-requires-2 : tie.Need-put-text-requires-2
+put-text-requires-2 c κs = fits (c .before .before .before .before .before)
+
+same-length : tie.Need-same-length
+same-length c = search needs
+
+returns : tie.Need-returns
+unfolding headText bytesOf
+returns c =
+    let t = c .before .before .before .before .before in
+    put-as (sym (ap headText (t .enum-told .given .1))) (put-of (c .before .before .put-text .ensures))
+
+same-length-2 : tie.Need-same-length-2
+same-length-2 c = search needs
+
+returns-2 : tie.Need-returns-2
+unfolding headText bytesOf
+returns-2 c =
+    let t = c .before .before .before .before .before in
+    put-as (sym (ap headText (t .enum-told2 .given .1))) (put-of (c .before .before .put-text2 .ensures))
+
+pub put-head-spec : {M : Type 1} → statement M
+put-head-spec =
+    tie.close
+    (tie.spec
+    enum-told
+    slice-aggregate-put-text
+    put-text-requires
+    enum-told-2
+    slice-aggregate-put-text-2
+    put-text-requires-2
+    same-length
+    returns
+    same-length-2
+    returns-2)

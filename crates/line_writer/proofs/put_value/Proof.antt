@@ -1,0 +1,109 @@
+-- `put_value` meets its contract: `=`, the number and the line feed, one right after the other.
+use borrow.Author.Needs.{needs}
+use mathlib.Core.Path.{_≡_, sym, ap}
+use mathlib.Core.List.{_++_}
+use mir.Syntax.{w64}
+use mir.Val.{toZ, ofZ}
+use mir.Facts.{toZ-ofZ}
+use Rattle.tokens.specs.Text.{bytesOf}
+use Rattle.tokens.specs.Number.{numberText}
+use Rattle.line_writer.specs.Put.{Room, Put}
+use Rattle.line_writer.specs.PutLaws.{put-of, put-as, room-as, room-first, room-rest, put-join}
+use Rattle.line_writer.specs.Value.{valueText}
+use Rattle.line_writer.proofs.Small.{small-as}
+use Rattle.line_writer.proofs.put_value.Statement.{statement}
+use Rattle.line_writer.proofs.put_value.Tie as tie
+
+value : (s : tie.Start) → toZ w64 (ofZ w64 (s .args .v)) ≡ s .args .v
+value s = toZ-ofZ (s .fits .v)
+
+-- ---- the place before, seen from each text
+
+abbrev start : tie.After-put-text → tie.Start
+start c = c .before .before .before .before
+
+abbrev first : tie.After-put-number → tie.After-put-text
+first c = c .before .before .before .before
+
+abbrev second : tie.After-put-text2 → tie.After-put-number
+second c = c .before .before .before .before .before
+
+-- ---- the three texts have room, and they are written
+
+room : (s : tie.Start)
+    → Room (s .args .buffer .now) (s .args .at) (bytesOf "=" ++ (numberText (s .args .v) ++ bytesOf "\n"))
+unfolding valueText
+room s = s .pre .1
+
+room-sign : (s : tie.Start) → Room (s .args .buffer .now) (s .args .at) (bytesOf "=")
+room-sign s = room-first (numberText (s .args .v) ++ bytesOf "\n") (room s)
+
+sign : (c : tie.After-put-text) → let s = start c .args in
+    Put (s .buffer .now) (s .at) (bytesOf "=") (c .put-text .last .0) (c .put-text .result)
+unfolding bytesOf
+sign c = put-of (c .put-text .ensures)
+
+room-after : (c : tie.After-put-text)
+    → Room (c .put-text .last .0) (c .put-text .result) (numberText (start c .args .v) ++ bytesOf "\n")
+room-after c = room-rest (sign c) (room (start c))
+
+room-number : (c : tie.After-put-text)
+    → Room (c .put-text .last .0) (c .put-text .result) (numberText (toZ w64 (ofZ w64 (start c .args .v))))
+room-number c = room-as (sym (ap numberText (value (start c)))) (room-first (bytesOf "\n") (room-after c))
+
+number : (c : tie.After-put-number) → let b = first c .put-text in
+    Put (b .last .0) (b .result) (numberText (start (first c) .args .v))
+    (c .put-number .last .0) (c .put-number .result)
+number c = put-as (ap numberText (value (start (first c)))) (put-of (c .put-number .ensures))
+
+room-end : (c : tie.After-put-number) → Room (c .put-number .last .0) (c .put-number .result) (bytesOf "\n")
+room-end c = room-rest (number c) (room-after (first c))
+
+end : (c : tie.After-put-text2) → let b = second c .put-number in
+    Put (b .last .0) (b .result) (bytesOf "\n") (c .put-text2 .last .0) (c .put-text2 .result)
+unfolding bytesOf
+end c = put-of (c .put-text2 .ensures)
+
+-- ---- the needs
+
+slice-aggregate-put-text : tie.Need-slice-aggregate-put-text
+slice-aggregate-put-text c = search needs
+
+put-text-requires : tie.Need-put-text-requires
+unfolding bytesOf
+put-text-requires c κs = room-sign (c .before .before .before) .fits
+
+put-number-requires : tie.Need-put-number-requires
+put-number-requires c κs =
+    let b = c .before .before .before in
+    (small-as (value (start b)) (start b .pre .0), room-number b .fits)
+
+slice-aggregate-put-text-2 : tie.Need-slice-aggregate-put-text-2
+slice-aggregate-put-text-2 c = search needs
+
+put-text-requires-2 : tie.Need-put-text-requires-2
+unfolding bytesOf
+put-text-requires-2 c κs = room-end (c .before .before .before .before) .fits
+
+same-length : tie.Need-same-length
+same-length c = search needs
+
+returns : tie.Need-returns
+unfolding valueText
+returns c =
+    let c₃ = c .before .before in
+    let c₂ = second c₃ in
+    let c₁ = first c₂ in
+    put-join (sign c₁) (put-join (number c₂) (end c₃) (room-after c₁)) (room (start c₁))
+
+pub put-value-spec : {M : Type 1} → statement M
+put-value-spec =
+    tie.close
+    (tie.spec
+    slice-aggregate-put-text
+    put-text-requires
+    put-number-requires
+    slice-aggregate-put-text-2
+    put-text-requires-2
+    same-length
+    returns)

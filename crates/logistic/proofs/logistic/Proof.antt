@@ -1,0 +1,22 @@
+-- `logistic` meets its contract by those of the two ends.
+use borrow.Author.Needs.{needs}
+use Rattle.whole.specs.Bound.{back}
+use Rattle.logistic.specs.Logistic.{logistic}
+use Rattle.logistic.proofs.logistic.Statement.{statement}
+use Rattle.logistic.proofs.logistic.Tie as tie
+
+logistic-end-requires : tie.Need-logistic-end-requires
+logistic-end-requires c κs = search needs
+
+logistic-end-requires-2 : tie.Need-logistic-end-requires-2
+logistic-end-requires-2 c κs = search needs
+
+returns : tie.Need-returns
+unfolding logistic
+returns c =
+    let l = c .before .before in
+    let p = l .before .before .pre in
+    rw (l .logistic-end .ensures, c .logistic-end2 .ensures, back (p .low) tt, back (p .high) tt)
+
+pub logistic-spec : {M : Type 1} → statement M
+logistic-spec = tie.close (tie.spec logistic-end-requires logistic-end-requires-2 returns)

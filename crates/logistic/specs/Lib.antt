@@ -1,0 +1,14 @@
+-- definitions
+pub mod Logistic
+pub mod Exact
+pub mod Units
+pub mod WidthFacts
+pub mod Code
+-- laws
+pub mod Positive
+pub mod LogisticHolds
+pub mod RelativeWidth
+pub mod LogisticWidth
+pub mod Billionths
+pub mod ExpNarrow
+pub mod LogisticNarrow

@@ -1,0 +1,31 @@
+-- Signed ends in units as fractions, an order's interval, and what it means that the two overlap.
+use Prim.Native.Nat.{ℕ, _<_}
+use lib.IntN.{ℤ}
+use Rattle.whole.specs.SignedEnds.{SignedEnds}
+use Rattle.fraction.specs.Ratio.{Ratio, _≤/_}
+use Rattle.fraction.specs.Fraction.{Fraction, _≤ℚ_, absolute}
+use Rattle.expo.specs.Grid.{Grid}
+use Rattle.expo.specs.Facts.{Sound}
+
+-- an interval of fractions
+pub record Interval : Type 0 where
+  pub least : Fraction
+  pub most : Fraction
+
+-- a/d
+abbrev pub over : (d : ℕ) → 0 < d → ℤ → Fraction
+over d p a = record { num = a; den = d; positive = p }
+
+-- n units, of either sign
+unfoldable pub inUnitsℚ : (g : Grid) → Sound g → ℤ → Fraction
+inUnitsℚ g s n = record { num = n; den = g .unit; positive = s .unit-positive }
+
+-- neither interval lies wholly beyond the other
+pub record SignedOverlap (g : Grid) (s : Sound g) (ends : SignedEnds) (interval : Interval) : Type 0 where
+  pub below : inUnitsℚ g s (ends .lower) ≤ℚ interval .most
+  pub above : interval .least ≤ℚ inUnitsℚ g s (ends .upper)
+
+-- both ends of an interval lie within B of 0
+pub record Bounded (B : Ratio) (interval : Interval) : Type 0 where
+  pub low : absolute (interval .least) ≤/ B
+  pub high : absolute (interval .most) ≤/ B

@@ -1,0 +1,5 @@
+-- definitions
+pub mod Ages
+-- laws
+pub mod LinesLaws
+pub mod RunLaws

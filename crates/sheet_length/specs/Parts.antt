@@ -1,0 +1,27 @@
+-- The parts of a sheet, in their order: the first two lines, the lines of the series, and four lines for each age.
+use mathlib.Core.List.{List, [], _∷_}
+use Prim.Native.Nat.{ℕ, _+_}
+use lib.IntN.{ℤ}
+use lib.ListN.{length}
+use Rattle.tokens.specs.Text.{bytesOf}
+use Rattle.tokens.specs.Number.{numberText}
+use Rattle.params.specs.declared.Params.{Params}
+use Rattle.sheet.specs.Sheet.{forAges, ageKeys, ageValues, linesText}
+
+-- how many bytes a line has: its key, `=`, the number and a line feed
+abbrev pub lineLength : ℕ → ℤ → ℕ
+lineLength key v = key + length (numberText v) + 2
+
+-- the lines of a, theta, K and k
+unfoldable pub seriesText : Params → List ℕ
+seriesText p =
+    linesText (bytesOf "a" ∷ bytesOf "theta" ∷ bytesOf "K" ∷ bytesOf "k" ∷ [])
+    (p .a ∷ p .theta ∷ p .period ∷ p .kappa ∷ [])
+
+-- the four lines of age x
+unfoldable pub ageText : Params → ℕ → List ℕ
+ageText p x = linesText (ageKeys x) (ageValues p x)
+
+-- the lines of the first n ages
+unfoldable pub agesText : Params → ℕ → List ℕ
+agesText p n = linesText (forAges ageKeys n) (forAges (ageValues p) n)

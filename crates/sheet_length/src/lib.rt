@@ -1,0 +1,59 @@
+// How many bytes the sheet of a parameter set has, part by part.
+ghost use mathlib.Core.Path.{_≡_};
+ghost use Prim.Native.Nat.{_^_, _<_, _≤_};
+ghost use lib.Dec.{T};
+ghost use lib.IntN.{natAbs};
+ghost use lib.ListN.{length};
+ghost use Rattle.tokens.specs.Number.{mostDigits};
+ghost use Rattle.params.specs.Set.{ages};
+ghost use Rattle.params.specs.Limits.{inLimits};
+ghost use Rattle.sheet.specs.Sheet.{sheetText};
+ghost use Rattle.sheet_length.specs.Parts.{lineLength, seriesText, ageText};
+use params::AGES;
+use params::Params;
+
+// The bytes of the first two lines.
+const HEAD: usize = 19;
+
+// How many bytes a line has, by how many its key has: at most 23.
+fn line_len(key: usize, v: i64) -> usize
+    requires { ⌜ (key ≤ 5) × (natAbs v < 10 ^ mostDigits) ⌝ }
+    ensures { λ r. ⌜ (r ≡ lineLength key v) × (r ≤ 23) ⌝ }
+{
+    key + printing::number_len(v) + 2
+}
+
+// How many bytes the lines of the series have.
+fn series_len(p: Params) -> usize
+    requires { ⌜ T (inLimits p) ⌝ }
+    ensures { λ r. ⌜ r ≡ length (seriesText p) ⌝ }
+{
+    line_len(1, p.a) + line_len(5, p.theta) + line_len(1, p.period) + line_len(1, p.kappa)
+}
+
+// How many bytes the four lines of age x have.
+fn age_len(p: Params, x: usize) -> usize
+    requires { ⌜ T (inLimits p) × (x < ages) ⌝ }
+    ensures { λ r. ⌜ r ≡ length (ageText p x) ⌝ }
+{
+    let digits = if x < 10 { 1 } else { 2 };
+    let first = line_len(2 + digits, params::level_at(p, x))
+        + line_len(2 + digits, params::slope_at(p, x));
+    first
+        + line_len(3 + digits, params::alpha_at(p, x))
+        + line_len(3 + digits, params::beta_at(p, x))
+}
+
+// How many bytes the sheet has.
+pub fn sheet_len(p: Params) -> usize
+    requires { ⌜ T (inLimits p) ⌝ }
+    ensures { λ r. ⌜ r ≡ length (sheetText p) ⌝ }
+{
+    let mut len = HEAD + series_len(p);
+    let mut x: usize = 0;
+    while x < AGES {
+        len += age_len(p, x);
+        x += 1;
+    }
+    len
+}

@@ -1,0 +1,128 @@
+-- `four_at` meets its contract: the four lines one after another, each read or torn.
+use mathlib.Core.Path.{sym}
+use Rattle.sheet_lines.specs.FourLaws.{four-torn₀, four-torn₁, four-torn₂, four-torn₃, four-taken}
+use Rattle.sheet_lines.specs.ResultLaws.{held, number-torn, number-taken}
+use borrow.Author.Needs.{needs}
+use Rattle.sheet_lines.proofs.four_at.Statement.{statement}
+use Rattle.sheet_lines.proofs.four_at.Tie as tie
+
+line-at-requires : tie.Need-line-at-requires
+line-at-requires c κs = search needs
+
+enum-known-v0 : tie.Need-enum-known-v0
+enum-known-v0 c = search needs
+
+enum-told : tie.Need-enum-told
+enum-told c = search needs
+
+returns : tie.Need-returns
+returns c =
+    let l₀ = c .before .before in
+    sym (four-torn₀ _ _ _ _ _ (number-torn _ (l₀ .line-at .ensures) (c .enum-told .given .1)))
+
+line-at-requires-2 : tie.Need-line-at-requires-2
+line-at-requires-2 c κs = search needs
+
+enum-known-v1 : tie.Need-enum-known-v1
+enum-known-v1 c = search needs
+
+enum-told-2 : tie.Need-enum-told-2
+enum-told-2 c = search needs
+
+returns-2 : tie.Need-returns-2
+returns-2 c =
+    let l₁ = c .before .before in
+    let r₀ = l₁ .before .before in
+    let l₀ = r₀ .before .before in
+    sym
+    (four-torn₁ _ _ _ _ _ (number-taken _ (l₀ .line-at .ensures) (r₀ .v0 .given .1))
+    (number-torn _ (l₁ .line-at2 .ensures) (c .enum-told2 .given .1)))
+
+line-at-requires-3 : tie.Need-line-at-requires-3
+line-at-requires-3 c κs = search needs
+
+enum-known-v2 : tie.Need-enum-known-v2
+enum-known-v2 c = search needs
+
+enum-told-3 : tie.Need-enum-told-3
+enum-told-3 c = search needs
+
+returns-3 : tie.Need-returns-3
+returns-3 c =
+    let l₂ = c .before .before in
+    let r₁ = l₂ .before .before in
+    let l₁ = r₁ .before .before in
+    let r₀ = l₁ .before .before in
+    let l₀ = r₀ .before .before in
+    sym
+    (four-torn₂ _ _ _ _ _ (number-taken _ (l₀ .line-at .ensures) (r₀ .v0 .given .1))
+    (number-taken _ (l₁ .line-at2 .ensures) (r₁ .v1 .given .1))
+    (number-torn _ (l₂ .line-at3 .ensures) (c .enum-told3 .given .1)))
+
+line-at-requires-4 : tie.Need-line-at-requires-4
+line-at-requires-4 c κs = search needs
+
+enum-known-v3 : tie.Need-enum-known-v3
+enum-known-v3 c = search needs
+
+enum-told-4 : tie.Need-enum-told-4
+enum-told-4 c = search needs
+
+returns-4 : tie.Need-returns-4
+returns-4 c =
+    let l₃ = c .before .before in
+    let r₂ = l₃ .before .before in
+    let l₂ = r₂ .before .before in
+    let r₁ = l₂ .before .before in
+    let l₁ = r₁ .before .before in
+    let r₀ = l₁ .before .before in
+    let l₀ = r₀ .before .before in
+    sym
+    (four-torn₃ _ _ _ _ _ (number-taken _ (l₀ .line-at .ensures) (r₀ .v0 .given .1))
+    (number-taken _ (l₁ .line-at2 .ensures) (r₁ .v1 .given .1))
+    (number-taken _ (l₂ .line-at3 .ensures) (r₂ .v2 .given .1))
+    (number-torn _ (l₃ .line-at4 .ensures) (c .enum-told4 .given .1)))
+
+returns-5 : tie.Need-returns-5
+returns-5 c =
+    let r₃ = c .before in
+    let l₃ = r₃ .before .before in
+    let r₂ = l₃ .before .before in
+    let l₂ = r₂ .before .before in
+    let r₁ = l₂ .before .before in
+    let l₁ = r₁ .before .before in
+    let r₀ = l₁ .before .before in
+    let l₀ = r₀ .before .before in
+    rw (
+      held (r₀ .v0 .given .0 .0) (l₁ .before .known-told .given .0 .1),
+      held (r₁ .v1 .given .0 .0) (l₂ .before .known-told2 .given .0 .1),
+      held (r₂ .v2 .given .0 .0) (l₃ .before .known-told3 .given .0 .1),
+      held (r₃ .v3 .given .0 .0) (c .known-told4 .given .0 .1),
+    )
+    (sym
+    (four-taken _ _ _ _ _ (number-taken _ (l₀ .line-at .ensures) (r₀ .v0 .given .1))
+    (number-taken _ (l₁ .line-at2 .ensures) (r₁ .v1 .given .1))
+    (number-taken _ (l₂ .line-at3 .ensures) (r₂ .v2 .given .1))
+    (number-taken _ (l₃ .line-at4 .ensures) (r₃ .v3 .given .1))))
+
+pub four-at-spec : {M : Type 1} → statement M
+four-at-spec =
+    tie.close
+    (tie.spec
+    line-at-requires
+    enum-known-v0
+    enum-told
+    returns
+    line-at-requires-2
+    enum-known-v1
+    enum-told-2
+    returns-2
+    line-at-requires-3
+    enum-known-v2
+    enum-told-3
+    returns-3
+    line-at-requires-4
+    enum-known-v3
+    enum-told-4
+    returns-4
+    returns-5)

@@ -1,0 +1,5 @@
+-- definitions
+pub mod Lines
+-- laws
+pub mod ResultLaws
+pub mod FourLaws

@@ -1,2 +1,0 @@
-pub mod LineSteps
-pub mod Results

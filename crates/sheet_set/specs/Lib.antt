@@ -1,0 +1,4 @@
+-- definitions
+pub mod SetLines
+-- laws
+pub mod SetLaws

@@ -1,0 +1,7 @@
+-- definitions
+pub mod Weights
+pub mod Totals
+-- laws
+pub mod WeightLaws
+-- rows
+pub mod Rows
