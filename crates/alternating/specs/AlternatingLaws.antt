@@ -1,7 +1,7 @@
 -- The alternating sums A of the exponential's terms lie on either side of 1/s, s the Taylor sum to order j, at
 -- 0 ≤ x = p/q ≤ 1: A to order 2h is at least 1/s where 2h ≤ j, and A to order 2h + 1 is at most 1/s at every j.
 use mathlib.Core.Path.{_≡_, sym, _∙_, ap, ap₂}
-use Prim.Native.Nat.{ℕ, zero, suc, _+_, _*_, _^_, _≤_, _<_}
+use Prim.Native.Nat.{ℕ, suc, _+_, _*_, _^_, _≤_, _<_}
 use native.Mathlib.Nat.{le-of-mul-le-mul-right, mul-pos, mul-le-mul-left}
 use native.Mathlib.Omega.{arith}
 use Rattle.taylor.specs.Taylor.{taylorDen, taylorNum}

@@ -7,7 +7,6 @@ use native.Mathlib.Numerals.{add-one}
 use native.Mathlib.Omega.{arith}
 use lib.Dec.{leb, leb→le}
 use Rattle.taylor.specs.Taylor.{taylorDen, taylorNum}
-use Rattle.expo.specs.Grid.{Grid}
 use Rattle.expo.specs.Exponential.{step, cutoffUnits, sumLower, sumUpper, constantLower, constantUpper}
 use Rattle.expo.specs.Billionths.{billionths, wholeParts}
 use Rattle.expo.specs.BillionthsFacts.{billionths-sound}

@@ -7,7 +7,6 @@ use native.Mathlib.Numerals.{add-one}
 use native.Mathlib.Omega.{arith}
 use lib.Dec.{lit<}
 use Rattle.alternating.specs.Alternating.{double}
-use Rattle.expo.specs.Grid.{Grid}
 use Rattle.expo.specs.Exponential.{nextLower, nextUpper, termLower, termUpper, total, evens, odds, sumLower, sumUpper}
 use Rattle.expo.specs.Billionths.{billionths}
 use Rattle.expo.specs.Terms.{term-lower-bound, term-upper-bound}

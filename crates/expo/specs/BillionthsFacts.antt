@@ -1,13 +1,12 @@
 -- The grid of 10^-9 has what the laws ask of a grid: the constants are tested against Taylor brackets of order 60, all by
 -- one computed test.
 use mathlib.Core.Path.{_≡_, refl}
-use mathlib.Core.Bool.{Bool, true, false}
+use mathlib.Core.Bool.{Bool}
 use Prim.Native.Nat.{ℕ, zero, suc, _*_, _≤_, _<_}
-use lib.Dec.{T, leb, ltb, leb→le, ltb→lt, lit≤, lit<}
-use lib.ListN.{length, getD}
+use lib.Dec.{leb, leb→le, lit≤, lit<}
+use lib.ListN.{length}
 use Rattle.taylor.specs.Taylor.{taylorDen, taylorNum, stretchedDen, stretchedNum, gap, factorial}
 use Rattle.alternating.specs.Alternating.{double}
-use Rattle.expo.specs.Grid.{Grid}
 use Rattle.expo.specs.Exponential.{constantLower, constantUpper, total}
 use Rattle.expo.specs.Billionths.{billionths, wholeParts}
 use Rattle.expo.specs.Facts.{Sound}

@@ -1,7 +1,7 @@
 -- What the code's contracts say beside the definition: the ranges in which a term is worked on the grid of 10^-9, and the
 -- code's two ends as the grid's.
 use Prim.Native.Nat.{ℕ, _≤_, _<_}
-use Rattle.expo.specs.Grid.{Grid, Ends}
+use Rattle.expo.specs.Grid.{Ends}
 use Rattle.expo.specs.Billionths.{billionths}
 use Rattle.expo.specs.declared.Ends as code
 

@@ -1,6 +1,6 @@
 -- The exponential on a grid, read as fractions, holds every order of the exact one: at a point, and at a z with two ends
 -- that overlaps an order's interval of z.
-use Prim.Native.Nat.{ℕ, _*_, _<_}
+use Prim.Native.Nat.{ℕ}
 use native.Mathlib.Omega.{arith}
 use Rattle.fraction.specs.Ratio.{Ratio, _≤/_}
 use Rattle.fraction.specs.RatioLaws.{≤/-trans}

@@ -1,7 +1,7 @@
 -- The grid's sums of terms lie no further from the exponential's than their slack: the upper sum is at most unit/s and the
 -- slack, at every order, and the lower sum with its slack at least unit/s, at the test's order.
 use mathlib.Core.Path.{_≡_, sym, ap, _∙_}
-use Prim.Native.Nat.{ℕ, zero, suc, _+_, _-_, _*_, _^_, _≤_, _<_, min}
+use Prim.Native.Nat.{ℕ, zero, suc, _+_, _-_, _*_, _^_, _≤_, _<_}
 use native.Mathlib.Nat.{mul-le-mul-left, mul-le-mul-right, mul-le-mul, mul-assoc, le-of-mul-le-mul-right, pow-le-pow-left, min-le-right, le-trans, le-refl, mul-lt-mul-of-pos-right}
 use native.Mathlib.Decide.{decLe}
 use native.Mathlib.Omega.{arith}

@@ -7,7 +7,6 @@ use native.Mathlib.Decide.{decLt}
 use native.Mathlib.Omega.{arith}
 use lib.ListN.{length}
 use borrow.Author.Tests.{lt-ltb, le-ltb}
-use Rattle.whole.specs.Division.{ceilDivℕ}
 use Rattle.whole.specs.DivisionLaws.{ceilℕ-encloses}
 use Rattle.taylor.specs.Taylor.{taylorDen, taylorNum, stretchedDen, stretchedNum}
 use Rattle.taylor.specs.Positive.{taylorDen-positive, stretchedNum-positive}

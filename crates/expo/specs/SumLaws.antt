@@ -1,7 +1,7 @@
 -- The grid's sums of terms against the exponential's: at every order the lower sum is at most unit/s, and from the order of
 -- its last term on the upper sum is at least unit/s, s the Taylor sum at f/unit.
 use mathlib.Core.Path.{_≡_, _∙_, ap₂}
-use Prim.Native.Nat.{ℕ, zero, suc, _+_, _-_, _*_, _/_, _^_, _≤_, _<_, min}
+use Prim.Native.Nat.{ℕ, suc, _+_, _-_, _*_, _≤_, _<_, min}
 use native.Mathlib.Nat.{mul-le-mul-left, mul-le-mul-right, le-of-mul-le-mul-right, min-eq-left, min-eq-right, mul-comm, mul-sub}
 use native.Mathlib.Decide.{decLe}
 use native.Mathlib.Omega.{arith}

@@ -1,7 +1,7 @@
 -- The grid's terms against the exact ones: Tk's ends lie on either side of unit·x^k/k!, x = f/unit, and no further off than
 -- `slack k` thirds of a unit. Stated over the denominator unit^k·k!.
 use mathlib.Core.Path.{_≡_, ap, _∙_}
-use Prim.Native.Nat.{ℕ, zero, suc, _+_, _*_, _/_, _^_, _≤_, _<_}
+use Prim.Native.Nat.{ℕ, zero, suc, _+_, _*_, _^_, _≤_, _<_}
 use native.Mathlib.Nat.{mul-le-mul-right, mul-le-mul, div-mul-le-self, lt-div-mul-add, mul-pos, le-of-lt, le-refl, lt-of-mul-lt-mul-right, one-mul, mul-div-cancel-left, pow-suc, pow-zero}
 use native.Mathlib.Omega.{arith}
 use Rattle.taylor.specs.Taylor.{taylorDen}

@@ -1,8 +1,8 @@
 -- How far apart the exponential's ends lie: the upper end at z is at most the lower end at z′ ≥ z, z′ − z and a constant of
 -- the grid. Both ends are compared with unit/s at one order, in thirds of a unit.
-use mathlib.Core.Path.{_≡_, sym, ap, subst, _∙_}
-use Prim.Native.Nat.{ℕ, zero, suc, _+_, _-_, _*_, _/_, _%_, _^_, _≤_, _<_, min}
-use native.Mathlib.Nat.{mul-le-mul-left, mul-le-mul-right, mul-le-mul, le-of-mul-le-mul-right, mul-pos, le-trans, le-refl, lt-div-mul-add, min-le-left, div-add-mod', le-of-lt, zero-mul, zero-add, pow-suc, pow-zero, one-mul}
+use mathlib.Core.Path.{_≡_, ap, subst, _∙_}
+use Prim.Native.Nat.{ℕ, zero, suc, _+_, _-_, _*_, _/_, _%_, _^_, _≤_, _<_}
+use native.Mathlib.Nat.{mul-le-mul-left, mul-le-mul-right, mul-le-mul, le-of-mul-le-mul-right, mul-pos, lt-div-mul-add, min-le-left, div-add-mod', le-of-lt, zero-mul, zero-add, pow-suc, pow-zero, one-mul}
 use native.Mathlib.Decide.{decLt}
 use native.Mathlib.Omega.{arith}
 use lib.ListN.{length}

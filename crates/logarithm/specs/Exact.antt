@@ -1,6 +1,6 @@
 -- The logarithm exactly (paper 01, "The exact value"): "The logarithm sum to j has a remainder from 0 to
 -- u^(j+1)/((j+1)(1−u))."
-use Prim.Native.Nat.{ℕ, zero, suc, _*_, _-_, _^_, max, _<_}
+use Prim.Native.Nat.{ℕ, zero, suc, _*_, _-_, _^_, max}
 use Rattle.fraction.specs.Ratio.{Ratio, _+/_, whole/}
 use Rattle.logarithm.specs.Positive.{term-positive, rest-positive}
 

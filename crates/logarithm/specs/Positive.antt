@@ -1,5 +1,5 @@
 -- The denominators of the logarithm's terms and remainder are positive.
-use Prim.Native.Nat.{ℕ, zero, suc, _*_, _^_, _<_, max}
+use Prim.Native.Nat.{ℕ, suc, _*_, _^_, _<_, max}
 use native.Mathlib.Nat.{mul-pos, one-le-pow, le-max-left}
 use native.Mathlib.Omega.{arith}
 

@@ -23,7 +23,7 @@ use Rattle.closure.proofs.Sums.{sums-within}
 use Rattle.mortality.specs.declared.Cell.the-variants.{Steep, Of}
 use Rattle.mortality.specs.declared.Fitted.{Fitted}
 use Rattle.force.specs.Force.{negated}
-use Rattle.mortality.specs.Cell.{youngForce, oldForce, force, survival, death, neededInRange}
+use Rattle.mortality.specs.Cell.{youngForce, oldForce, force, death, neededInRange}
 use Rattle.force.specs.Force.{deathOf}
 use Rattle.mortality.specs.Code.{FittedOf, coded, cellOf}
 

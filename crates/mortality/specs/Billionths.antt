@@ -6,7 +6,7 @@ use native.Mathlib.Omega.{arith}
 use lib.Dec.{lit≤}
 use Rattle.taylor.specs.Order.{leastOrder}
 use Rattle.expo.specs.Billionths.{billionths}
-use Rattle.expo.specs.BillionthsFacts.{billionths-sound, billionths-narrow, billionths-width}
+use Rattle.expo.specs.BillionthsFacts.{billionths-sound, billionths-narrow}
 use Rattle.expo.specs.Exponential.{total}
 use Rattle.expo.specs.Terms.{slack}
 use Rattle.expo.specs.WidthFacts.{expWidth, slackUpper, slackLower}

@@ -1,10 +1,9 @@
 -- One cell of the table on a grid (paper 01, "The grid", from the log force to q): the force at ages to 90 and above, p and q.
 -- Year n is 2013 + n.
-use Prim.Native.Nat.{ℕ, zero, suc, _+_, _-_, _≤_}
-use mathlib.Core.Bool.{Bool, true, false, cond, _&&_}
+use Prim.Native.Nat.{ℕ, zero, suc, _+_}
+use mathlib.Core.Bool.{Bool, true, cond, _&&_}
 use mathlib.Core.List.{List, [], _∷_, _++_}
-use lib.Dec.{leb, ltb}
-use Rattle.whole.specs.Split.{below}
+use lib.Dec.{ltb}
 use Rattle.whole.specs.SignedEnds.{SignedEnds}
 use Rattle.expo.specs.Grid.{Grid, Ends}
 use Rattle.expo.specs.Exponential.{expBetween}

@@ -2,11 +2,10 @@
 -- answer at a cell.
 use mathlib.Core.Path.{_≡_}
 use mathlib.Core.Bool.{cond}
-use Prim.Native.Nat.{ℕ, _-_, _≤_}
+use Prim.Native.Nat.{ℕ, _≤_}
 use lib.Dec.{T}
 use Rattle.expo.specs.Grid.{Ends}
 use Rattle.expo.specs.Billionths.{billionths}
-use Rattle.expo.specs.Exponential.{expBetween}
 use Rattle.expo.specs.declared.Ends as code
 use Rattle.params.specs.declared.Params.{Params}
 use Rattle.params.specs.Limits.{inLimits, lastYears}

@@ -1,40 +1,33 @@
 -- Every order of a cell's exact value overlaps the grid's ends: z, the force, H, G, p and q, for a set in its limits, an age
 -- and a year whose needed cells are in range.
-use mathlib.Core.Path.{_≡_, refl, ap, sym, subst, _∙_}
-use mathlib.Core.Bool.{Bool, true, false}
-use mathlib.Core.List.{List}
+use mathlib.Core.Path.{_≡_, refl, ap, sym, _∙_}
 use Prim.Native.Nat.{ℕ, zero, suc, _+_, _-_, _*_, _≤_, _<_}
-use native.Mathlib.Nat.{le-trans, le-refl, mul-le-mul-left}
+use native.Mathlib.Nat.{le-trans}
 use native.Mathlib.Decide.{decLt}
 use native.Mathlib.Omega.{arith}
-use lib.Dec.{T, lit<}
+use lib.Dec.{lit<}
 use borrow.Author.Tests.{lt-ltb, le-ltb}
 use lib.IntN.{ℤ, pos, negsuc, negℤ, natAbs, _+ℤ_, _*ℤ_, pos-*ℤ-pos}
 use Rattle.whole.specs.Order.{pos-nonneg, ≤ℤ-of-≡, *ℤ-assoc, *ℤ-distrib-right}
 use Rattle.whole.specs.Split.{below}
-use Rattle.whole.specs.SignedEnds.{SignedEnds}
-use Rattle.fraction.specs.Ratio.{Ratio, _≤/_, whole/, quotient/, complement}
+use Rattle.fraction.specs.Ratio.{_≤/_, whole/, quotient/, complement}
 use Rattle.fraction.specs.RatioLaws.{≤/-trans, quotient/-mono, complement-reverse}
 use Rattle.fraction.specs.Fraction.{Fraction, _≤ℚ_, _+ℚ_, negℚ, wholeℚ, quotientℚ, signed, absolute}
 use Rattle.fraction.specs.FractionLaws.{≤ℚ-trans, signed-≤ℚ, signed-whole, signed-absolute, wholeℚ-≤ℚ, +ℚ-mono, quotientℚ-mono}
-use Rattle.taylor.specs.Order.{leastOrder, orderLower, orderUpper}
-use Rattle.expo.specs.Grid.{Grid, Ends}
+use Rattle.taylor.specs.Order.{leastOrder}
+use Rattle.expo.specs.Grid.{Grid}
 use Rattle.expo.specs.Exponential.{expBetween}
 use Rattle.expo.specs.Facts.{Sound}
 use Rattle.expo.specs.WidthFacts.{Narrow}
 use Rattle.expo.specs.Overlap.{inUnits, Overlap}
 use Rattle.expo.specs.Holds.{exp-overlap}
 use Rattle.params.specs.declared.Params.{Params}
-use Rattle.params.specs.Set.{ages}
-use Rattle.params.specs.Limits.{inLimits, lastYears}
-use Rattle.ends.specs.EndLaws.{Holds}
-use Rattle.series.specs.Series.{logForce, inRange}
+use Rattle.series.specs.Series.{logForce}
 use Rattle.series.specs.Exact.{exactLogForce}
 use Rattle.series.specs.SeriesLaws.{logForce-holds}
 use Rattle.series.specs.WidthLaws.{logForceWidth}
-use Rattle.series.specs.RangeLaws.{Negated, negated-holds, logForce-negated}
+use Rattle.series.specs.RangeLaws.{Negated, negated-holds}
 use Rattle.logarithm.specs.Logarithm.{logLower, logUpper, inverseLogistic}
-use Rattle.logarithm.specs.Exact.{orderLogLower, orderLogUpper}
 use Rattle.logarithm.specs.Range.{leastLogForce}
 use Rattle.logarithm.specs.Force.{force-half}
 use Rattle.logarithm.specs.Holds.{log-overlap}

@@ -1,14 +1,14 @@
 -- The orders of a cell narrow: for every whole M there is an order from which on q's bracket is at most 1/M wide.
-use mathlib.Core.Path.{_≡_, refl, ap, sym, subst, _∙_}
+use mathlib.Core.Path.{_≡_, refl, ap, _∙_}
 use mathlib.Core.Bool.{Bool, true, false, cond}
-use Prim.Native.Nat.{ℕ, zero, suc, _+_, _-_, _*_, _^_, _≤_, _<_, max, zero-le}
-use native.Mathlib.Nat.{le-trans, le-refl, mul-pos, le-max-left, le-max-right, mul-le-mul-right, pow-suc, pow-zero, one-mul}
+use Prim.Native.Nat.{ℕ, suc, _+_, _-_, _*_, _^_, _≤_, _<_, max, zero-le}
+use native.Mathlib.Nat.{mul-le-mul-right, pow-suc, pow-zero, one-mul}
 use native.Mathlib.Decide.{decLt}
 use native.Mathlib.Omega.{arith}
 use lib.Signed.{nonNeg}
 use borrow.Author.Tests.{lt-ltb, le-ltb}
 use Rattle.fraction.specs.Ratio.{Ratio, _≤/_, _</_, whole/, quotient/, complement, _+/_, _*/_}
-use Rattle.fraction.specs.RatioLaws.{≤/-refl, ≤/-trans, +/-mono, +/-comm, +/-assoc, +/-cancel, */-mono, </→≤/, +/-complement, whole/-+/, whole/-*/}
+use Rattle.fraction.specs.RatioLaws.{≤/-refl, ≤/-trans, +/-mono, +/-comm, +/-assoc, +/-cancel, </→≤/, +/-complement, whole/-+/, whole/-*/}
 use Rattle.fraction.specs.Fraction.{Fraction, _≤ℚ_, _+ℚ_, signed, absolute}
 use Rattle.fraction.specs.FractionLaws.{≤ℚ-refl, ≤ℚ-trans, +ℚ-mono, +ℚ-assoc, signed-≤ℚ, signed-+ℚ}
 use Rattle.taylor.specs.Order.{leastOrder, orderLower, orderUpper}

@@ -1,6 +1,5 @@
 -- What an answered cell's needed cells have: the ends of −m.
 use mathlib.Core.Path.{_≡_}
-use mathlib.Core.Bool.{Bool, true, false, cond, _&&_}
 use Prim.Native.Nat.{ℕ, zero, suc, _+_, _≤_, _<_}
 use native.Mathlib.Nat.{not-suc-le-zero}
 use native.Mathlib.Decide.{decLt}
@@ -9,7 +8,6 @@ use lib.Dec.{T}
 use borrow.Author.Tests.{lt-ltb, le-ltb}
 use mir.Facts.{and-yes}
 use Rattle.params.specs.declared.Params.{Params}
-use Rattle.params.specs.Set.{ages}
 use Rattle.series.specs.Series.{logForce, inRange}
 use Rattle.series.specs.WidthLaws.{logForceWidth}
 use Rattle.series.specs.RangeLaws.{Negated, logForce-negated}

@@ -1,15 +1,13 @@
 -- How far apart a cell's ends lie: the force to 90, H, G, the force above 90, and q.
-use mathlib.Core.Path.{_≡_, ap, sym, subst, _∙_}
-use Prim.Native.Nat.{ℕ, zero, suc, _+_, _-_, _*_, _/_, _≤_, _<_}
+use mathlib.Core.Path.{_≡_}
+use Prim.Native.Nat.{ℕ, _+_, _-_, _*_, _/_, _≤_, _<_}
 use native.Mathlib.Nat.{le-trans, le-add-right, le-of-mul-le-mul-right, mul-le-mul-right, add-sub-of-le}
-use native.Mathlib.Decide.{decLt}
 use native.Mathlib.Omega.{arith}
 use borrow.Author.Tests.{lt-ltb, le-ltb}
 use lib.IntN.{ℤ, pos, _+ℤ_}
 use lib.Signed.{_≤ℤ_}
 use Rattle.whole.specs.Order.{+ℤ-mono, pos-mono}
-use Rattle.whole.specs.Split.{below, split, split-add}
-use Rattle.whole.specs.SignedEnds.{SignedEnds}
+use Rattle.whole.specs.Split.{split, split-add}
 use Rattle.fraction.specs.Ratio.{_≤/_}
 use Rattle.fraction.specs.RatioLaws.{≤/-trans}
 use Rattle.expo.specs.Grid.{Grid, Ends}
@@ -19,8 +17,6 @@ use Rattle.expo.specs.WidthFacts.{Narrow, expWidth}
 use Rattle.expo.specs.Overlap.{inUnits}
 use Rattle.expo.specs.Width.{exp-width}
 use Rattle.params.specs.declared.Params.{Params}
-use Rattle.params.specs.Set.{ages}
-use Rattle.params.specs.Limits.{inLimits, lastYears}
 use Rattle.series.specs.Series.{logForce}
 use Rattle.series.specs.WidthLaws.{logForceWidth, logForce-width, logForce-ordered}
 use Rattle.series.specs.RangeLaws.{Negated}
@@ -29,16 +25,15 @@ use Rattle.logarithm.specs.WidthFacts.{logWidth}
 use Rattle.logarithm.specs.Sums.{log-sum-monotone}
 use Rattle.logarithm.specs.Holds.{terms-below, terms-above}
 use Rattle.logarithm.specs.Width.{log-width}
-use Rattle.weights.specs.Weights.{firstFitted, fitted, firstClosed, lastClosed, weightUnit}
+use Rattle.weights.specs.Weights.{firstFitted, fitted, firstClosed, weightUnit}
 use Rattle.weights.specs.Totals.{mostSize}
-use Rattle.logistic.specs.Logistic.{logistic}
 use Rattle.logistic.specs.RelativeWidth.{exp-ordered}
 use Rattle.logistic.specs.WidthFacts.{Fine}
 use Rattle.logistic.specs.LogisticWidth.{logistic-width, logistic-ordered}
-use Rattle.closure.specs.Closure.{endsAt, closedSum}
+use Rattle.closure.specs.Closure.{closedSum}
 use Rattle.closure.specs.SumWidth.{closedSum-width, closedSum-ordered}
 use Rattle.force.specs.Force.{negated, deathOf}
-use Rattle.mortality.specs.Cell.{youngForce, fittedEnds, fittedList, oldForce, force, survival, death}
+use Rattle.mortality.specs.Cell.{youngForce, fittedEnds, fittedList, oldForce, force, death}
 use Rattle.mortality.specs.Facts.{Fit}
 use Rattle.mortality.specs.Answered.{Answered}
 use Rattle.mortality.specs.Needed.{young-needed, old-needed}

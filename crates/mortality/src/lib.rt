@@ -2,16 +2,10 @@
 ghost use mathlib.Core.Path.{_≡_};
 ghost use Prim.Native.Nat.{ℕ, suc, _≤_, _<_};
 ghost use lib.Dec.{T};
-ghost use Rattle.expo.specs.Billionths.{billionths};
-ghost use Rattle.expo.specs.Exponential.{expBetween};
-ghost use Rattle.expo.specs.Code.{endsOf as gridEnds};
 ghost use Rattle.params.specs.declared.Params.{Params};
 ghost use Rattle.params.specs.Limits.{inLimits, lastYears};
 ghost use Rattle.ends.specs.Code.{endsOf};
 ghost use Rattle.series.specs.Series.{logForce};
-ghost use Rattle.series.specs.WidthLaws.{logForceWidth};
-ghost use Rattle.series.specs.RangeLaws.{Negated};
-ghost use Rattle.logarithm.specs.Logarithm.{inverseLogistic};
 ghost use Rattle.weights.specs.Weights.{firstClosed, lastClosed};
 ghost use Rattle.closure.specs.Code.{InLimit};
 ghost use Rattle.mortality.specs.Code.{YearOf, FittedOf, cellOf};

@@ -13,7 +13,7 @@ use Rattle.sheet.specs.Sheet.{forAges, ageKeys, readLines}
 use Rattle.sheet_ages.specs.Ages.{run, withRuns, fromAges}
 use Rattle.tokens.specs.Steps.{goes, stops}
 use Rattle.sheet_lines.specs.FourLaws.{after}
-use Rattle.sheet_ages.specs.LinesLaws.{lines-torn, lines-then, ages-suc, more-torn}
+use Rattle.sheet_ages.specs.LinesLaws.{lines-then, ages-suc, more-torn}
 
 -- ---- a run
 

@@ -2,7 +2,7 @@
 -- product are taken first, then rounded."
 use mathlib.Core.Bool.{cond}
 use Prim.Native.Nat.{ℕ}
-use lib.IntN.{ℤ, pos, _*ℤ_}
+use lib.IntN.{ℤ, _*ℤ_}
 use lib.Signed.{nonNeg}
 use Rattle.whole.specs.Division.{floorDiv, ceilDiv}
 

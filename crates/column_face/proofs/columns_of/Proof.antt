@@ -1,6 +1,5 @@
 -- `columns_of` is safe: the columns are worked for a set in limits, years of the table and a slice with room.
 use mathlib.Core.Path.{sym, _∙_}
-use native.Mathlib.Omega.{arith}
 use borrow.Author.Needs.{needs}
 use Rattle.column_face.proofs.columns_of.Statement.{statement}
 use Rattle.column_face.proofs.columns_of.Tie as tie

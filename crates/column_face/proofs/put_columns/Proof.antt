@@ -1,7 +1,6 @@
 -- `put_columns` is safe and ends. The loop's invariant: at most `count` years are done, and the slice keeps its length.
 use mathlib.Core.Path.{_≡_}
 use Prim.Native.Nat.{_≤_, _-_}
-use native.Mathlib.Omega.{arith}
 use lib.ListN.{length}
 use borrow.Author.Needs.{needs}
 use Rattle.column_face.proofs.put_columns.Statement.{statement}

@@ -1,9 +1,9 @@
 -- `put_young` is safe and ends. The loop's invariant: x is at most the first closed age, and the slice keeps its length.
 use borrow.Author.Needs.{needs}
 use mathlib.Core.Path.{_≡_}
-use Prim.Native.Nat.{suc, _≤_, _-_}
+use Prim.Native.Nat.{_≤_, _-_}
 use lib.ListN.{length}
-use Rattle.weights.specs.Weights.{firstClosed, lastClosed}
+use Rattle.weights.specs.Weights.{firstClosed}
 use Rattle.column_face.proofs.put_young.Statement.{statement}
 use Rattle.column_face.proofs.put_young.Tie as tie
 

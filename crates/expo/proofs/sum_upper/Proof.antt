@@ -6,7 +6,6 @@ use native.Mathlib.Nat.{min-eq-left, min-eq-right, le-of-lt}
 use native.Mathlib.Omega.{arith}
 use borrow.Author.Needs.{needs}
 use Rattle.alternating.specs.Alternating.{double}
-use Rattle.expo.specs.Grid.{Grid}
 use Rattle.expo.specs.Exponential.{termUpper, sumUpper}
 use Rattle.expo.specs.Billionths.{billionths}
 use Rattle.expo.specs.Sums.{double-two}
