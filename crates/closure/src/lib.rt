@@ -32,11 +32,12 @@ pub fn closed_sum(x: usize, h: [SignedEnds; 11]) -> SignedEnds
     requires { ⌜ (firstClosed ≤ x) × (x ≤ lastClosed) × InLimit h ⌝ }
     ensures { λ r. ⌜ endsOf r ≡ closedSum x (listOf h) ⌝ }
 {
+    let row = weights::row_at(x);
     let mut sums = SignedEnds { lower: 0, upper: 0 };
     let mut i = 0;
     while i < FITTED {
         let e = h[i];
-        sums = add_product(sums, weights::weight_at(x, i), e);
+        sums = add_product(sums, row[i], e);
         i += 1;
     }
     let least = sums.lower;

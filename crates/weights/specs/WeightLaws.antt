@@ -1,21 +1,21 @@
 -- The eleven weights at each of the ages 91 to 120: their total is the unit, 110, and their sizes total at most
 -- 1,060. Each is one test that is computed over the thirty ages. And how large one weight may be.
-use mathlib.Core.Path.{_≡_, subst}
+use mathlib.Core.Path.{_≡_, ap, subst, _∙_}
 use mathlib.Core.Bool.{Bool}
 use mathlib.Core.List.{List}
 use Prim.Native.Nat.{ℕ, _+_, _-_, _≤_, _<_}
-use native.Mathlib.Nat.{add-sub-of-le}
+use native.Mathlib.Nat.{add-sub-of-le, zero-add}
 use native.Mathlib.Omega.{arith}
 use lib.Dec.{T, leb, leb→le}
 use lib.IntN.{pos, _-ℤ_}
-use lib.ListN.{replicate}
+use lib.ListN.{length, getD, replicate}
 use lib.Signed.{leZ, leZ-yes}
 use Rattle.whole.specs.Split.{split, split-neg, split-sub}
 use Rattle.whole.specs.Order.{≤ℤ-antisymm}
 use Rattle.whole.specs.Bound.{Under, under-lit, under-between, under-add, under-mul}
-use Rattle.whole.specs.Table.{every, at}
-use Rattle.weights.specs.Weights.{firstFitted, fitted, firstClosed, lastClosed, weightUnit, weight}
-use Rattle.weights.specs.Totals.{weightLimit, mostSize, weightTotal, sizeTotal}
+use Rattle.whole.specs.Table.{every, at, listed, listed-length, listed-at}
+use Rattle.weights.specs.Weights.{firstFitted, fitted, firstClosed, lastClosed, weightUnit, weight, weightRow}
+use Rattle.weights.specs.Totals.{weightLimit, mostSize, weightTotal, sizeTotal, rowTotal}
 
 -- a test that passes at each of the thirty ages holds of an age from 91 to 120
 thirty : List ℕ
@@ -38,6 +38,23 @@ weights-total x h l =
 pub weights-size : (x : ℕ) → firstClosed ≤ x → x ≤ lastClosed → sizeTotal x fitted ≤ mostSize
 unfolding thirty weight sizeTotal
 weights-size x h l = leb→le _ _ (by-age (λ (y : ℕ). leb (sizeTotal y fitted) mostSize) tt x h l)
+
+-- the same of a row
+pub row-total : {x : ℕ} → firstClosed ≤ x → x ≤ lastClosed → rowTotal (weightRow x) ≡ pos weightUnit
+unfolding thirty listed weight weightRow rowTotal
+row-total {x} h l =
+    ≤ℤ-antisymm
+    (leZ-yes (by-age (λ (y : ℕ). leZ (rowTotal (weightRow y)) (pos weightUnit)) tt x h l))
+    (leZ-yes (by-age (λ (y : ℕ). leZ (pos weightUnit) (rowTotal (weightRow y))) tt x h l))
+
+-- a row has the weight of each fitted age in its place
+pub row-length : (x : ℕ) → length (weightRow x) ≡ fitted
+unfolding weightRow
+row-length x = listed-length (weight x) 0 fitted
+
+pub row-weight : (x i : ℕ) → i < fitted → getD (weightRow x) i (pos 0) ≡ weight x i
+unfolding weightRow
+row-weight x i h = listed-at (weight x) (pos 0) 0 fitted i h ∙ ap (weight x) (zero-add i)
 
 -- ---- one weight
 

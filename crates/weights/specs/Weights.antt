@@ -1,6 +1,8 @@
 -- "The weight of age y at age x is 10 + (y − 85)(x − 85), in 110ths": y from 80 to 90, x from 91 to 120.
 use Prim.Native.Nat.{ℕ, _+_}
+use mathlib.Core.List.{List}
 use lib.IntN.{ℤ, pos, _+ℤ_, _-ℤ_, _*ℤ_}
+use Rattle.whole.specs.Table.{listed}
 
 abbrev pub firstFitted : ℕ
 firstFitted = 80
@@ -21,3 +23,7 @@ weightUnit = 110
 -- of the i-th fitted age at age x
 unfoldable pub weight : ℕ → ℕ → ℤ
 weight x i = pos 10 +ℤ (pos (firstFitted + i) -ℤ pos 85) *ℤ (pos x -ℤ pos 85)
+
+-- of all fitted ages at age x
+unfoldable pub weightRow : ℕ → List ℤ
+weightRow x = listed (weight x) 0 fitted

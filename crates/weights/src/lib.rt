@@ -1,7 +1,7 @@
 // The weights of the closure: of the fitted ages 80 to 90 at the ages 91 to 120.
 ghost use mathlib.Core.Path.{_≡_};
 ghost use Prim.Native.Nat.{_≤_, _<_};
-ghost use Rattle.weights.specs.Weights.{firstClosed, lastClosed, fitted, weight};
+ghost use Rattle.weights.specs.Weights.{firstClosed, lastClosed, weightRow};
 
 const FIRST_CLOSED: usize = 91;
 
@@ -39,10 +39,10 @@ const WEIGHTS: [[i64; 11]; 30] = [
     [-165, -130, -95, -60, -25, 10, 45, 80, 115, 150, 185],
 ];
 
-// The weight of the i-th fitted age at age x.
-pub fn weight_at(x: usize, i: usize) -> i64
-    requires { ⌜ (firstClosed ≤ x) × (x ≤ lastClosed) × (i < fitted) ⌝ }
-    ensures { λ r. ⌜ r ≡ weight x i ⌝ }
+// The weights of the fitted ages at age x.
+pub fn row_at(x: usize) -> [i64; 11]
+    requires { ⌜ (firstClosed ≤ x) × (x ≤ lastClosed) ⌝ }
+    ensures { λ r. ⌜ r ≡ weightRow x ⌝ }
 {
-    WEIGHTS[x - FIRST_CLOSED][i]
+    WEIGHTS[x - FIRST_CLOSED]
 }

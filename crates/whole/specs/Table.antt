@@ -1,5 +1,6 @@
--- A rule of a table, proved at all of its entries by one test that is computed over the whole table.
-use mathlib.Core.Path.{subst, sym, _∙_}
+-- A rule of a table, proved at all of its entries by one test that is computed over the whole table; and the list of a
+-- rule's values.
+use mathlib.Core.Path.{_≡_, refl, ap, subst, sym, _∙_}
 use mathlib.Core.Bool.{Bool, true, false}
 use mathlib.Core.List.{List, [], _∷_}
 use Prim.Native.Nat.{ℕ, zero, suc, _+_, _<_}
@@ -36,3 +37,21 @@ module _ {A : Type 0} (test : ℕ → A → Bool) (d : A) where
   -- the test holds of the k-th entry
   pub at : (xs : List A) → T (every test 0 xs) → (k : ℕ) → k < length xs → T (test k (getD xs k d))
   at xs t k h = subst (λ (m : ℕ). T (test m (getD xs k d))) (zero-add k) (from xs 0 t k h)
+
+-- f i, f (i + 1), .., n of them
+unfoldable pub listed : {A : Type 0} → (ℕ → A) → ℕ → ℕ → List A
+listed f i zero = []
+listed f i (suc n) = f i ∷ listed f (suc i) n
+
+module _ {A : Type 0} (f : ℕ → A) where
+  pub listed-length : (i n : ℕ) → length (listed f i n) ≡ n
+  unfolding listed
+  listed-length i zero = refl
+  listed-length i (suc n) = ap suc (listed-length (suc i) n)
+
+  pub listed-at : (d : A) (i n k : ℕ) → k < n → getD (listed f i n) k d ≡ f (i + k)
+  unfolding listed
+  listed-at d i zero k h = absurd (not-suc-le-zero h)
+  listed-at d i (suc n) zero h = ap f (sym (add-zero i))
+  listed-at d i (suc n) (suc k) h =
+      listed-at d (suc i) n k (le-of-suc-le-suc h) ∙ ap f (suc-add i k ∙ sym (add-suc i k))
