@@ -1,6 +1,6 @@
 // The weights of the closure: of the fitted ages 80 to 90 at the ages 91 to 120.
 ghost use mathlib.Core.Path.{_≡_};
-ghost use Prim.Native.Nat.{_≤_, _<_};
+ghost use Prim.Native.Nat.{_≤_};
 ghost use Rattle.weights.specs.Weights.{firstClosed, lastClosed, weightRow};
 
 const FIRST_CLOSED: usize = 91;
