@@ -3,7 +3,7 @@ use mathlib.Core.Path.{_≡_, refl, sym, ap, _∙_}
 use Prim.Native.Nat.{ℕ, _≤_, _<_}
 use native.Mathlib.Omega.{arith}
 use mathlib.Core.Bool.{Bool, true, false, cond}
-use mathlib.Core.List.{List, [], _∷_}
+use mathlib.Core.List.{List, [], _∷_, _++_}
 use borrow.Author.Tests.{le-leb, lt-leb, leb-true, leb-false}
 use lib.Dec.{leb}
 use lib.IntN.{ℤ}
@@ -11,7 +11,7 @@ use lib.ListN.{length, drop, drop-of-length-le}
 use lib.Seq.{drop-cons}
 use Rattle.tokens.specs.Text.{bytesOf, Parse, torn, taken, takeText}
 use Rattle.tokens.specs.Places.{textAt}
-use Rattle.tokens.specs.TextLaws.{text-found, text-missing}
+use Rattle.tokens.specs.TextLaws.{text-found, text-missing, takeText-then, takeText-torn}
 use Rattle.params.specs.declared.Params.{Params}
 use Rattle.params.specs.declared.Refusal.{Refusal}
 use Rattle.params.specs.declared.Refusal.the-variants.{Accepted, Torn, OffScale}
@@ -55,31 +55,62 @@ head-then bs sex rest e = goes _ e ∙ go (readLines keys rest)
     go (taken vs []) = refl
     go (taken vs (b ∷ more)) = refl
 
+-- either sex's lines, or none
 module _ (bs : List ℕ) where
-  pub head-m : textAt bs 0 (headText M) ≡ true → readSet bs ≡ whole (fromLines M (drop afterHead bs))
-  unfolding readHead headText bytesOf
-  head-m h = head-then bs M (drop afterHead bs) (at-m (text-found bs 0 (headText M) h))
-    where
-      at-m : takeText (headText M) bs ≡ taken tt (drop afterHead bs) → readHead bs ≡ taken M (drop afterHead bs)
-      at-m e = rw (e, readHead)
+  m-head : {rest : List ℕ} → takeText (headText M) bs ≡ taken tt rest → readHead bs ≡ taken M rest
+  unfolding readHead
+  m-head e = rw (e, readHead)
 
-  module _ (g : textAt bs 0 (headText M) ≡ false) where
-    pub head-f : textAt bs 0 (headText F) ≡ true → readSet bs ≡ whole (fromLines F (drop afterHead bs))
-    unfolding readHead headText bytesOf
-    head-f h =
-        head-then bs F (drop afterHead bs)
-        (at-f (text-missing bs 0 (headText M) g) (text-found bs 0 (headText F) h))
-      where
-        at-f : takeText (headText M) bs ≡ torn → takeText (headText F) bs ≡ taken tt (drop afterHead bs)
-            → readHead bs ≡ taken F (drop afterHead bs)
-        at-f d e = rw (d, readHead) (rw e)
+  f-head : {rest : List ℕ} → takeText (headText M) bs ≡ torn → takeText (headText F) bs ≡ taken tt rest
+      → readHead bs ≡ taken F rest
+  unfolding readHead
+  f-head d e = rw (d, readHead) (rw e)
 
-    pub head-torn : textAt bs 0 (headText F) ≡ false → readSet bs ≡ torn
-    unfolding readSet readHead
-    head-torn h = stops _ (at-none (text-missing bs 0 (headText M) g) (text-missing bs 0 (headText F) h))
-      where
-        at-none : takeText (headText M) bs ≡ torn → takeText (headText F) bs ≡ torn → readHead bs ≡ torn
-        at-none d e = rw (d, readHead) (rw e)
+  no-head : takeText (headText M) bs ≡ torn → takeText (headText F) bs ≡ torn → readHead bs ≡ torn
+  unfolding readHead
+  no-head d e = rw (d, readHead) (rw e)
+
+-- up to the sex they are the same
+abbrev pub sexText : List ℕ
+sexText = bytesOf "table=AG2014\nsex="
+
+abbrev pub sexPlace : ℕ
+sexPlace = 17
+
+module _ (bs : List ℕ) where
+  -- other first bytes are no sheet's
+  pub head-none : textAt bs 0 sexText ≡ false → readSet bs ≡ torn
+  unfolding readSet readHead headText bytesOf
+  head-none h =
+      let e = text-missing bs 0 sexText h in
+      stops _ (no-head bs (takeText-torn sexText (bytesOf "M\n") bs e) (takeText-torn sexText (bytesOf "F\n") bs e))
+
+  module _ (h : textAt bs 0 sexText ≡ true) where
+    -- what follows them decides
+    then-sex : (line : List ℕ) → takeText (sexText ++ line) bs ≡ takeText line (drop sexPlace bs)
+    unfolding bytesOf
+    then-sex line = takeText-then sexText line bs (text-found bs 0 sexText h)
+
+    pub head-m : textAt bs sexPlace (bytesOf "M\n") ≡ true → readSet bs ≡ whole (fromLines M (drop afterHead bs))
+    unfolding headText bytesOf
+    head-m m =
+        head-then bs M (drop afterHead bs)
+        (m-head bs (then-sex (bytesOf "M\n") ∙ text-found bs sexPlace (bytesOf "M\n") m))
+
+    module _ (m : textAt bs sexPlace (bytesOf "M\n") ≡ false) where
+      not-m : takeText (headText M) bs ≡ torn
+      unfolding headText bytesOf
+      not-m = then-sex (bytesOf "M\n") ∙ text-missing bs sexPlace (bytesOf "M\n") m
+
+      pub head-f : textAt bs sexPlace (bytesOf "F\n") ≡ true → readSet bs ≡ whole (fromLines F (drop afterHead bs))
+      unfolding headText bytesOf
+      head-f f =
+          head-then bs F (drop afterHead bs)
+          (f-head bs not-m (then-sex (bytesOf "F\n") ∙ text-found bs sexPlace (bytesOf "F\n") f))
+
+      pub head-torn : textAt bs sexPlace (bytesOf "F\n") ≡ false → readSet bs ≡ torn
+      unfolding readSet headText bytesOf
+      head-torn f = stops _ (no-head bs not-m (then-sex (bytesOf "F\n") ∙ text-missing bs sexPlace (bytesOf "F\n") f))
 
 -- ---- to the sheet's end
 

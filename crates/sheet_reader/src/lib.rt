@@ -12,6 +12,9 @@ use sheet::Reading;
 // The longest input that is read.
 const MOST_BYTES: usize = 65_536;
 
+// The place of the sex.
+const SEX: usize = 17;
+
 // What is handed back for a torn sheet.
 fn torn() -> Reading
     ensures { λ r. ⌜ r ≡ refused Torn ⌝ }
@@ -73,10 +76,13 @@ pub fn read(bytes: &[u8]) -> Reading
     if MOST_BYTES < bytes.len() {
         return torn();
     }
-    if tokens::text_at(bytes, 0, b"table=AG2014\nsex=M\n") {
+    if !tokens::text_at(bytes, 0, b"table=AG2014\nsex=") {
+        return torn();
+    }
+    if tokens::text_at(bytes, SEX, b"M\n") {
         return judged_set(bytes, Sex::M);
     }
-    if tokens::text_at(bytes, 0, b"table=AG2014\nsex=F\n") {
+    if tokens::text_at(bytes, SEX, b"F\n") {
         return judged_set(bytes, Sex::F);
     }
     torn()

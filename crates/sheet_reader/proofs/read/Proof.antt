@@ -1,9 +1,12 @@
--- `read` meets its contract: the length, then the first two lines with either sex, then the other lines.
-use mathlib.Core.Path.{sym, ap, _∙_}
-use Rattle.tokens.specs.Text.{bytesOf}
-use Rattle.sheet.specs.Sheet.{headText, judged}
-use Rattle.sheet_reader.specs.SheetLaws.{too-long, not-too-long, head-m, head-f, head-torn}
+-- `read` meets its contract: the length, then the first two lines up to the sex, then either sex, then the other lines.
 use borrow.Author.Needs.{needs}
+use borrow.Author.Tests.{not-true, not-false}
+use mathlib.Core.Path.{_≡_, sym, ap, _∙_}
+use mathlib.Core.Bool.{true}
+use Rattle.tokens.specs.Text.{bytesOf}
+use Rattle.tokens.specs.Places.{textAt}
+use Rattle.sheet.specs.Sheet.{judged}
+use Rattle.sheet_reader.specs.SheetLaws.{too-long, not-too-long, sexText, head-none, head-m, head-f, head-torn}
 use Rattle.sheet_reader.proofs.read.Statement.{statement}
 use Rattle.sheet_reader.proofs.read.Tie as tie
 
@@ -19,16 +22,23 @@ slice-aggregate-text-at c = search needs
 text-at-requires : tie.Need-text-at-requires
 text-at-requires c κs = search needs
 
-judged-set-requires : tie.Need-judged-set-requires
-judged-set-requires c κs = search needs
+torn-requires-2 : tie.Need-torn-requires-2
+torn-requires-2 c κs = search needs
 
 returns-2 : tie.Need-returns-2
-unfolding headText bytesOf
+unfolding judged bytesOf
 returns-2 c =
     let t = c .before .before in
-    let e₁ = t .before .before in
-    c .judged-set .ensures
-    ∙ sym (not-too-long _ (e₁ .if1 .left) ∙ ap judged (head-m _ (sym (t .text-at .ensures) ∙ c .before .if2 .taken)))
+    let e = t .before .before in
+    c .torn2 .ensures
+    ∙ sym
+    (not-too-long _ (e .if1 .left)
+    ∙ ap judged (head-none _ (sym (t .text-at .ensures) ∙ not-true _ (c .before .if2 .taken))))
+
+-- the first lines are a sheet's, up to the sex
+begun : (c : tie.Else2) → textAt (c .before .before .before .before .before .args .bytes .now) 0 sexText ≡ true
+unfolding bytesOf
+begun c = sym (c .before .text-at .ensures) ∙ not-false _ (c .if2 .left)
 
 slice-aggregate-text-at-2 : tie.Need-slice-aggregate-text-at-2
 slice-aggregate-text-at-2 c = search needs
@@ -36,37 +46,59 @@ slice-aggregate-text-at-2 c = search needs
 text-at-requires-2 : tie.Need-text-at-requires-2
 text-at-requires-2 c κs = search needs
 
+judged-set-requires : tie.Need-judged-set-requires
+judged-set-requires c κs = search needs
+
+returns-3 : tie.Need-returns-3
+unfolding bytesOf
+returns-3 c =
+    let t = c .before .before in
+    let e₂ = t .before .before in
+    let e₁ = e₂ .before .before .before in
+    c .judged-set .ensures
+    ∙ sym
+    (not-too-long _ (e₁ .if1 .left)
+    ∙ ap judged (head-m _ (begun e₂) (sym (t .text-at2 .ensures) ∙ c .before .if3 .taken)))
+
+slice-aggregate-text-at-3 : tie.Need-slice-aggregate-text-at-3
+slice-aggregate-text-at-3 c = search needs
+
+text-at-requires-3 : tie.Need-text-at-requires-3
+text-at-requires-3 c κs = search needs
+
 judged-set-requires-2 : tie.Need-judged-set-requires-2
 judged-set-requires-2 c κs = search needs
 
-returns-3 : tie.Need-returns-3
-unfolding headText bytesOf
-returns-3 c =
-    let t₂ = c .before .before in
-    let e₂ = t₂ .before .before in
-    let t₁ = e₂ .before in
-    let e₁ = t₁ .before .before in
+returns-4 : tie.Need-returns-4
+unfolding bytesOf
+returns-4 c =
+    let f = c .before .before in
+    let e₃ = f .before .before in
+    let m = e₃ .before in
+    let e₂ = m .before .before in
+    let e₁ = e₂ .before .before .before in
     c .judged-set2 .ensures
     ∙ sym
     (not-too-long _ (e₁ .if1 .left)
     ∙ ap judged
-    (head-f _ (sym (t₁ .text-at .ensures) ∙ e₂ .if2 .left) (sym (t₂ .text-at2 .ensures) ∙ c .before .if3 .taken)))
+    (head-f _ (begun e₂) (sym (m .text-at2 .ensures) ∙ e₃ .if3 .left) (sym (f .text-at3 .ensures) ∙ c .before .if4 .taken)))
 
-torn-requires-2 : tie.Need-torn-requires-2
-torn-requires-2 c κs = search needs
+torn-requires-3 : tie.Need-torn-requires-3
+torn-requires-3 c κs = search needs
 
-returns-4 : tie.Need-returns-4
-unfolding judged headText bytesOf
-returns-4 c =
-    let t₂ = c .before .before in
-    let e₂ = t₂ .before .before in
-    let t₁ = e₂ .before in
-    let e₁ = t₁ .before .before in
-    c .torn2 .ensures
+returns-5 : tie.Need-returns-5
+unfolding judged bytesOf
+returns-5 c =
+    let f = c .before .before in
+    let e₃ = f .before .before in
+    let m = e₃ .before in
+    let e₂ = m .before .before in
+    let e₁ = e₂ .before .before .before in
+    c .torn3 .ensures
     ∙ sym
     (not-too-long _ (e₁ .if1 .left)
     ∙ ap judged
-    (head-torn _ (sym (t₁ .text-at .ensures) ∙ e₂ .if2 .left) (sym (t₂ .text-at2 .ensures) ∙ c .before .if3 .left)))
+    (head-torn _ (begun e₂) (sym (m .text-at2 .ensures) ∙ e₃ .if3 .left) (sym (f .text-at3 .ensures) ∙ c .before .if4 .left)))
 
 pub read-spec : {M : Type 1} → statement M
 read-spec =
@@ -76,11 +108,15 @@ read-spec =
     returns
     slice-aggregate-text-at
     text-at-requires
-    judged-set-requires
+    torn-requires-2
     returns-2
     slice-aggregate-text-at-2
     text-at-requires-2
-    judged-set-requires-2
+    judged-set-requires
     returns-3
-    torn-requires-2
-    returns-4)
+    slice-aggregate-text-at-3
+    text-at-requires-3
+    judged-set-requires-2
+    returns-4
+    torn-requires-3
+    returns-5)
