@@ -20,6 +20,7 @@ use Rattle.expo.specs.Exponential.{expBetween}
 use Rattle.expo.specs.Billionths.{billionths}
 use Rattle.expo.specs.BillionthsFacts.{billionths-sound}
 use Rattle.ends.proofs.Signed.{bits, sum}
+use Rattle.series.specs.Series.{lowestForce}
 use Rattle.series.specs.RangeLaws.{Negated}
 use Rattle.logarithm.specs.Logarithm.{powerLower, powerUpper, logTermsLower, logTermsUpper, logRest, logLower, logUpper}
 use Rattle.logarithm.specs.Powers.{power-lower-bound, power-upper-bound}
@@ -31,7 +32,7 @@ use Rattle.logistic.proofs.Force.{negative}
 
 -- no end of a log force in range lies further from 0
 abbrev pub rangeLimit : ℕ
-rangeLimit = 30000000000
+rangeLimit = below lowestForce
 
 -- −z as the code forms it from z < 0: it fits, is cast to a number without a sign, and is z's part below 0
 pub record Minus (z : ℤ) : Type 0 where

@@ -1,5 +1,6 @@
 -- `old_cell` meets its contract: without the ends of H the cell is steep, and with them q is that of the closure's force.
 use mathlib.Core.Path.{ap, _∙_}
+use native.Mathlib.Omega.{arith}
 use borrow.Author.Needs.{needs}
 use borrow.Author.Tests.{not-true, not-false}
 use Rattle.expo.specs.Grid.{Ends}
@@ -27,13 +28,13 @@ in-limit c =
 closed-sum-requires : tie.Need-closed-sum-requires
 closed-sum-requires c κs =
     let s = c .before .before .before in
-    (s .pre .0, s .pre .1, in-limit (c .before))
+    (omega (arith, s .pre .0), omega (arith, s .pre .1), in-limit (c .before))
 
 logistic-requires : tie.Need-logistic-requires
 logistic-requires c κs =
     let e = c .before .before in
     let s = e .before .before in
-    rw (c .closed-sum .ensures) (closed-within (s .args .f .ends) (s .pre .0) (s .pre .1) (in-limit e))
+    rw (c .closed-sum .ensures) (closed-within (s .args .f .ends) (omega (arith, s .pre .0)) (omega (arith, s .pre .1)) (in-limit e))
 
 death-of-requires : tie.Need-death-of-requires
 death-of-requires c κs = search needs
