@@ -1,18 +1,17 @@
--- G's ends on a grid: they lie in order, how far apart they lie at most, and how far from 0.
+-- G's ends on a grid: they lie in order, and how far apart they lie at most.
 use mathlib.Core.List.{List}
 use Prim.Native.Nat.{ℕ, zero, suc, _+_, _*_, _/_, _≤_, _<_}
-use native.Mathlib.Nat.{mul-le-mul-right, le-refl, add-mul}
+use native.Mathlib.Nat.{mul-le-mul-right}
 use native.Mathlib.Omega.{arith}
 use lib.Dec.{lit<}
 use lib.IntN.{ℤ, pos, natAbs, _+ℤ_}
 use lib.Signed.{_≤ℤ_, ≤ℤ-refl}
 use Rattle.whole.specs.Split.{split, split-add}
 use Rattle.whole.specs.Order.{≤ℤ-trans, +ℤ-mono}
-use Rattle.whole.specs.Bound.{Under, under-pos, under-add}
 use Rattle.whole.specs.SignedEnds.{SignedEnds, leastProduct, greatestProduct, outward}
 use Rattle.whole.specs.Division.{floorDiv, ceilDiv}
 use Rattle.whole.specs.DivisionLaws.{split-floor, split-ceil, floor-mono, floor-le-ceil}
-use Rattle.ends.specs.EndLaws.{Within, product-spread, product-ordered, least-under, greatest-under, outward-under}
+use Rattle.ends.specs.EndLaws.{product-spread, product-ordered}
 use Rattle.weights.specs.Weights.{fitted, firstClosed, lastClosed, weightUnit, weight}
 use Rattle.weights.specs.Totals.{mostSize, sizeTotal}
 use Rattle.weights.specs.WeightLaws.{weights-size}
@@ -52,17 +51,6 @@ module _ (x : ℕ) (hs : List SignedEnds) where
       +ℤ-mono (sum-ordered n (λ i l. h i (omega arith)))
       (product-ordered (weight x n) (endsAt hs n) (h n (omega arith)))
 
-  sum-within : (B n : ℕ) → ((i : ℕ) → i < n → Within B (endsAt hs i))
-      → Under (leastSum x hs n) (sizeTotal x n * B) × Under (greatestSum x hs n) (sizeTotal x n * B)
-  unfolding greatestSum leastSum sizeTotal
-  sum-within B zero h = (under-pos (omega arith), under-pos (omega arith))
-  sum-within B (suc n) h =
-      let a = sum-within B n (λ i l. h i (omega arith)) in
-      let w = weight x n in
-      let v : Under w (natAbs w) = record { under = le-refl (natAbs w) } in
-      let u = h n (omega arith) in
-      rw (add-mul (sizeTotal x n) (natAbs w) B) (under-add (a .0) (least-under v u), under-add (a .1) (greatest-under v u))
-
 -- ---- G
 
 quotient-width : (L G : ℤ) (R W : ℕ) → G ≤ℤ (L +ℤ pos R) → R ≤ mostSize * W
@@ -90,13 +78,3 @@ module _ (x : ℕ) (hs : List SignedEnds) where
   closedSum-ordered h =
       ≤ℤ-trans (floor-mono {m = weightUnit} (lit< tt) (sum-ordered x hs fitted h))
       (floor-le-ceil (greatestSum x hs fitted) (lit< tt))
-
-  -- and within 1,060·B/110 and 1 of 0 where H's are within B
-  pub closedSum-within : (B : ℕ) → firstClosed ≤ x → x ≤ lastClosed → ((i : ℕ) → i < fitted → Within B (endsAt hs i))
-      → Within (mostSize * B / weightUnit + 1) (closedSum x hs)
-  unfolding closedSum
-  closedSum-within B l m h =
-      let u = sum-within x hs B fitted h in
-      let k : sizeTotal x fitted * B ≤ (mostSize * B / weightUnit + 1) * weightUnit =
-      omega (arith, mul-le-mul-right B (weights-size x l m)) in
-      outward-under (mostSize * B / weightUnit + 1) (lit< tt) k (u .0) (u .1)

@@ -4,7 +4,7 @@ use Prim.Native.Nat.{ℕ, zero, suc, _*_, _-_, _^_, max}
 use Rattle.fraction.specs.Ratio.{Ratio, _+/_, whole/}
 use Rattle.logarithm.specs.Positive.{term-positive, rest-positive}
 
--- u^k/k, k from 1 on
+-- the k-th term counted from 0: u^(k+1)/(k+1)
 unfoldable pub logTerm : Ratio → ℕ → Ratio
 logTerm u k = record { num = u .num ^ suc k; den = u .den ^ suc k * suc k; positive = term-positive (u .den) k (u .positive) }
 

@@ -40,8 +40,3 @@ exp-narrow-below Z M h z z′ d j l m k =
     ≤/-trans (upper-slope z d j)
     (≤/-trans (+/-mono (≤/-trans (upper-antitone j l) (</→≤/ (narrow-below Z M h z′ j m k))) (≤/-refl d))
     (exchanged (orderLower z′ j) d (quotient/ (whole/ 1) M h)))
-
--- so at z′ = z + d
-pub exp-narrow : (Z M : ℕ) (h : 0 < M) (z d : Ratio) (j : ℕ) → z +/ d ≤/ whole/ Z → narrowOrder Z M ≤ j
-    → orderUpper z j ≤/ orderLower (z +/ d) j +/ d +/ quotient/ (whole/ 1) M h
-exp-narrow Z M h z d j m k = exp-narrow-below Z M h z (z +/ d) d j (≤/-refl (z +/ d)) m k

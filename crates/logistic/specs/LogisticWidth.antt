@@ -1,4 +1,4 @@
--- The force's ends on a grid: both are at most the unit, they lie in order, and they lie at most d/4 and a constant
+-- The force's ends on a grid: they lie in order, and they lie at most d/4 and a constant
 -- of the grid apart where the ends of G lie at most d apart. For with E ≥ E′ at the two ends 1/(1 + E′) − 1/(1 + E)
 -- is (E − E′)/((1 + E)·(1 + E′)), which is E/(1 + E) − E′/(1 + E′), and 4·E ≤ (1 + E)².
 use Prim.Native.Nat.{ℕ, suc, _+_, _-_, _*_, _/_, _≤_, _<_}
@@ -7,10 +7,10 @@ use native.Mathlib.Nat.{le-trans}
 use native.Mathlib.Omega.{arith}
 use mathlib.Core.Path.{_≡_}
 use lib.IntN.{ℤ, pos, negsuc, _+ℤ_}
-use lib.Signed.{_≤ℤ_, ≤ℤ-refl}
+use lib.Signed.{_≤ℤ_}
 use Rattle.whole.specs.Split.{split, split-add}
 use Rattle.whole.specs.SignedEnds.{SignedEnds}
-use Rattle.whole.specs.DivisionLaws.{floorℕ-encloses, ceilℕ-encloses, ceilℕ-least}
+use Rattle.whole.specs.DivisionLaws.{floorℕ-encloses, ceilℕ-encloses}
 use Rattle.expo.specs.Grid.{Grid}
 use Rattle.expo.specs.Exponential.{expLower, expUpper}
 use Rattle.expo.specs.Facts.{Sound}
@@ -205,20 +205,3 @@ pub logistic-ordered : (g : Grid) → Sound g → (G : SignedEnds) → G .lower 
     → logistic g G .lower ≤ logistic g G .upper
 unfolding logistic
 logistic-ordered g s G h = ordered-cases g s (G .lower) (G .upper) h
-
--- and both are at most the unit
-upper-one : (g : Grid) → Sound g → (n : ℤ) → logisticUpper g n ≤ g .unit
-unfolding logisticUpper overOneUpper shareUpper
-upper-one g s (pos n) = ceilℕ-least (g .unit) _ (unit-sum-positive g s (expLower g n)) (omega arith)
-upper-one g s (negsuc n) = ceilℕ-least (g .unit) _ (unit-sum-positive g s (expUpper g (suc n))) (omega arith)
-
-lower-one : (g : Grid) → Sound g → (n : ℤ) → logisticLower g n ≤ g .unit
-lower-one g s n = le-trans (ordered-cases g s n n (≤ℤ-refl n)) (upper-one g s n)
-
-pub logistic-lower-one : (g : Grid) → Sound g → (G : SignedEnds) → logistic g G .lower ≤ g .unit
-unfolding logistic
-logistic-lower-one g s G = lower-one g s (G .lower)
-
-pub logistic-upper-one : (g : Grid) → Sound g → (G : SignedEnds) → logistic g G .upper ≤ g .unit
-unfolding logistic
-logistic-upper-one g s G = upper-one g s (G .upper)

@@ -1,7 +1,7 @@
 -- The texts of numbers: a text is the text of the tenth and one digit more, how long the texts are, and of which bytes
 -- they are made.
 use mathlib.Core.Path.{_≡_, refl, sym, ap, _∙_}
-use mathlib.Core.Logic.{_⊎_, inl, inr, ⊎-elim}
+use mathlib.Core.Logic.{_⊎_, inl, inr}
 use mathlib.Core.List.{List, [], _∷_, _++_}
 use Prim.Native.Nat.{ℕ, zero, suc, _+_, _/_, _%_, _^_, _≤_, _<_}
 use native.Mathlib.Nat.{pow-suc}
@@ -79,7 +79,3 @@ unfolding numberText
 number-bytes (pos n) i h = inr (unsigned-digits n i h)
 number-bytes (negsuc n) zero h = inl refl
 number-bytes (negsuc n) (suc i) h = inr (unsigned-digits (suc n) i (omega arith))
-
--- and so it is a byte
-pub number-byte : (v : ℤ) (i : ℕ) → i < length (numberText v) → getD (numberText v) i 0 < 256
-number-byte v i h = ⊎-elim (λ e. omega arith) (λ d. omega arith) (number-bytes v i h)

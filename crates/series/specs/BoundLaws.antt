@@ -12,7 +12,7 @@ use Rattle.params.specs.Set.{B, alpha, beta, ages}
 use Rattle.params.specs.Limits.{levelLimit, slopeLimit, aLimit, periodLimit, kappaLimit, lastYears, inLimits}
 use Rattle.params.specs.LimitsLaws.{SeriesWithin, AgeWithin, in-limits-series, in-limits-age}
 use Rattle.ends.specs.EndLaws.{Within, least-under, greatest-under, outward-under}
-use Rattle.series.specs.Series.{periodIndex, kappaStep, kappa, cellForce, logForce}
+use Rattle.series.specs.Series.{periodIndex, kappaStep, kappa, cellForce}
 
 -- k + n·t lies between k and k + m·t
 between : (k t : ℤ) {n m b : ℕ} → n ≤ m → Under k b → Under (k +ℤ pos m *ℤ t) b → Under (k +ℤ pos n *ℤ t) b
@@ -88,8 +88,3 @@ cellForce-under c =
     let u = under-add (c .age .level) (c .age .alpha) in
     let q = outward-under quotientLimit (lit< tt) (lit≤ tt) (least-sum-under c) (greatest-sum-under c) in
     record { low = under-add u (q .low); high = under-add u (q .high) }
-
-pub logForce-under : (p : Params) → T (inLimits p) → {x n : ℕ} → x < ages → n ≤ lastYears
-    → Within forceLimit (logForce p x n)
-unfolding logForce
-logForce-under p t hx hn = cellForce-under (cell-limits p t hx hn)

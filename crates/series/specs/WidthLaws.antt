@@ -54,9 +54,6 @@ logForce-wide p t {x} {n} hx hn = cellForce-wide p x (periodIndex p n) logForceW
     (kappa-wide p n (in-limits-series p t .a)) (omega arith)
 
 -- the lower end is at most the upper one, and that at most n above it for kappa, 19 above it for the log force
-pub kappa-ordered : (p : Params) → T (inLimits p) → (n : ℕ) → kappa p n .lower ≤ℤ kappa p n .upper
-kappa-ordered p t n = kappa-wide p n (in-limits-series p t .a) .ordered
-
 pub kappa-width : (p : Params) → T (inLimits p) → (n : ℕ) → kappa p n .upper ≤ℤ (kappa p n .lower +ℤ pos n)
 kappa-width p t n = kappa-wide p n (in-limits-series p t .a) .width
 

@@ -8,12 +8,12 @@ use native.Mathlib.Nat.{add-sub-of-le, zero-add}
 use native.Mathlib.Omega.{arith}
 use lib.Dec.{T, leb, leb→le}
 use lib.IntN.{pos, _-ℤ_}
-use lib.ListN.{length, getD, replicate}
+use lib.ListN.{getD, replicate}
 use lib.Signed.{leZ, leZ-yes}
 use Rattle.whole.specs.Split.{split, split-neg, split-sub}
 use Rattle.whole.specs.Order.{≤ℤ-antisymm}
 use Rattle.whole.specs.Bound.{Under, under-lit, under-between, under-add, under-mul}
-use Rattle.whole.specs.Table.{every, at, listed, listed-length, listed-at}
+use Rattle.whole.specs.Table.{every, at, listed, listed-at}
 use Rattle.weights.specs.Weights.{firstFitted, fitted, firstClosed, lastClosed, weightUnit, weight, weightRow}
 use Rattle.weights.specs.Totals.{weightLimit, mostSize, weightTotal, sizeTotal, rowTotal}
 
@@ -48,10 +48,6 @@ row-total {x} h l =
     (leZ-yes (by-age (λ (y : ℕ). leZ (pos weightUnit) (rowTotal (weightRow y))) tt x h l))
 
 -- a row has the weight of each fitted age in its place
-pub row-length : (x : ℕ) → length (weightRow x) ≡ fitted
-unfolding weightRow
-row-length x = listed-length (weight x) 0 fitted
-
 pub row-weight : (x i : ℕ) → i < fitted → getD (weightRow x) i (pos 0) ≡ weight x i
 unfolding weightRow
 row-weight x i h = listed-at (weight x) (pos 0) 0 fitted i h ∙ ap (weight x) (zero-add i)

@@ -5,7 +5,6 @@
 use mathlib.Core.Path.{_≡_, refl, ap, subst}
 use mathlib.Core.Bool.{Bool, true, false, not, cond}
 use Prim.Native.Nat.{ℕ, zero, suc, _+_, _*_, _-_, _≤_, _<_}
-use native.Mathlib.Nat.{mul-le-mul-left}
 use native.Mathlib.Omega.{arith}
 use lib.Dec.{T, ltb, leb→le, le→leb, ltb→lt, lt→ltb, nltb→le}
 use lib.IntN.{ℤ, pos, negsuc, negℤ, natAbs, subℕ, _+ℤ_, _-ℤ_, _*ℤ_, +ℤ-idl, +ℤ-idr}
@@ -127,14 +126,3 @@ pub ruleset split = (arith, split-le, le-split, split-lt, lt-split, split-eq, eq
 -- an equation times a factor, for the list of `omega`
 pub mul-eq : {x y : ℕ} (k : ℕ) → x ≡ y → x * k ≡ y * k
 mul-eq k e = ap (λ (n : ℕ). n * k) e
-
--- ---- samples
-
-sample-swap : (a b c : ℤ) → (a +ℤ b) ≤ℤ c → a ≤ℤ (c -ℤ b)
-sample-swap a b c h = omega (split, split-add a b, split-sub c b)
-
-sample-mixed : (a b c : ℤ) → a <ℤ b → b ≡ negℤ c → (a +ℤ c) <ℤ pos 0
-sample-mixed a b c h e = omega (split, split-add a c, split-neg c)
-
-sample-scaled : {a b : ℤ} (k : ℕ) → a ≤ℤ b → (pos k *ℤ a) ≤ℤ (pos k *ℤ b)
-sample-scaled {a} {b} k h = omega (split, split-scale-left k a, split-scale-left k b, mul-le-mul-left k (split-le h))
