@@ -1,5 +1,6 @@
 -- definitions
 pub mod Ratio
+pub mod Bracket
 pub mod Fraction
 -- examples
 pub mod Rows

@@ -5,6 +5,7 @@ use mathlib.Core.Bool.{cond}
 use mathlib.Core.List.{List, [], _∷_, _++_}
 use lib.Dec.{ltb, lit<}
 use Rattle.fraction.specs.Ratio.{Ratio, complement}
+use Rattle.fraction.specs.Bracket.{Bracket}
 use Rattle.fraction.specs.Fraction.{Fraction, _+ℚ_, quotientℚ, signed, absolute}
 use Rattle.taylor.specs.Order.{orderLower, orderUpper}
 use Rattle.params.specs.declared.Params.{Params}
@@ -14,11 +15,6 @@ use Rattle.weights.specs.Weights.{fitted, firstFitted, firstClosed}
 use Rattle.logistic.specs.Units.{Interval}
 use Rattle.logistic.specs.Exact.{orderLogisticLower, orderLogisticUpper}
 use Rattle.closure.specs.Exact.{exactClosedSum}
-
--- an order's two ends
-pub record Bracket : Type 0 where
-  pub least : Ratio
-  pub most : Ratio
 
 -- the parameters' unit, 10^-9
 abbrev pub sheetUnit : ℕ
