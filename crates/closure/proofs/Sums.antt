@@ -8,17 +8,16 @@ use lib.IntN.{ℤ, pos, _+ℤ_}
 use lib.ListN.{getD, List·getD-map}
 use mir.Syntax.{w64}
 use mir.Val.{SFits}
-use Rattle.whole.specs.Bound.{Under, under-lit, under-weaken, under-add, fits, back}
+use Rattle.whole.specs.Bound.{bits, Under, under-lit, under-weaken, under-add, fits, back}
 use Rattle.whole.specs.SignedEnds.{SignedEnds, leastProduct, greatestProduct}
 use Rattle.ends.specs.declared.SignedEnds as code
 use Rattle.ends.specs.Code.{endsOf}
 use Rattle.ends.specs.EndLaws.{Within, least-under, greatest-under}
-use Rattle.ends.proofs.Signed.{bits, read, sum}
-use Rattle.weights.specs.Weights.{fitted, firstClosed, lastClosed, weight}
+use Rattle.ends.proofs.Signed.{read, sum}
+use Rattle.weights.specs.Weights.{fitted}
 use Rattle.weights.specs.Totals.{weightLimit}
-use Rattle.weights.specs.WeightLaws.{weight-under}
 use Rattle.closure.specs.Closure.{endsAt, leastSum, greatestSum}
-use Rattle.closure.specs.Code.{listOf, endLimit, sumsLimit, InLimit, withProduct}
+use Rattle.closure.specs.Code.{listOf, endLimit, sumsLimit, InLimit, weightOf, RowWithin, withProduct}
 
 -- a sum with the least or the greatest product of a weight with the ends of H: it fits, and is read as it is
 module _ {s w : ℤ} {e : SignedEnds} (hs : Under s sumsLimit) (hw : Under w weightLimit) (he : Within endLimit e) where
@@ -35,8 +34,8 @@ module _ {s w : ℤ} {e : SignedEnds} (hs : Under s sumsLimit) (hw : Under w wei
   next-greatest f = next (greatest-under hw he) (rw (back hw tt) at f)
 
 -- the sums of the first n products
-abbrev pub sumsTo : ℕ → List SignedEnds → ℕ → SignedEnds
-sumsTo x hs n = record { lower = leastSum x hs n; upper = greatestSum x hs n }
+abbrev pub sumsTo : (ℕ → ℤ) → List SignedEnds → ℕ → SignedEnds
+sumsTo w hs n = record { lower = leastSum w hs n; upper = greatestSum w hs n }
 
 -- the ends that the code reads at i are the definition's
 abbrev pub codeAt : List code.SignedEnds → ℕ → code.SignedEnds
@@ -49,27 +48,26 @@ pub ends-within : (h : List code.SignedEnds) → InLimit h → (i : ℕ) → i <
 ends-within h k i l = rw (← ends-at h i) (k i l)
 
 -- with the i-th product added they give the next sums
-pub sums-next : (x : ℕ) (h : List code.SignedEnds) (i : ℕ)
-    → withProduct (sumsTo x (listOf h) i) (weight x i) (endsOf (codeAt h i))
-    ≡ sumsTo x (listOf h) (i + 1)
+pub sums-next : (w : ℕ → ℤ) (h : List code.SignedEnds) (i : ℕ)
+    → withProduct (sumsTo w (listOf h) i) (w i) (endsOf (codeAt h i))
+    ≡ sumsTo w (listOf h) (i + 1)
 unfolding withProduct leastSum greatestSum
-sums-next x h i = rw (add-one i, ends-at h i)
+sums-next w h i = rw (add-one i, ends-at h i)
 
 -- the sums stay within their limit
-module _ {x : ℕ} (hs : List SignedEnds) (l : firstClosed ≤ x) (m : x ≤ lastClosed)
-    (h : (i : ℕ) → i < fitted → Within endLimit (endsAt hs i)) where
-  sums-grow : (n : ℕ) → n ≤ fitted → Within (n * (weightLimit * endLimit)) (sumsTo x hs n)
+module _ (row : List ℤ) (hs : List SignedEnds) (r : RowWithin row) (h : (i : ℕ) → i < fitted → Within endLimit (endsAt hs i)) where
+  sums-grow : (n : ℕ) → n ≤ fitted → Within (n * (weightLimit * endLimit)) (sumsTo (weightOf row) hs n)
   unfolding leastSum greatestSum
   sums-grow zero k = record { low = under-lit tt; high = under-lit tt }
   sums-grow (suc n) k =
       let a = sums-grow n (omega arith) in
-      let w = weight-under l m k in
+      let w = r .weights n k in
       record {
         low = under-weaken (under-add (a .low) (least-under w (h n k))) (omega arith);
         high = under-weaken (under-add (a .high) (greatest-under w (h n k))) (omega arith);
       }
 
-  pub sums-within : (n : ℕ) → n ≤ fitted → Within sumsLimit (sumsTo x hs n)
+  pub sums-within : (n : ℕ) → n ≤ fitted → Within sumsLimit (sumsTo (weightOf row) hs n)
   sums-within n k =
       let a = sums-grow n k in
       record { low = under-weaken (a .low) (omega arith); high = under-weaken (a .high) (omega arith) }

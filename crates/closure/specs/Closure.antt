@@ -11,14 +11,18 @@ abbrev pub endsAt : List SignedEnds → ℕ → SignedEnds
 endsAt hs i = getD hs i (record { lower = pos 0; upper = pos 0 })
 
 -- the weighted sums of the first n, least and greatest: a negative weight exchanges the ends
-unfoldable pub leastSum : ℕ → List SignedEnds → ℕ → ℤ
-leastSum x hs zero = pos 0
-leastSum x hs (suc n) = leastSum x hs n +ℤ leastProduct (weight x n) (endsAt hs n)
+unfoldable pub leastSum : (ℕ → ℤ) → List SignedEnds → ℕ → ℤ
+leastSum w hs zero = pos 0
+leastSum w hs (suc n) = leastSum w hs n +ℤ leastProduct (w n) (endsAt hs n)
 
-unfoldable pub greatestSum : ℕ → List SignedEnds → ℕ → ℤ
-greatestSum x hs zero = pos 0
-greatestSum x hs (suc n) = greatestSum x hs n +ℤ greatestProduct (weight x n) (endsAt hs n)
+unfoldable pub greatestSum : (ℕ → ℤ) → List SignedEnds → ℕ → ℤ
+greatestSum w hs zero = pos 0
+greatestSum w hs (suc n) = greatestSum w hs n +ℤ greatestProduct (w n) (endsAt hs n)
+
+-- the weighted sum over 110, by these weights
+unfoldable pub weightedMean : (ℕ → ℤ) → List SignedEnds → SignedEnds
+weightedMean w hs = outward (leastSum w hs fitted) (greatestSum w hs fitted) weightUnit
 
 -- G at age x
-unfoldable pub closedSum : ℕ → List SignedEnds → SignedEnds
-closedSum x hs = outward (leastSum x hs fitted) (greatestSum x hs fitted) weightUnit
+abbrev pub closedSum : ℕ → List SignedEnds → SignedEnds
+closedSum x hs = weightedMean (weight x) hs

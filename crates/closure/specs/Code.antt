@@ -2,7 +2,9 @@
 -- their weighted sums are worked, and the sums with one product added.
 use mathlib.Core.List.{List, map}
 use Prim.Native.Nat.{ℕ, _*_, _^_, _<_}
-use lib.IntN.{ℤ, _+ℤ_}
+use lib.IntN.{ℤ, pos, _+ℤ_}
+use lib.ListN.{getD}
+use Rattle.whole.specs.Bound.{Under}
 use Rattle.whole.specs.SignedEnds.{SignedEnds, leastProduct, greatestProduct}
 use Rattle.ends.specs.declared.SignedEnds as code
 use Rattle.ends.specs.Code.{endsOf}
@@ -25,6 +27,13 @@ sumsLimit = fitted * (weightLimit * endLimit)
 -- every end of H is within its limit
 abbrev pub InLimit : List code.SignedEnds → Type 0
 InLimit h = (i : ℕ) → i < fitted → Within endLimit (endsAt (listOf h) i)
+
+-- the weights of a row, each within its limit
+abbrev pub weightOf : List ℤ → ℕ → ℤ
+weightOf row i = getD row i (pos 0)
+
+pub record RowWithin (row : List ℤ) : Type 0 where
+  pub weights : (i : ℕ) → i < fitted → Under (weightOf row i) weightLimit
 
 -- the sums with w times the ends added
 unfoldable pub withProduct : SignedEnds → ℤ → SignedEnds → SignedEnds

@@ -7,3 +7,4 @@ pub mod WeightedSum
 pub mod SumWidth
 pub mod SumNarrow
 pub mod SumBound
+pub mod Rows

@@ -15,7 +15,7 @@ use Rattle.ends.specs.EndLaws.{product-spread, product-ordered}
 use Rattle.weights.specs.Weights.{fitted, firstClosed, lastClosed, weightUnit, weight}
 use Rattle.weights.specs.Totals.{mostSize, sizeTotal}
 use Rattle.weights.specs.WeightLaws.{weights-size}
-use Rattle.closure.specs.Closure.{endsAt, leastSum, greatestSum, closedSum}
+use Rattle.closure.specs.Closure.{endsAt, leastSum, greatestSum, weightedMean, closedSum}
 
 -- ---- the sums of the first n
 
@@ -33,18 +33,18 @@ sum-algebra a b c d s t W h k =
 
 module _ (x : ℕ) (hs : List SignedEnds) where
   sum-width : (W n : ℕ) → ((i : ℕ) → i < n → endsAt hs i .upper ≤ℤ (endsAt hs i .lower +ℤ pos W))
-      → greatestSum x hs n ≤ℤ (leastSum x hs n +ℤ pos (sizeTotal x n * W))
+      → greatestSum (weight x) hs n ≤ℤ (leastSum (weight x) hs n +ℤ pos (sizeTotal x n * W))
   unfolding greatestSum leastSum sizeTotal
   sum-width W zero h = omega split
   sum-width W (suc n) h =
       let w = weight x n in
       let e = endsAt hs n in
-      sum-algebra (greatestSum x hs n) (leastSum x hs n) (greatestProduct w e) (leastProduct w e) (sizeTotal x n)
+      sum-algebra (greatestSum (weight x) hs n) (leastSum (weight x) hs n) (greatestProduct w e) (leastProduct w e) (sizeTotal x n)
       (natAbs w) W
       (sum-width W n (λ i l. h i (omega arith))) (product-spread w e W (h n (omega arith)))
 
   sum-ordered : (n : ℕ) → ((i : ℕ) → i < n → endsAt hs i .lower ≤ℤ endsAt hs i .upper)
-      → leastSum x hs n ≤ℤ greatestSum x hs n
+      → leastSum (weight x) hs n ≤ℤ greatestSum (weight x) hs n
   unfolding greatestSum leastSum
   sum-ordered zero h = ≤ℤ-refl (pos 0)
   sum-ordered (suc n) h =
@@ -65,16 +65,16 @@ module _ (x : ℕ) (hs : List SignedEnds) where
   pub closedSum-width : (W : ℕ) → firstClosed ≤ x → x ≤ lastClosed
       → ((i : ℕ) → i < fitted → endsAt hs i .upper ≤ℤ (endsAt hs i .lower +ℤ pos W))
       → closedSum x hs .upper ≤ℤ (closedSum x hs .lower +ℤ pos (mostSize * W / weightUnit + 2))
-  unfolding closedSum outward
+  unfolding weightedMean outward
   closedSum-width W l m h =
-      quotient-width (leastSum x hs fitted) (greatestSum x hs fitted) (sizeTotal x fitted * W) W
+      quotient-width (leastSum (weight x) hs fitted) (greatestSum (weight x) hs fitted) (sizeTotal x fitted * W) W
       (sum-width x hs W fitted h)
       (mul-le-mul-right W (weights-size x l m))
 
   -- in order where H's are
   pub closedSum-ordered : ((i : ℕ) → i < fitted → endsAt hs i .lower ≤ℤ endsAt hs i .upper)
       → closedSum x hs .lower ≤ℤ closedSum x hs .upper
-  unfolding closedSum outward
+  unfolding weightedMean outward
   closedSum-ordered h =
       ≤ℤ-trans (floor-mono {m = weightUnit} (lit< tt) (sum-ordered x hs fitted h))
-      (floor-le-ceil (greatestSum x hs fitted) (lit< tt))
+      (floor-le-ceil (greatestSum (weight x) hs fitted) (lit< tt))

@@ -20,7 +20,7 @@ use Rattle.expo.specs.Grid.{Grid}
 use Rattle.expo.specs.Facts.{Sound}
 use Rattle.weights.specs.Weights.{fitted, weightUnit, weight}
 use Rattle.logistic.specs.Units.{Interval, inUnitsℚ, SignedOverlap}
-use Rattle.closure.specs.Closure.{endsAt, leastSum, greatestSum, closedSum}
+use Rattle.closure.specs.Closure.{endsAt, leastSum, greatestSum, weightedMean, closedSum}
 use Rattle.closure.specs.Exact.{intervalAt, leastScaled, greatestScaled, exactLeastSum}
 use Rattle.closure.specs.Exact.{exactGreatestSum, exactClosedSum}
 
@@ -70,32 +70,32 @@ module _ (g : Grid) (s : Sound g) where
 module _ (g : Grid) (s : Sound g) (x : ℕ) (hs : List SignedEnds) (es : List Interval) where
   -- the sums of the first n
   sum-below : (n : ℕ) → ((i : ℕ) → i < n → SignedOverlap g s (endsAt hs i) (intervalAt es i))
-      → inUnitsℚ g s (leastSum x hs n) ≤ℚ exactGreatestSum x es n
+      → inUnitsℚ g s (leastSum (weight x) hs n) ≤ℚ exactGreatestSum x es n
   unfolding leastSum exactGreatestSum
   sum-below zero o = zero-units g s .below
   sum-below (suc n) o =
-      ≤ℚ-trans (units-sum g s (leastSum x hs n) (leastProduct (weight x n) (endsAt hs n)) .below)
+      ≤ℚ-trans (units-sum g s (leastSum (weight x) hs n) (leastProduct (weight x n) (endsAt hs n)) .below)
       (+ℚ-mono (sum-below n (λ i l. o i (omega arith)))
       (product-below g s (weight x n) (endsAt hs n) (intervalAt es n) (o n (omega arith))))
 
   sum-above : (n : ℕ) → ((i : ℕ) → i < n → SignedOverlap g s (endsAt hs i) (intervalAt es i))
-      → exactLeastSum x es n ≤ℚ inUnitsℚ g s (greatestSum x hs n)
+      → exactLeastSum x es n ≤ℚ inUnitsℚ g s (greatestSum (weight x) hs n)
   unfolding greatestSum exactLeastSum
   sum-above zero o = zero-units g s .above
   sum-above (suc n) o =
       ≤ℚ-trans
       (+ℚ-mono (sum-above n (λ i l. o i (omega arith)))
       (product-above g s (weight x n) (endsAt hs n) (intervalAt es n) (o n (omega arith))))
-      (units-sum g s (greatestSum x hs n) (greatestProduct (weight x n) (endsAt hs n)) .above)
+      (units-sum g s (greatestSum (weight x) hs n) (greatestProduct (weight x n) (endsAt hs n)) .above)
 
   -- G's ends overlap the order's interval of G
   pub closedSum-overlap : ((i : ℕ) → i < fitted → SignedOverlap g s (endsAt hs i) (intervalAt es i))
       → SignedOverlap g s (closedSum x hs) (exactClosedSum x es)
-  unfolding closedSum exactClosedSum outward
+  unfolding weightedMean exactClosedSum outward
   closedSum-overlap o =
       record {
-        below = ≤ℚ-trans (units-floor g s (leastSum x hs fitted) (lit< tt))
+        below = ≤ℚ-trans (units-floor g s (leastSum (weight x) hs fitted) (lit< tt))
             (quotientℚ-mono (sum-below fitted o) weightUnit (lit< tt));
         above = ≤ℚ-trans (quotientℚ-mono (sum-above fitted o) weightUnit (lit< tt))
-            (units-ceil g s (greatestSum x hs fitted) (lit< tt));
+            (units-ceil g s (greatestSum (weight x) hs fitted) (lit< tt));
       }

@@ -1,18 +1,14 @@
-// G at ages 91 to 120 on the grid: the weighted sum of H at ages 80 to 90, over 110.
+// G at ages 91 to 120 on the grid: the weighted sum of H at ages 80 to 90, over 110, by a row of weights.
 ghost use mathlib.Core.Path.{_≡_};
-ghost use Prim.Native.Nat.{_≤_};
 ghost use Rattle.whole.specs.Bound.{Under};
 ghost use Rattle.ends.specs.Code.{endsOf};
 ghost use Rattle.ends.specs.EndLaws.{Within};
-ghost use Rattle.weights.specs.Weights.{firstClosed, lastClosed};
 ghost use Rattle.weights.specs.Totals.{weightLimit};
-ghost use Rattle.closure.specs.Closure.{closedSum};
-ghost use Rattle.closure.specs.Code.{listOf, endLimit, sumsLimit, InLimit, withProduct};
+ghost use Rattle.closure.specs.Closure.{weightedMean};
+ghost use Rattle.closure.specs.Code.{listOf, endLimit, sumsLimit, InLimit, weightOf, RowWithin, withProduct};
 use ends::SignedEnds;
-
-const FITTED: usize = 11;
-
-const WEIGHT_UNIT: i64 = 110;
+use weights::FITTED;
+use weights::WEIGHT_UNIT;
 
 // The least and the greatest sum with w times the ends added.
 fn add_product(sums: SignedEnds, w: i64, e: SignedEnds) -> SignedEnds
@@ -27,12 +23,11 @@ fn add_product(sums: SignedEnds, w: i64, e: SignedEnds) -> SignedEnds
     }
 }
 
-// G at age x, of the ends of H.
-pub fn closed_sum(x: usize, h: [SignedEnds; 11]) -> SignedEnds
-    requires { ⌜ (firstClosed ≤ x) × (x ≤ lastClosed) × InLimit h ⌝ }
-    ensures { λ r. ⌜ endsOf r ≡ closedSum x (listOf h) ⌝ }
+// The weighted sum of the ends of H over 110, by a row of weights.
+pub fn closed_sum(row: [i64; 11], h: [SignedEnds; 11]) -> SignedEnds
+    requires { ⌜ RowWithin row × InLimit h ⌝ }
+    ensures { λ r. ⌜ endsOf r ≡ weightedMean (weightOf row) (listOf h) ⌝ }
 {
-    let row = weights::row_at(x);
     let mut sums = SignedEnds { lower: 0, upper: 0 };
     let mut i = 0;
     while i < FITTED {

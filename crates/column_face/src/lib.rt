@@ -1,33 +1,35 @@
 // The library's face for the benchmark in C: the ends of q at ages 0 to 120 in years of one sheet.
 ghost use mathlib.Core.Path.{_≡_};
-ghost use Prim.Native.Nat.{suc, _+_, _≤_, _<_};
+ghost use Prim.Native.Nat.{suc, _+_, _*_, _≤_};
 ghost use lib.Dec.{T};
 ghost use lib.ListN.{length};
 ghost use Rattle.params.specs.Limits.{inLimits, lastYears};
+ghost use Rattle.weights.specs.Weights.{lastClosed};
 ghost use Rattle.closure.specs.Code.{InLimit};
-ghost use Rattle.mortality.specs.Code.{YearOf};
+ghost use Rattle.mortality.specs.Code.{YearOf, Chance};
 use mortality::Cell;
 use mortality::Fitted;
 use mortality::Year;
+use params::LAST_YEARS;
 use params::Params;
+use weights::FIRST_CLOSED;
+use weights::LAST_CLOSED;
 
-const FIRST_CLOSED: usize = 91;
-
-const COLUMN: usize = 121;
-
-const LAST_YEARS: u64 = 171;
+// Two ends for each age.
+const ROOM: usize = 2 * (LAST_CLOSED + 1);
 
 // Ends that stand for a steep cell.
 const STEEP: u64 = 2_000_000_000;
 
 // The two ends of age x, at 2x and 2x + 1.
 fn put_cell(out: &mut [u64], x: usize, cell: Cell)
-    requires { ⌜ (x < 121) × (242 ≤ length (now out)) ⌝ }
+    requires { ⌜ (x ≤ lastClosed) × (2 * suc lastClosed ≤ length (now out)) × Chance cell ⌝ }
     ensures { λ r. ⌜ length (now (out .exit)) ≡ length (now (out .entry)) ⌝ }
 {
     let mut lower = STEEP;
     let mut upper = STEEP;
-    if let Cell::Of(q) = cell {
+    if let Cell::Of(p) = cell {
+        let q = force::death_of(p);
         lower = q.lower;
         upper = q.upper;
     }
@@ -36,29 +38,38 @@ fn put_cell(out: &mut [u64], x: usize, cell: Cell)
 }
 
 fn put_young(p: Params, y: Year, out: &mut [u64])
-    requires { ⌜ YearOf p y × (242 ≤ length (now out)) ⌝ }
+    requires { ⌜ YearOf p y × (2 * suc lastClosed ≤ length (now out)) ⌝ }
     ensures { λ r. ⌜ length (now (out .exit)) ≡ length (now (out .entry)) ⌝ }
 {
     let mut x = 0;
     while x < FIRST_CLOSED {
-        put_cell(out, x, mortality::young_cell(p, x, y));
+        put_cell(
+            out,
+            x,
+            mortality::young_cell(
+                params::age_of_runs(&p.level, &p.slope, &p.alpha, &p.beta, x),
+                y,
+            ),
+        );
         x += 1;
     }
 }
 
 fn put_old(f: Fitted, out: &mut [u64])
-    requires { ⌜ (T (f .ok) → InLimit (f .ends)) × (242 ≤ length (now out)) ⌝ }
+    requires { ⌜ (T (f .ok) → InLimit (f .ends)) × (2 * suc lastClosed ≤ length (now out)) ⌝ }
     ensures { λ r. ⌜ length (now (out .exit)) ≡ length (now (out .entry)) ⌝ }
 {
+    let table = weights::table();
     let mut x = FIRST_CLOSED;
-    while x < COLUMN {
-        put_cell(out, x, mortality::old_cell(x, f));
+    while x <= LAST_CLOSED {
+        let row = table[x - FIRST_CLOSED];
+        put_cell(out, x, mortality::old_cell(row, f));
         x += 1;
     }
 }
 
 fn put_columns(p: Params, first: u64, count: u64, out: &mut [u64])
-    requires { ⌜ T (inLimits p) × (first + count ≤ suc lastYears) × (242 ≤ length (now out)) ⌝ }
+    requires { ⌜ T (inLimits p) × (first + count ≤ suc lastYears) × (2 * suc lastClosed ≤ length (now out)) ⌝ }
 {
     let mut i = 0;
     while i < count {
@@ -80,13 +91,14 @@ pub extern "C" fn columns_of(sheet: &[u8], first: u64, count: u64, out: &mut [u6
     if number != 0 {
         return number;
     }
-    if out.len() < 242 {
+    if out.len() < ROOM {
         return 7;
     }
-    if LAST_YEARS < first {
+    let years = LAST_YEARS as u64;
+    if years < first {
         return 4;
     }
-    if LAST_YEARS - first < count {
+    if years - first < count {
         return 4;
     }
     if params::in_limits(set) {

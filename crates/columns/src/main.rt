@@ -8,7 +8,7 @@ ghost use lib.Dec.{T};
 ghost use lib.ListN.{length};
 ghost use Rattle.params.specs.Limits.{inLimits};
 ghost use Rattle.closure.specs.Code.{InLimit};
-ghost use Rattle.mortality.specs.Code.{YearOf};
+ghost use Rattle.mortality.specs.Code.{YearOf, Chance};
 use libc::STDIN_FILENO;
 use libc::STDOUT_FILENO;
 use mortality::Cell;
@@ -17,18 +17,11 @@ use mortality::Year;
 use params::Params;
 use params::Refusal;
 use sheet::Reading;
+use weights::FIRST_CLOSED;
+use weights::LAST_CLOSED;
 
 // The longest sheet that a record may hold.
 const MOST_SHEET: usize = 16_384;
-
-// Year n of the table is 2013 + n, to 2184.
-const START: u64 = 2013;
-
-const LAST: u64 = 2184;
-
-const FIRST_CLOSED: usize = 91;
-
-const LAST_CLOSED: usize = 120;
 
 // The number of two bytes, largest first.
 fn two_bytes(high: u8, low: u8) -> u64
@@ -41,10 +34,13 @@ fn print_text(text: &[u8]) {
     io::write_all(STDOUT_FILENO, text);
 }
 
-fn print_cell(cell: Cell) {
+fn print_cell(cell: Cell)
+    requires { ⌜ Chance cell ⌝ }
+{
     match cell {
         Cell::Steep => print_text(b"steep"),
-        Cell::Of(q) => {
+        Cell::Of(p) => {
+            let q = force::death_of(p);
             io::print_decimal(STDOUT_FILENO, q.lower);
             print_text(b":");
             io::print_decimal(STDOUT_FILENO, q.upper);
@@ -52,36 +48,44 @@ fn print_cell(cell: Cell) {
     }
 }
 
-// Ages 0 to 90, each with a blank after it.
+// Ages 0 to 90, with a blank between two.
 fn print_young(p: Params, y: Year)
     requires { ⌜ YearOf p y ⌝ }
 {
     let mut x = 0;
     while x < FIRST_CLOSED {
-        print_cell(mortality::young_cell(p, x, y));
-        print_text(b" ");
+        if 0 < x {
+            print_text(b" ");
+        }
+        print_cell(mortality::young_cell(
+            params::age_of_runs(&p.level, &p.slope, &p.alpha, &p.beta, x),
+            y,
+        ));
         x += 1;
     }
 }
 
-// Ages 91 to 120.
+// Ages 91 to 120, with a blank before each.
 fn print_old(f: Fitted)
     requires { ⌜ (T (f .ok) → InLimit (f .ends)) ⌝ }
 {
+    let table = weights::table();
     let mut x = FIRST_CLOSED;
-    while x < LAST_CLOSED {
-        print_cell(mortality::old_cell(x, f));
+    while x <= LAST_CLOSED {
+        let row = table[x - FIRST_CLOSED];
         print_text(b" ");
+        print_cell(mortality::old_cell(row, f));
         x += 1;
     }
-    print_cell(mortality::old_cell(LAST_CLOSED, f));
 }
 
 fn print_year(p: Params, year: u64)
     requires { ⌜ T (inLimits p) ⌝ }
 {
-    if START < year && year <= LAST {
-        let y = mortality::year_at(p, year - START);
+    let start = params::START_YEAR as u64;
+    let last = params::LAST_YEARS as u64;
+    if start < year && year - start <= last {
+        let y = mortality::year_at(p, year - start);
         print_young(p, y);
         print_old(mortality::fitted_in(p, y));
     }

@@ -1,21 +1,17 @@
 -- What the proofs about signed numbers and two ends share: sums, products and quotients as the code forms them, in 64 bits.
-use mathlib.Core.Path.{_≡_, refl, sym, _∙_}
-use mathlib.Core.Bool.{true, false, true≢false, false≢true}
+use mathlib.Core.Path.{_≡_, refl}
+use mathlib.Core.Bool.{Bool, true, false, cond}
 use Prim.Native.Nat.{ℕ}
-use lib.Dec.{leb·suc-zero}
-use lib.IntN.{ℤ, pos, negsuc, _+ℤ_, _*ℤ_}
+use lib.IntN.{ℤ, pos, _+ℤ_, _*ℤ_}
 use lib.Signed.{nonNeg, ltZ}
 use mir.Syntax.{w64}
-use mir.Val.{SFits, toZ, ofZ}
+use mir.Val.{SFits}
 use mir.Facts.{toZ-ofZ}
 use Rattle.whole.specs.Division.{floorDiv, ceilDiv}
-use Rattle.whole.specs.Bound.{fits-floor, fits-ceil}
-use Rattle.whole.specs.SignedEnds.{SignedEnds, leastProduct, greatestProduct}
+use Rattle.whole.specs.Bound.{bits, fits-floor, fits-ceil}
+use Rattle.whole.specs.Sign.{Sign, minus, plain, sign}
+use Rattle.whole.specs.SignedEnds.{SignedEnds}
 use Rattle.ends.specs.declared.SignedEnds as code
-
--- a number as the code reads it from its bits
-abbrev pub bits : ℤ → ℤ
-bits z = toZ w64 (ofZ w64 z)
 
 -- a number that is z is read as z, and so are its floor and its ceiling
 pub read : {r z : ℤ} → r ≡ z → SFits w64 z → bits r ≡ z
@@ -43,28 +39,19 @@ pub record EndsFit (e : code.SignedEnds) : Type 0 where
   pub lower : SFits w64 (e .lower)
   pub upper : SFits w64 (e .upper)
 
--- the sign, by the code's test
-negative : (c : ℤ) → ltZ c (pos 0) ≡ true → nonNeg c ≡ false
-negative (pos n) e = absurd (false≢true (sym (leb·suc-zero n) ∙ e))
-negative (negsuc n) e = refl
+-- the product of c with the end that its sign, by the code's test b, chooses: u where c is negative, else l. Where the
+-- definition's choice fits, the code's does, and is read as it.
+chosen : {c : ℤ} {b : Bool} (l u : ℤ) → Sign c b → cond (nonNeg c) (c *ℤ l) (c *ℤ u) ≡ c *ℤ cond b u l
+chosen l u (minus n) = refl
+chosen l u (plain n) = refl
 
-not-negative : (c : ℤ) → ltZ c (pos 0) ≡ false → nonNeg c ≡ true
-not-negative (pos n) e = refl
-not-negative (negsuc n) e = absurd (true≢false e)
-
--- so the products of two ends with c
-pub least-negative : (c : ℤ) (e : SignedEnds) → ltZ c (pos 0) ≡ true → leastProduct c e ≡ c *ℤ e .upper
-unfolding leastProduct
-least-negative c e t = rw (negative c t)
-
-pub least-other : (c : ℤ) (e : SignedEnds) → ltZ c (pos 0) ≡ false → leastProduct c e ≡ c *ℤ e .lower
-unfolding leastProduct
-least-other c e t = rw (not-negative c t)
-
-pub greatest-negative : (c : ℤ) (e : SignedEnds) → ltZ c (pos 0) ≡ true → greatestProduct c e ≡ c *ℤ e .lower
-unfolding greatestProduct
-greatest-negative c e t = rw (negative c t)
-
-pub greatest-other : (c : ℤ) (e : SignedEnds) → ltZ c (pos 0) ≡ false → greatestProduct c e ≡ c *ℤ e .upper
-unfolding greatestProduct
-greatest-other c e t = rw (not-negative c t)
+pub choice : {c l u : ℤ} {b : Bool} → SFits w64 c → SFits w64 l → SFits w64 u → ltZ (bits c) (pos 0) ≡ b
+    → SFits w64 (cond (nonNeg c) (c *ℤ l) (c *ℤ u))
+    → SFits w64 (bits c *ℤ bits (cond b u l)) × (bits (bits c *ℤ bits (cond b u l)) ≡ cond (nonNeg c) (c *ℤ l) (c *ℤ u))
+choice {c} {l} {u} {b} f fl fu t h =
+    let e = chosen l u (sign c (rw (toZ-ofZ f) at t)) in
+    product (toZ-ofZ f) (read-choice b) e h
+  where
+    read-choice : (b : Bool) → bits (cond b u l) ≡ cond b u l
+    read-choice true = toZ-ofZ fu
+    read-choice false = toZ-ofZ fl

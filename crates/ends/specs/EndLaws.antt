@@ -14,7 +14,7 @@ use Rattle.whole.specs.DivisionLaws.{split-floor, split-ceil, le-of-mul-lt}
 use Rattle.whole.specs.DivisionLaws.{floor-below, ceil-above, floor-mono, floor-le-ceil}
 use Rattle.whole.specs.Bound.{Under, under-mul, under-cond, under-floor-to, under-ceil-to}
 use Rattle.whole.specs.SignedEnds.{SignedEnds, leastProduct, greatestProduct, outward}
-use Rattle.fraction.specs.Fraction.{Fraction, _≤ℚ_, wholeℚ, _*ℚ_, scaleℚ, quotientℚ}
+use Rattle.fraction.specs.Fraction.{Fraction, _≤ℚ_, wholeℚ, scaleℚ, quotientℚ}
 use Rattle.fraction.specs.FractionLaws.{≤ℚ-trans, scaleℚ-keeps, scaleℚ-exchanges, wholeℚ-≤ℚ, wholeℚ-*ℚ}
 use Rattle.fraction.specs.FractionLaws.{quotientℚ-≤ℚ, ≤ℚ-quotientℚ}
 

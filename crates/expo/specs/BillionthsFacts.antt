@@ -20,14 +20,14 @@ tested = 60
 
 -- c is at most unit/(s + r) at n, and what stands for its upper end, the unit at n = 0 and c + 1 after it, at least unit/s
 holdsBelow : ℕ → ℕ → Bool
-holdsBelow n c = leb (c * stretchedNum n 1 tested) (1000000000 * stretchedDen n 1 tested)
+holdsBelow n c = leb (c * stretchedNum n 1 tested) (billionths .unit * stretchedDen n 1 tested)
 
 upperOf : ℕ → ℕ → ℕ
-upperOf zero c = 1000000000
+upperOf zero c = billionths .unit
 upperOf (suc n) c = suc c
 
 holdsAbove : ℕ → ℕ → Bool
-holdsAbove n c = leb (1000000000 * taylorDen 1 tested) (upperOf n c * taylorNum n 1 tested)
+holdsAbove n c = leb (billionths .unit * taylorDen 1 tested) (upperOf n c * taylorNum n 1 tested)
 
 below : (n : ℕ) → n < length wholeParts → constantLower billionths n * stretchedNum n 1 tested ≤ 1000000000 * stretchedDen n 1 tested
 unfolding holdsBelow wholeParts constantLower taylorDen taylorNum stretchedDen stretchedNum gap

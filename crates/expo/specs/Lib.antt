@@ -16,4 +16,5 @@ pub mod Soundness
 pub mod Holds
 pub mod NearSums
 pub mod Width
+pub mod AtMostOne
 pub mod BillionthsFacts

@@ -7,7 +7,8 @@ ghost use Rattle.expo.specs.Billionths.{billionths};
 ghost use Rattle.expo.specs.Exponential.{nextLower, nextUpper, sumLower, sumUpper, expLower, expUpper, expBetween};
 ghost use Rattle.expo.specs.Code.{TermRange, endsOf};
 
-const UNIT: u64 = 1_000_000_000;
+// Units in 1.
+pub const UNIT: u64 = 1_000_000_000;
 
 // z from which the exponential is [0, 1].
 const CUTOFF: u64 = 21_000_000_000;
@@ -109,17 +110,22 @@ fn sum_upper(f: u64) -> u64
     UNIT
 }
 
-// The lower end of the exponential of −z.
+// The lower end of the exponential of −z. Below 1 the constant is 1, and the sum is the answer.
 pub fn exp_lower(z: u64) -> u64
     ensures { λ r. ⌜ r ≡ expLower billionths z ⌝ }
 {
     if z < CUTOFF {
-        return sum_lower(z % UNIT) * WHOLE_PARTS[(z / UNIT) as usize] / UNIT;
+        let sum = sum_lower(z % UNIT);
+        let n = z / UNIT;
+        if n == 0 {
+            return sum;
+        }
+        return sum * WHOLE_PARTS[n as usize] / UNIT;
     }
     0
 }
 
-// The upper end of the exponential of −z. Below 1 the constant is 1, and the sum is the answer.
+// The upper end of the exponential of −z.
 pub fn exp_upper(z: u64) -> u64
     ensures { λ r. ⌜ r ≡ expUpper billionths z ⌝ }
 {

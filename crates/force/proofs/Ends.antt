@@ -1,32 +1,31 @@
 -- The ends of −m, of the exponential and of H as the code forms them, for a log force m in range: each fits 64 bits and is
 -- read as the number that the definition has.
 use mathlib.Core.Path.{_≡_, refl, _∙_}
-use mathlib.Core.Bool.{true}
 use Prim.Native.Nat.{ℕ, zero, suc, _+_, _*_, _≤_, _<_}
 use native.Mathlib.Nat.{le-trans, div-le-self}
 use native.Mathlib.Omega.{arith}
 use lib.Dec.{T, lit<, lit≤}
-use lib.IntN.{ℤ, pos, negsuc, natAbs, _+ℤ_, _-ℤ_}
-use lib.Signed.{nonNeg, ltZ}
+use lib.IntN.{ℤ, pos, natAbs, _+ℤ_, _-ℤ_}
+use lib.Signed.{nonNeg}
 use mir.Syntax.{w64}
 use mir.Val.{Fits, SFits}
 use mir.Facts.{toZ-ofZ}
 use Rattle.whole.specs.Split.{below}
-use Rattle.whole.specs.Bound.{Under, under-pos, under-weaken, under-add, fits, back}
+use Rattle.whole.specs.Sign.{below-sign, below-size}
+use Rattle.whole.specs.Bound.{bits, Under, under-pos, under-weaken, under-add, fits, back}
 use Rattle.whole.specs.DivisionLaws.{ceilℕ-least}
 use Rattle.whole.specs.SignedEnds.{SignedEnds}
 use Rattle.expo.specs.Grid.{Ends}
 use Rattle.expo.specs.Exponential.{expBetween}
 use Rattle.expo.specs.Billionths.{billionths}
 use Rattle.expo.specs.BillionthsFacts.{billionths-sound}
-use Rattle.ends.proofs.Signed.{bits, sum}
+use Rattle.expo.specs.AtMostOne.{exp-lower-one, exp-upper-one}
+use Rattle.ends.proofs.Signed.{sum}
 use Rattle.series.specs.Series.{lowestForce}
 use Rattle.series.specs.RangeLaws.{Negated}
 use Rattle.logarithm.specs.Logarithm.{powerLower, powerUpper, logTermsLower, logTermsUpper, logRest, logLower, logUpper}
 use Rattle.logarithm.specs.Powers.{power-lower-bound, power-upper-bound}
-use Rattle.logistic.specs.LogisticHolds.{exp-lower-one}
-use Rattle.logistic.specs.RelativeWidth.{exp-upper-one}
-use Rattle.logistic.proofs.Force.{negative}
+use Rattle.logistic.proofs.Force.{negated}
 
 -- ---- −m
 
@@ -40,16 +39,12 @@ pub record Minus (z : ℤ) : Type 0 where
   pub cast : T (nonNeg (bits (pos 0 -ℤ bits z))) × Fits w64 (natAbs (bits (pos 0 -ℤ bits z)))
   pub size : natAbs (bits (pos 0 -ℤ bits z)) ≡ below z
 
-negative-end : (z : ℤ) → 0 < below z → (ltZ z (pos 0) ≡ true) × (natAbs z ≡ below z)
-negative-end (pos n) h = absurd (omega arith)
-negative-end (negsuc n) h = (refl, refl)
-
 minus : (z : ℤ) → 0 < below z → below z ≤ rangeLimit → Minus z × Under z rangeLimit
 minus z h k =
-    let e = negative-end z h in
-    let u : Under z rangeLimit = record { under = rw (e .1) k } in
-    let s = negative (under-weaken u (lit≤ tt)) (rw (back u tt) (e .0)) in
-    (record { fits = s .fits; cast = s .cast; size = s .size ∙ e .1 }, u)
+    let b = below-sign z h in
+    let u : Under z rangeLimit = record { under = rw (below-size b) k } in
+    let s = negated (under-weaken u (lit≤ tt)) b in
+    (record { fits = s .fits; cast = s .cast; size = s .size ∙ below-size b }, u)
 
 module _ {m : SignedEnds} {w : ℕ} (r : Negated m w) where
   lower-minus : Minus (m .lower) × Under (m .lower) rangeLimit

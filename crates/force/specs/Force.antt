@@ -1,9 +1,8 @@
--- From a log force in range to z, and from a force to q, on a grid (paper 01, "The grid").
+-- From a log force in range to z, and from p to q, on a grid (paper 01, "The grid").
 use Prim.Native.Nat.{_-_}
 use Rattle.whole.specs.Split.{below}
 use Rattle.whole.specs.SignedEnds.{SignedEnds}
 use Rattle.expo.specs.Grid.{Grid, Ends}
-use Rattle.expo.specs.Exponential.{expBetween}
 
 -- −m of a log force that is in range, as z with two ends
 unfoldable pub negated : SignedEnds → Ends
@@ -11,6 +10,4 @@ negated m = record { lower = below (m .upper); upper = below (m .lower) }
 
 -- "p = exponential of −force; q = 10^9 − p, ends exchanged."
 unfoldable pub deathOf : Grid → Ends → Ends
-deathOf g f =
-    let s = expBetween g f in
-    record { lower = g .unit - s .upper; upper = g .unit - s .lower }
+deathOf g p = record { lower = g .unit - p .upper; upper = g .unit - p .lower }

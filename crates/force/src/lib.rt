@@ -1,6 +1,7 @@
-// What a log force in range gives on the grid of 10^-9, each with two ends: the force at an age to 90, H, to which the
-// closure is fitted, and q of a force.
+// What a log force in range gives on the grid of 10^-9, each with two ends: the force and p at an age to 90, and H, to
+// which the closure is fitted; and q of p.
 ghost use mathlib.Core.Path.{_≡_};
+ghost use Prim.Native.Nat.{_≤_};
 ghost use Rattle.expo.specs.Billionths.{billionths};
 ghost use Rattle.expo.specs.Exponential.{expBetween};
 ghost use Rattle.expo.specs.Code.{endsOf as gridEnds};
@@ -11,8 +12,7 @@ ghost use Rattle.logarithm.specs.Logarithm.{inverseLogistic};
 ghost use Rattle.force.specs.Force.{negated, deathOf};
 use ends::SignedEnds;
 use expo::Ends;
-
-const UNIT: u64 = 1_000_000_000;
+use expo::UNIT;
 
 // The force at an age to 90, e^m.
 pub fn force_to_90(m: SignedEnds) -> Ends
@@ -25,23 +25,23 @@ pub fn force_to_90(m: SignedEnds) -> Ends
     })
 }
 
-// q = 1 − e^−force, ends exchanged.
-pub fn death_of(force: Ends) -> Ends
-    ensures { λ r. ⌜ gridEnds r ≡ deathOf billionths (gridEnds force) ⌝ }
+// p at an age to 90, e^−force.
+pub fn survival_to_90(m: SignedEnds) -> Ends
+    requires { ⌜ Negated (endsOf m) logForceWidth ⌝ }
+    ensures { λ r. ⌜ gridEnds r ≡ expBetween billionths (expBetween billionths (negated (endsOf m))) ⌝ }
 {
-    let p = expo::exp_between(force);
+    expo::exp_between(force_to_90(m))
+}
+
+// q = 1 − p, ends exchanged.
+pub fn death_of(p: Ends) -> Ends
+    requires { ⌜ (p .lower ≤ billionths .unit) × (p .upper ≤ billionths .unit) ⌝ }
+    ensures { λ r. ⌜ gridEnds r ≡ deathOf billionths (gridEnds p) ⌝ }
+{
     Ends {
         lower: UNIT - p.upper,
         upper: UNIT - p.lower,
     }
-}
-
-// q at an age to 90.
-pub fn death_to_90(m: SignedEnds) -> Ends
-    requires { ⌜ Negated (endsOf m) logForceWidth ⌝ }
-    ensures { λ r. ⌜ gridEnds r ≡ deathOf billionths (expBetween billionths (negated (endsOf m))) ⌝ }
-{
-    death_of(force_to_90(m))
 }
 
 // H = m − ln(1 − e^m).
@@ -50,8 +50,9 @@ pub fn inverse_logistic(m: SignedEnds) -> SignedEnds
     ensures { λ r. ⌜ endsOf r ≡ inverseLogistic billionths (endsOf m) (expBetween billionths (negated (endsOf m))) ⌝ }
 {
     let u = force_to_90(m);
+    let more = logarithm::log_between(u);
     SignedEnds {
-        lower: m.lower + logarithm::log_lower(u.lower) as i64,
-        upper: m.upper + logarithm::log_upper(u.upper) as i64,
+        lower: m.lower + more.lower as i64,
+        upper: m.upper + more.upper as i64,
     }
 }

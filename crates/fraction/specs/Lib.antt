@@ -6,5 +6,6 @@ pub mod Fraction
 pub mod Rows
 -- laws
 pub mod RatioLaws
+pub mod Multiples
 pub mod FractionLaws
 pub mod Places

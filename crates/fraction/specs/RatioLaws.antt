@@ -1,7 +1,6 @@
 -- The laws of the fractions that are at least 0: order, sum, product, quotient, complement, and sums of lists.
 use mathlib.Core.Path.{_≡_, ap}
 use mathlib.Core.Logic.{_⊎_, inl, inr, _↔_}
-use mathlib.Core.List.{List, [], _∷_, _++_, map, Forall₂, Forall₂·nil, Forall₂·cons}
 use Prim.Native.Nat.{ℕ, _+_, _-_, _*_, _≤_, _<_}
 use native.Mathlib.Nat.{
   mul-le-mul,
@@ -16,19 +15,7 @@ use native.Mathlib.Nat.{
 }
 use native.Mathlib.Decide.{decLe}
 use native.Mathlib.Omega.{arith}
-use Rattle.fraction.specs.Ratio.{
-  Ratio,
-  _≤/_,
-  _</_,
-  _≈/_,
-  whole/,
-  _+/_,
-  _*/_,
-  quotient/,
-  reciprocal,
-  complement,
-  sum/,
-}
+use Rattle.fraction.specs.Ratio.{Ratio, _≤/_, _</_, _≈/_, whole/, _+/_, _*/_, quotient/, complement}
 
 -- ---- the order
 
@@ -58,12 +45,6 @@ pub ≈/-iff : {x y : Ratio} → (x ≈/ y) ↔ (x .num * y .den ≡ y .num * x 
 
 pub ≤/-antisym : {x y : Ratio} → x ≤/ y → y ≤/ x → x ≈/ y
 ≤/-antisym h k = record { below = h; above = k }
-
-pub ≈/-refl : (x : Ratio) → x ≈/ x
-≈/-refl x = ≤/-antisym (≤/-refl x) (≤/-refl x)
-
-pub ≈/-sym : {x y : Ratio} → x ≈/ y → y ≈/ x
-≈/-sym e = ≤/-antisym (e .above) (e .below)
 
 pub ≈/-trans : {x y z : Ratio} → x ≈/ y → y ≈/ z → x ≈/ z
 ≈/-trans e f = ≤/-antisym (≤/-trans (e .below) (f .below)) (≤/-trans (f .above) (e .above))
@@ -144,9 +125,6 @@ unfolding _+/_
 +/-mono {x} {y} {u} {v} h k = omega
     (arith, mul-le-mul-right (u .den * v .den) (h .cross), mul-le-mul-right (x .den * y .den) (k .cross))
 
-pub +/-cong : {x y u v : Ratio} → x ≈/ y → u ≈/ v → x +/ u ≈/ y +/ v
-+/-cong e f = ≤/-antisym (+/-mono (e .below) (f .below)) (+/-mono (e .above) (f .above))
-
 pub +/-comm : (x y : Ratio) → x +/ y ≈/ y +/ x
 unfolding _+/_
 +/-comm x y = omega arith
@@ -162,13 +140,6 @@ unfolding _+/_
   cross = le-of-mul-le-mul-right {k = u .den * u .den}
       (omega (arith, h .cross)) (mul-pos (u .positive) (u .positive));
 }
-
-pub +/-zero : (x : Ratio) → x +/ whole/ 0 ≈/ x
-unfolding _+/_ whole/
-+/-zero x = omega arith
-
-pub zero-+/ : (x : Ratio) → whole/ 0 +/ x ≈/ x
-zero-+/ x = ≈/-trans (+/-comm (whole/ 0) x) (+/-zero x)
 
 -- a summand is at most the sum
 pub ≤/-+/ : (x y : Ratio) → x ≤/ x +/ y
@@ -208,10 +179,6 @@ unfolding _*/_ whole/
 pub one-*/ : (x : Ratio) → whole/ 1 */ x ≈/ x
 one-*/ x = ≈/-trans (*/-comm (whole/ 1) x) (*/-one x)
 
-pub */-zero : (x : Ratio) → x */ whole/ 0 ≈/ whole/ 0
-unfolding _*/_ whole/
-*/-zero x = omega arith
-
 -- the product distributes over the sum
 pub */-+/ : (x y z : Ratio) → x */ (y +/ z) ≈/ x */ y +/ x */ z
 unfolding _*/_ _+/_
@@ -227,34 +194,10 @@ pub quotient/-mono : {x y : Ratio} → x ≤/ y → (k : ℕ) (p : 0 < k) → qu
 unfolding quotient/
 quotient/-mono h k p = omega (arith, mul-le-mul-right k (h .cross))
 
--- the greater the divisor, the less the quotient
-pub quotient/-reverse : (x : Ratio) {j k : ℕ} → j ≤ k → (p : 0 < j) (q : 0 < k) → quotient/ x k q ≤/ quotient/ x j p
-unfolding quotient/
-quotient/-reverse x h p q = omega (arith, mul-le-mul-right (x .num * x .den) h)
-
--- (x/k)·k = x
-pub quotient/-*/ : (x : Ratio) (k : ℕ) (p : 0 < k) → quotient/ x k p */ whole/ k ≈/ x
-unfolding quotient/ _*/_ whole/
-quotient/-*/ x k p = omega arith
-
 -- x/k ≤ y when x ≤ y·k, and y ≤ x/k when y·k ≤ x
 pub quotient/-≤/ : {x y : Ratio} (k : ℕ) (p : 0 < k) → (x ≤/ y */ whole/ k) ↔ (quotient/ x k p ≤/ y)
 unfolding quotient/ _*/_ whole/
 quotient/-≤/ k p = (λ h. omega arith, λ h. omega arith)
-
-pub ≤/-quotient/ : {x y : Ratio} (k : ℕ) (p : 0 < k) → (y */ whole/ k ≤/ x) ↔ (y ≤/ quotient/ x k p)
-unfolding quotient/ _*/_ whole/
-≤/-quotient/ k p = (λ h. omega arith, λ h. omega arith)
-
--- the greater x, the less 1/x
-pub reciprocal-reverse : {x y : Ratio} → x ≤/ y → (p : 0 < x .num) (q : 0 < y .num) → reciprocal y q ≤/ reciprocal x p
-unfolding reciprocal
-reciprocal-reverse h p q = omega arith
-
--- x·(1/x) = 1
-pub */-reciprocal : (x : Ratio) (p : 0 < x .num) → x */ reciprocal x p ≈/ whole/ 1
-unfolding reciprocal _*/_ whole/
-*/-reciprocal x p = omega arith
 
 -- ---- the complement
 
@@ -286,23 +229,3 @@ complement-complement {x} h = omega (arith, ap (λ (m : ℕ). m * x .den) (twice
   where
     twice : {a b : ℕ} → a ≤ b → b - (b - a) ≡ a
     twice h = omega arith
-
--- ---- sums of lists
-
--- the sum of a list is at most that of another, place by place
-pub sum/-mono : {xs ys : List Ratio} → Forall₂ _≤/_ xs ys → sum/ xs ≤/ sum/ ys
-unfolding sum/
-sum/-mono Forall₂·nil = ≤/-refl (whole/ 0)
-sum/-mono (Forall₂·cons h t) = +/-mono h (sum/-mono t)
-
-pub sum/-append : (xs ys : List Ratio) → sum/ (xs ++ ys) ≈/ sum/ xs +/ sum/ ys
-unfolding sum/
-sum/-append [] ys = ≈/-sym (zero-+/ (sum/ ys))
-sum/-append (x ∷ xs) ys =
-    ≈/-trans (+/-cong (≈/-refl x) (sum/-append xs ys)) (≈/-sym (+/-assoc x (sum/ xs) (sum/ ys)))
-
--- a constant factor stands before the sum
-pub sum/-*/ : (x : Ratio) (ys : List Ratio) → sum/ (map (λ (y : Ratio). x */ y) ys) ≈/ x */ sum/ ys
-unfolding sum/
-sum/-*/ x [] = ≈/-sym (*/-zero x)
-sum/-*/ x (y ∷ ys) = ≈/-trans (+/-cong (≈/-refl (x */ y)) (sum/-*/ x ys)) (≈/-sym (*/-+/ x y (sum/ ys)))

@@ -51,3 +51,29 @@ put-join {bytes} {at} {t} {u} first rest room =
       place = omega (arith, length-append t u, first .place, rest .place);
       whole = rest .whole ∙ rw (first .whole, first .place) e;
     }
+
+-- ---- three texts
+
+-- their whole has room
+pub record Three (bytes : List ℕ) (at : ℕ) (t₁ t₂ t₃ : List ℕ) : Type 0 where
+  pub room : Room bytes at (t₁ ++ (t₂ ++ t₃))
+
+-- each has room where the one before ends, and together they are one text
+module _ {bytes : List ℕ} {at : ℕ} {t₁ t₂ t₃ : List ℕ} (three : Three bytes at t₁ t₂ t₃) where
+  pub three-first : Room bytes at t₁
+  three-first = room-first (t₂ ++ t₃) (three .room)
+
+  module _ {mid₁ : List ℕ} {next₁ : ℕ} (put₁ : Put bytes at t₁ mid₁ next₁) where
+    rest : Room mid₁ next₁ (t₂ ++ t₃)
+    rest = room-rest put₁ (three .room)
+
+    pub three-second : Room mid₁ next₁ t₂
+    three-second = room-first t₃ rest
+
+    module _ {mid₂ : List ℕ} {next₂ : ℕ} (put₂ : Put mid₁ next₁ t₂ mid₂ next₂) where
+      pub three-third : Room mid₂ next₂ t₃
+      three-third = room-rest put₂ rest
+
+      pub three-put : {after : List ℕ} {end : ℕ} → Put mid₂ next₂ t₃ after end
+          → Put bytes at (t₁ ++ (t₂ ++ t₃)) after end
+      three-put put₃ = put-join put₁ (put-join put₂ put₃ rest) (three .room)

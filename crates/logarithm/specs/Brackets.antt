@@ -1,14 +1,14 @@
 -- The brackets of −ln(1 − u) for u below 1, order by order: every lower end is at most every upper end, the ends close in
 -- as the order grows, and both grow with u.
 use mathlib.Core.Path.{_≡_, ap, subst}
-use Prim.Native.Nat.{ℕ, zero, suc, _+_, _-_, _*_, _^_, _≤_, _<_, max}
+use Prim.Native.Nat.{ℕ, zero, suc, _+_, _-_, _*_, _^_, _≤_, max}
 use native.Mathlib.Nat.{mul-le-mul-left, max-eq-right, le-dest, lt-of-not-le, add-zero, add-suc, pow-suc}
 use native.Mathlib.Decide.{decLe}
 use native.Mathlib.Omega.{arith}
 use Rattle.fraction.specs.Ratio.{Ratio, _≤/_, _</_, _+/_, whole/}
 use Rattle.fraction.specs.RatioLaws.{≤/-refl, ≤/-trans, ≤/-+/, +/-mono, +/-assoc}
 use Rattle.logarithm.specs.Exact.{logTerm, logSum, logRemainder, orderLogLower, orderLogUpper}
-use Rattle.logarithm.specs.Sums.{log-sum-monotone, log-remainder-monotone, log-sum-rises}
+use Rattle.logarithm.specs.Sums.{log-sum-rises}
 
 -- u^n/n + u^(n+1)/((n+1)(1−u)) ≤ u^n/(n(1−u)): P = p^n, Q = q^(n−1), m = q − p
 rest-algebra : (P Q p q m n : ℕ) → p + m ≡ q
@@ -54,12 +54,3 @@ log-brackets-agree u i j l =
   where
     within : (k : ℕ) → orderLogLower u k ≤/ orderLogUpper u k
     within k = unfold orderLogLower orderLogUpper in ≤/-+/ _ _
-
--- both ends grow with u
-pub log-lower-monotone : {u v : Ratio} (j : ℕ) → u ≤/ v → orderLogLower u j ≤/ orderLogLower v j
-unfolding orderLogLower
-log-lower-monotone = log-sum-monotone
-
-pub log-upper-monotone : {u v : Ratio} (j : ℕ) → u ≤/ v → v </ whole/ 1 → orderLogUpper u j ≤/ orderLogUpper v j
-unfolding orderLogUpper
-log-upper-monotone j h l = +/-mono (log-sum-monotone j h) (log-remainder-monotone j h l)

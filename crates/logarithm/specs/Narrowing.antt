@@ -2,7 +2,7 @@
 -- far apart as the forces, and the remainder is at most 1/M from some order on.
 use mathlib.Core.Path.{_≡_}
 use mathlib.Core.Logic.{inl, inr}
-use Prim.Native.Nat.{ℕ, zero, suc, _+_, _-_, _*_, _^_, _≤_, _<_}
+use Prim.Native.Nat.{ℕ, zero, suc, _+_, _*_, _^_, _≤_, _<_}
 use native.Mathlib.Nat.{mul-le-mul, mul-le-mul-left, mul-le-mul-right, le-refl, le-trans, one-le-pow, pow-suc, pow-succ', pow-zero}
 use native.Mathlib.Omega.{arith}
 use Rattle.fraction.specs.Ratio.{Ratio, _≤/_, _+/_, _*/_, whole/, quotient/}

@@ -1,14 +1,9 @@
--- The range of the log force in which the force is at most 1/2, and what the law on it asks of a grid.
+-- What the law asks of a grid that the force is at most 1/2 from a z on.
 use Prim.Native.Nat.{ℕ, _+_, _*_, _≤_}
 use Rattle.taylor.specs.Taylor.{taylorDen, taylorNum}
 use Rattle.taylor.specs.Order.{leastOrder}
 use Rattle.expo.specs.Grid.{Grid}
 use Rattle.expo.specs.WidthFacts.{slackUpper}
-
--- minus the log force of a needed cell is at least this, in units of 10^-9 (paper 01: "its upper end at or below
--- −700,000,000")
-unfoldable pub leastLogForce : ℕ
-leastLogForce = 700000000
 
 -- at z₀ units the sum s of z^i/i! at some order is at least 2, by a margin that covers the exponential's slack
 pub record Halving (g : Grid) (z₀ : ℕ) : Type 0 where

@@ -1,14 +1,14 @@
 -- The sum of u^k/k and its remainder: both grow with u, the sum grows with the order, and at u ≤ 1/2 the sum and twice the
 -- term after its last fall with the order.
-use mathlib.Core.Path.{_≡_, subst}
-use Prim.Native.Nat.{ℕ, zero, suc, _+_, _-_, _*_, _^_, _≤_, _<_, max}
-use native.Mathlib.Nat.{mul-le-mul, mul-le-mul-left, mul-le-mul-right, mul-sub, max-eq-right, le-max-right}
+use mathlib.Core.Path.{subst}
+use Prim.Native.Nat.{ℕ, zero, suc, _+_, _*_, _^_, _≤_}
+use native.Mathlib.Nat.{mul-le-mul, mul-le-mul-right}
 use native.Mathlib.Nat.{le-dest, le-refl, lt-of-not-le, add-zero, add-suc, pow-suc, pow-zero}
 use native.Mathlib.Decide.{decLe}
 use native.Mathlib.Omega.{arith}
-use Rattle.fraction.specs.Ratio.{Ratio, _≤/_, _</_, _+/_, _*/_, whole/}
+use Rattle.fraction.specs.Ratio.{Ratio, _≤/_, _+/_, _*/_, whole/}
 use Rattle.fraction.specs.RatioLaws.{≤/-refl, ≤/-trans, ≤/-+/, +/-mono}
-use Rattle.logarithm.specs.Exact.{logTerm, logSum, logRemainder}
+use Rattle.logarithm.specs.Exact.{logTerm, logSum}
 use Rattle.logarithm.specs.Half.{half, logReach}
 
 -- ---- growing with u
@@ -36,26 +36,9 @@ unfolding logSum
 log-sum-monotone zero h = ≤/-refl _
 log-sum-monotone (suc j) h = +/-mono (log-sum-monotone j h) (log-term-monotone j h)
 
--- below 1: p·(q′ − p′) ≤ p′·(q − p)
-gap-cross : (p q p′ q′ : ℕ) → p′ < q′ → p * q′ ≤ p′ * q → p * max 1 (q′ - p′) ≤ p′ * max 1 (q - p)
-gap-cross p q p′ q′ l h =
-    let a : max 1 (q′ - p′) ≡ q′ - p′ = max-eq-right (omega arith) in
-    rw a (omega (arith, mul-sub p q′ p′, mul-sub p′ q p, mul-le-mul-left p′ (le-max-right 1 (q - p))))
-
 remainder-algebra : (p p′ a b c d m m′ n : ℕ) → a * d ≤ c * b → p * m′ ≤ p′ * m
     → a * p * (d * (n * m′)) ≤ c * p′ * (b * (n * m))
 remainder-algebra p p′ a b c d m m′ n h k = omega (arith, mul-le-mul-right n (mul-le-mul h k))
-
-pub log-remainder-monotone : {u v : Ratio} (j : ℕ) → u ≤/ v → v </ whole/ 1 → logRemainder u j ≤/ logRemainder v j
-unfolding logRemainder whole/
-log-remainder-monotone {u} {v} j h l =
-    record {
-      cross =
-          rw (pow-suc (u .num) j, pow-suc (v .num) j)
-          (remainder-algebra (u .num) (v .num) _ _ _ _ _ _ (suc j)
-          (powers-cross (u .num) (u .den) (v .num) (v .den) j (h .cross))
-          (gap-cross (u .num) (u .den) (v .num) (v .den) (omega (arith, l .cross)) (h .cross)));
-    }
 
 -- ---- growing with the order
 

@@ -1,43 +1,37 @@
-// −ln(1 − u) on the grid of 10^-9, u in units: the sum of u^k/k, k = 1 to 28, one function for each end.
+// −ln(1 − u) on the grid of 10^-9, u in units: the sum of u^k/k, k = 1 to 28, with two ends.
 ghost use mathlib.Core.Path.{_≡_};
 ghost use Prim.Native.Nat.{_≤_};
 ghost use Rattle.expo.specs.Billionths.{billionths};
 ghost use Rattle.logarithm.specs.Logarithm.{logLower, logUpper};
-
-const UNIT: u64 = 1_000_000_000;
+use expo::Ends;
+use expo::UNIT;
 
 // The number of terms.
 const TERMS: u64 = 28;
 
-// The lower end: powers and quotients rounded down.
-pub fn log_lower(u: u64) -> u64
-    requires { ⌜ u ≤ billionths .unit ⌝ }
-    ensures { λ r. ⌜ r ≡ logLower billionths u ⌝ }
+// Both ends in one loop, so that the processor works them side by side. The lower one: powers and quotients rounded down.
+// The upper one: powers and quotients rounded up, and twice the next power over its place.
+pub fn log_between(u: Ends) -> Ends
+    requires { ⌜ (u .lower ≤ billionths .unit) × (u .upper ≤ billionths .unit) ⌝ }
+    ensures { λ r. ⌜ (r .lower ≡ logLower billionths (u .lower)) × (r .upper ≡ logUpper billionths (u .upper)) ⌝ }
 {
-    let mut power = UNIT;
-    let mut sum = 0;
+    let low = u.lower;
+    let high = u.upper;
+    let mut down = UNIT;
+    let mut up = UNIT;
+    let mut least = 0;
+    let mut most = 0;
     let mut k = 0;
     while k < TERMS {
-        power = u * power / UNIT;
-        sum += power / (k + 1);
+        down = low * down / UNIT;
+        up = (high * up + (UNIT - 1)) / UNIT;
+        least += down / (k + 1);
+        most += (up + k) / (k + 1);
         k += 1;
     }
-    sum
-}
-
-// The upper end: powers and quotients rounded up, and twice the next power over its place.
-pub fn log_upper(u: u64) -> u64
-    requires { ⌜ u ≤ billionths .unit ⌝ }
-    ensures { λ r. ⌜ r ≡ logUpper billionths u ⌝ }
-{
-    let mut power = UNIT;
-    let mut sum = 0;
-    let mut k = 0;
-    while k < TERMS {
-        power = (u * power + (UNIT - 1)) / UNIT;
-        sum += (power + k) / (k + 1);
-        k += 1;
+    let rest = 2 * ((high * up + (UNIT - 1)) / UNIT);
+    Ends {
+        lower: least,
+        upper: most + (rest + TERMS) / (TERMS + 1),
     }
-    let rest = 2 * ((u * power + (UNIT - 1)) / UNIT);
-    sum + (rest + TERMS) / (TERMS + 1)
 }

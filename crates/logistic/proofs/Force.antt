@@ -1,67 +1,63 @@
 -- The force from an end of G as the code forms it, by the end's sign: the size that goes to the exponential, and the
 -- quotient.
-use mathlib.Core.Path.{_≡_, refl, sym, _∙_}
-use mathlib.Core.Bool.{Bool, true, false, not, cond, true≢false, false≢true}
-use Prim.Native.Nat.{ℕ, _+_, _*_, _/_, _≤_}
+use mathlib.Core.Path.{_≡_, refl, ap, _∙_}
+use mathlib.Core.Bool.{Bool, true, false, not, cond}
+use Prim.Native.Nat.{ℕ, suc, _+_, _*_, _/_, _≤_}
 use native.Mathlib.Omega.{arith}
-use lib.Dec.{T, leb·suc-zero}
-use lib.IntN.{ℤ, pos, negsuc, natAbs, _-ℤ_, +ℤ-idl}
+use lib.Dec.{T}
+use lib.IntN.{ℤ, pos, natAbs, _-ℤ_, +ℤ-idl}
 use lib.Signed.{nonNeg, ltZ}
 use mir.Syntax.{w64}
 use mir.Val.{Fits, SFits}
 use Rattle.whole.specs.Division.{ceilDivℕ}
-use Rattle.whole.specs.Bound.{Under, under-pos, fits, back}
+use Rattle.whole.specs.Sign.{Sign, minus, plain, sign}
+use Rattle.whole.specs.Bound.{bits, Under, under-pos, fits, back}
 use Rattle.expo.specs.Exponential.{expLower, expUpper}
 use Rattle.expo.specs.Billionths.{billionths}
 use Rattle.expo.specs.BillionthsFacts.{billionths-sound}
-use Rattle.ends.proofs.Signed.{bits, read}
+use Rattle.expo.specs.AtMostOne.{exp-lower-one, exp-upper-one}
+use Rattle.ends.proofs.Signed.{read}
 use Rattle.logistic.specs.Logistic.{logisticLower, logisticUpper}
 use Rattle.logistic.specs.Logistic.{overOneLower, overOneUpper, shareLower, shareUpper}
-use Rattle.logistic.specs.LogisticHolds.{exp-lower-one}
-use Rattle.logistic.specs.RelativeWidth.{exp-upper-one}
 use Rattle.logistic.specs.Code.{closedLimit}
 
 -- ---- the size of an end
 
 -- z is below 0 or not, and y is |z|: it fits, and is cast to a number without a sign
 pub record Sized (below : Bool) (y z : ℤ) : Type 0 where
-  pub sign : ltZ z (pos 0) ≡ below
+  pub signed : Sign z below
   pub fits : SFits w64 y
   pub cast : T (nonNeg (bits y)) × Fits w64 (natAbs (bits y))
   pub size : natAbs (bits y) ≡ natAbs z
 
-sized : {below : Bool} {y z : ℤ} → Under z closedLimit → ltZ z (pos 0) ≡ below → y ≡ pos (natAbs z) → Sized below y z
+sized : {below : Bool} {y z : ℤ} → Under z closedLimit → Sign z below → y ≡ pos (natAbs z) → Sized below y z
 sized u t e =
     let f = fits (under-pos (u .under)) tt in
     let r = read e f in
     record {
-      sign = t;
+      signed = t;
       fits = rw e f;
       cast = rw r (tt, record { fits = omega (arith, u .under) });
       size = rw r refl;
     }
 
-never : (n : ℕ) → ltZ (pos n) (pos 0) ≡ true → ⊥
-never n t = false≢true (sym (leb·suc-zero n) ∙ t)
+from-zero : {z : ℤ} → Sign z true → pos 0 -ℤ z ≡ pos (natAbs z)
+from-zero (minus n) = +ℤ-idl (pos (suc n))
 
-minus : (z : ℤ) → ltZ z (pos 0) ≡ true → pos 0 -ℤ z ≡ pos (natAbs z)
-minus (pos n) t = absurd (never n t)
-minus (negsuc n) t = +ℤ-idl (pos (natAbs (negsuc n)))
-
-plain : (z : ℤ) → ltZ z (pos 0) ≡ false → z ≡ pos (natAbs z)
-plain (pos n) t = refl
-plain (negsuc n) t = absurd (true≢false t)
+itself : {z : ℤ} → Sign z false → z ≡ pos (natAbs z)
+itself (plain n) = refl
 
 -- −G below 0, and else G
+pub negated : {z : ℤ} → Under z closedLimit → Sign z true → Sized true (pos 0 -ℤ bits z) z
+negated u s = sized u s (rw (back u tt) (from-zero s))
+
 pub negative : {z : ℤ} → Under z closedLimit → ltZ (bits z) (pos 0) ≡ true → Sized true (pos 0 -ℤ bits z) z
-negative {z} u t =
-    let s = rw (back u tt) at t in
-    sized u s (rw (back u tt) (minus z s))
+negative {z} u t = negated u (sign z (rw (back u tt) at t))
 
 pub other : {z : ℤ} → Under z closedLimit → ltZ (bits z) (pos 0) ≡ false → Sized false z z
 other {z} u t =
-    let s = rw (back u tt) at t in
-    sized u s (plain z s)
+    let s = sign z (rw (back u tt) at t) in
+    sized u s (itself s)
 
 -- ---- the two ends of the exponential
 
@@ -85,17 +81,23 @@ abbrev pub logisticEnd : Bool → ℤ → ℕ
 logisticEnd upper z = cond upper (logisticUpper billionths z) (logisticLower billionths z)
 
 -- E/(1 + E) below 0, by the same end of E
-pub share-end : (upper : Bool) {y z : ℤ} {e : ℕ} → Sized true y z → e ≡ expEnd upper (natAbs (bits y))
+share-by : (upper : Bool) {z : ℤ} {e : ℕ} → Sign z true → e ≡ expEnd upper (natAbs z)
     → quotient upper (e * billionths .unit) (billionths .unit + e) ≡ logisticEnd upper z
 unfolding logisticUpper logisticLower shareUpper shareLower
-share-end upper {z = pos n} k d = absurd (never n (k .sign))
-share-end true {z = negsuc n} k d = rw (d, k .size)
-share-end false {z = negsuc n} k d = rw (d, k .size)
+share-by true (minus n) d = rw d
+share-by false (minus n) d = rw d
+
+pub share-end : (upper : Bool) {y z : ℤ} {e : ℕ} → Sized true y z → e ≡ expEnd upper (natAbs (bits y))
+    → quotient upper (e * billionths .unit) (billionths .unit + e) ≡ logisticEnd upper z
+share-end upper k d = share-by upper (k .signed) (d ∙ ap (expEnd upper) (k .size))
 
 -- and else 1/(1 + E), by the other end
-pub over-end : (upper : Bool) {y z : ℤ} {e : ℕ} → Sized false y z → e ≡ expEnd (not upper) (natAbs (bits y))
+over-by : (upper : Bool) {z : ℤ} {e : ℕ} → Sign z false → e ≡ expEnd (not upper) (natAbs z)
     → quotient upper (billionths .unit * billionths .unit) (billionths .unit + e) ≡ logisticEnd upper z
 unfolding logisticUpper logisticLower overOneUpper overOneLower
-over-end upper {z = negsuc n} k d = absurd (true≢false (k .sign))
-over-end true {z = pos n} k d = rw (d, k .size)
-over-end false {z = pos n} k d = rw (d, k .size)
+over-by true (plain n) d = rw d
+over-by false (plain n) d = rw d
+
+pub over-end : (upper : Bool) {y z : ℤ} {e : ℕ} → Sized false y z → e ≡ expEnd (not upper) (natAbs (bits y))
+    → quotient upper (billionths .unit * billionths .unit) (billionths .unit + e) ≡ logisticEnd upper z
+over-end upper k d = over-by upper (k .signed) (d ∙ ap (expEnd (not upper)) (k .size))

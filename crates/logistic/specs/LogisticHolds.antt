@@ -18,6 +18,7 @@ use Rattle.expo.specs.Exponential.{expLower, expUpper}
 use Rattle.expo.specs.Facts.{Sound}
 use Rattle.expo.specs.Overlap.{inUnits, Overlap}
 use Rattle.expo.specs.Holds.{lower-holds, upper-holds}
+use Rattle.expo.specs.AtMostOne.{exp-lower-one}
 use Rattle.logistic.specs.Positive.{sum-positive}
 use Rattle.logistic.specs.Logistic.{overOneLower, overOneUpper, shareLower, shareUpper, logisticLower}
 use Rattle.logistic.specs.Logistic.{logisticUpper, logistic}
@@ -97,10 +98,6 @@ module _ (g : Grid) (s : Sound g) (E : ℕ) (e : Ratio) where
 -- the order's lower end is at most 1, and so is the grid's
 pub order-lower-one : (z : Ratio) (j : ℕ) → orderLower z j ≤/ whole/ 1
 order-lower-one z j = ≤/-trans (brackets-agree z j j) (upper-below-one z j)
-
-pub exp-lower-one : (g : Grid) (s : Sound g) (z : ℕ) → expLower g z ≤ g .unit
-unfolding inUnits whole/
-exp-lower-one g s z = omega (arith, ≤/-trans (lower-holds g s z 0) (upper-below-one (inUnits g s z) 0) .cross)
 
 module _ (g : Grid) (s : Sound g) (d : ℕ) (p : 0 < d) where
   -- from an order of fractions to that of their distances from 0

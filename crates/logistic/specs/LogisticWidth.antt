@@ -18,8 +18,9 @@ use Rattle.expo.specs.WidthFacts.{Narrow, slackUpper, slackLower, expWidth}
 use Rattle.logistic.specs.Logistic.{overOneLower, overOneUpper, shareLower, shareUpper, logisticLower}
 use Rattle.logistic.specs.Logistic.{logisticUpper, logistic}
 use Rattle.logistic.specs.WidthFacts.{spread, Fine}
-use Rattle.logistic.specs.LogisticHolds.{quotient-below, unit-sum-positive, exp-lower-one}
-use Rattle.logistic.specs.RelativeWidth.{exp-ordered, exp-upper-one, exp-upper-zero, exp-relative-below}
+use Rattle.expo.specs.AtMostOne.{exp-lower-one, exp-upper-one}
+use Rattle.logistic.specs.LogisticHolds.{quotient-below, unit-sum-positive}
+use Rattle.logistic.specs.RelativeWidth.{exp-ordered, exp-upper-zero, exp-relative-below}
 
 -- ---- the four quotients as they round: multiplied by 1 + E, in units
 

@@ -1,24 +1,21 @@
--- The exponential's ends as the logistic needs them: they lie in order, neither exceeds the unit, and the upper end
+-- The exponential's ends as the logistic needs them: they lie in order, and the upper end
 -- at z lies above the lower end at z + d by at most d·e^−z, relative to the unit, and the grid's slack.
 use mathlib.Core.Path.{_≡_}
-use Prim.Native.Nat.{ℕ, zero, suc, _+_, _*_, _/_, _%_, _^_, _≤_, _<_}
-use native.Mathlib.Nat.{mul-le-mul, mul-le-mul-left, mul-le-mul-right, le-of-mul-le-mul-right, lt-of-mul-lt-mul-right}
-use native.Mathlib.Nat.{mul-pos, le-refl, le-antisymm, pow-suc, pow-zero}
-use native.Mathlib.Decide.{decLt}
+use Prim.Native.Nat.{ℕ, zero, suc, _+_, _*_, _≤_, _<_}
+use native.Mathlib.Nat.{mul-le-mul-left, mul-le-mul-right, le-of-mul-le-mul-right}
+use native.Mathlib.Nat.{mul-pos, le-antisymm}
 use native.Mathlib.Omega.{arith}
-use lib.ListN.{length}
-use borrow.Author.Tests.{lt-ltb, le-ltb}
-use Rattle.whole.specs.DivisionLaws.{ceilℕ-least}
 use Rattle.taylor.specs.Taylor.{taylorDen, taylorNum, factorial}
 use Rattle.taylor.specs.Positive.{taylorDen-positive, taylorNum-positive}
 use Rattle.taylor.specs.Sums.{sum-monotone, sum-slope}
 use Rattle.taylor.specs.Products.{sum-of-sum}
 use Rattle.expo.specs.Grid.{Grid}
-use Rattle.expo.specs.Exponential.{step, cutoffUnits, constantLower, constantUpper, expLower, expUpper}
+use Rattle.expo.specs.Exponential.{expLower, expUpper}
 use Rattle.expo.specs.Facts.{Sound}
 use Rattle.expo.specs.WidthFacts.{Narrow, slackUpper, slackLower}
-use Rattle.expo.specs.Soundness.{step-positive, steps-below, constant-lower, lower-sound, upper-at}
-use Rattle.expo.specs.Width.{upper-near, lower-near, sum-upper-bound}
+use Rattle.expo.specs.Soundness.{lower-sound, upper-at}
+use Rattle.expo.specs.Width.{upper-near, lower-near}
+use Rattle.expo.specs.AtMostOne.{exp-upper-one}
 
 -- s at a greater z, over the same denominator
 num-monotone : (q j : ℕ) → 0 < q → (z z′ : ℕ) → z ≤ z′ → taylorNum z q j ≤ taylorNum z′ q j
@@ -40,35 +37,7 @@ exp-ordered g s z z′ h =
     (upper-at g s z)
     (num-monotone (g .unit) J (s .unit-positive) z z′ h)
 
--- ---- neither end exceeds the unit
-
--- c·(1 + t/U) ≤ U with t > 0
-first-algebra : (c U t : ℕ) → 0 < U → 0 < t → c * (1 * (U * 1) + t) ≤ U * (1 * (U * 1)) → c < U
-first-algebra zero U t p q h = p
-first-algebra (suc c) U t p q h =
-    lt-of-mul-lt-mul-right U (omega (arith, mul-pos {m = suc c} {n = t} (omega arith) q))
-
-power-one : (p : ℕ) → p ^ suc zero ≡ p
-power-one p = rw (pow-suc p zero, pow-zero p) (omega arith)
-
-constant-upper-one : (g : Grid) → Sound g → (n : ℕ) → n < length (g .constants) → constantUpper g n ≤ g .unit
-unfolding constantUpper taylorNum taylorDen
-constant-upper-one g s zero l = le-refl (g .unit)
-constant-upper-one g s (suc n) l =
-    first-algebra (constantLower g (suc n)) (g .unit) (suc n * step g) (s .unit-positive)
-    (mul-pos {m = suc n} (omega arith) (step-positive g s))
-    (rw (power-one (suc n * step g)) at (constant-lower g s (suc n) l (suc zero)))
-
-pub exp-upper-one : (g : Grid) → Sound g → (z : ℕ) → expUpper g z ≤ g .unit
-unfolding expUpper
-exp-upper-one g s z =
-    elim (decLt z (cutoffUnits g)) [
-      | yes l ↦
-          rw (lt-ltb z (cutoffUnits g) l)
-          (ceilℕ-least (g .unit) _ (s .unit-positive)
-          (mul-le-mul (sum-upper-bound g (z % step g)) (constant-upper-one g s (z / step g) (steps-below g s z l))))
-      | no l ↦ rw (le-ltb z (cutoffUnits g) (omega arith)) (s .unit-positive)
-    ]
+-- ---- the upper end relative to the lower one
 
 -- the upper end at 0 is the unit
 first-upper : (U hi n d : ℕ) → 0 < d → U * d ≤ hi * n → n ≤ d → U ≤ hi
@@ -123,8 +92,3 @@ module _ (g : Grid) (s : Sound g) (w : Narrow g s) where
       (num-monotone (g .unit) J (s .unit-positive) z′ (z + d) h)
       (sum-of-sum z d (g .unit) J (s .unit-positive)) (sum-slope d (g .unit) J) (upper-at g s z) in
       omega (arith, r)
-
-  pub exp-relative : (z d : ℕ)
-      → 3 * (g .unit * expUpper g z)
-      ≤ 3 * (g .unit * expLower g (z + d)) + 3 * (d * expUpper g z) + g .unit * (slackUpper g + slackLower g)
-  exp-relative z d = exp-relative-below z (z + d) d (le-refl (z + d))

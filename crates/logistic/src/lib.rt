@@ -13,8 +13,7 @@ ghost use Rattle.logistic.specs.Logistic.{logisticLower, logisticUpper, 
 ghost use Rattle.logistic.specs.Code.{closedLimit};
 use ends::SignedEnds;
 use expo::Ends;
-
-const UNIT: u64 = 1_000_000_000;
+use expo::UNIT;
 
 // An end of e^−z.
 fn exp_end(z: u64, upper: bool) -> u64

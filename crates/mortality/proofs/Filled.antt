@@ -13,6 +13,7 @@ use lib.Seq.{take-suc-set, take-all}
 use lib.Ieee.Bits.{is-true}
 use mir.Facts.{yes-and}
 use Rattle.whole.specs.Bound.{under-weaken}
+use Rattle.whole.specs.Table.{listed, listed-more}
 use Rattle.expo.specs.Billionths.{billionths}
 use Rattle.expo.specs.Exponential.{expBetween}
 use Rattle.params.specs.declared.Params.{Params}
@@ -38,19 +39,19 @@ use Rattle.force.proofs.Ends.{under-lower, under-upper, exp-small, log-lower-sm
 pub record Filled (p : Params) (n : ℕ) (es : List code.SignedEnds) (i : ℕ) : Type 0 where
   pub count : i ≤ fitted
   pub range : T (fittedInRange p n i)
-  pub ends : listOf (take i es) ≡ fittedList billionths p n i
+  pub ends : listOf (take i es) ≡ listed (fittedEnds billionths p n) firstFitted i
   pub size : length es ≡ fitted
 
 pub filled-none : (p : Params) (n : ℕ) {es : List code.SignedEnds} → length es ≡ fitted → Filled p n es 0
-unfolding fittedInRange fittedList
+unfolding fittedInRange listed
 filled-none p n h = record { count = lit≤ tt; range = tt; ends = refl; size = h }
 
 -- one end more
 list-more : (p : Params) (n i : ℕ) (es : List code.SignedEnds) (e : code.SignedEnds) → i < length es
-    → listOf (take i es) ≡ fittedList billionths p n i → endsOf e ≡ fittedEnds billionths p n (firstFitted + i)
-    → listOf (take (suc i) (set es i e)) ≡ fittedList billionths p n (suc i)
-unfolding fittedList
-list-more p n i es e l h k = rw (take-suc-set es i e l, map-append, h, k)
+    → listOf (take i es) ≡ listed (fittedEnds billionths p n) firstFitted i → endsOf e ≡ fittedEnds billionths p n (firstFitted + i)
+    → listOf (take (suc i) (set es i e)) ≡ listed (fittedEnds billionths p n) firstFitted (suc i)
+list-more p n i es e l h k =
+    rw (listed-more (fittedEnds billionths p n) firstFitted i, take-suc-set es i e l, map-append, h, k)
 
 pub filled-more : {p : Params} {n i : ℕ} {es : List code.SignedEnds} {e : code.SignedEnds} → Filled p n es i → i < fitted
     → T (inRange (logForce p (firstFitted + i) n)) → endsOf e ≡ fittedEnds billionths p n (firstFitted + i)
@@ -97,12 +98,13 @@ needed t l r = record { limits = t; age = lit≤ tt; year = l; needed = r }
 
 pub filled-all : (p : Params) (n : ℕ) (es : List code.SignedEnds) → T (inLimits p) → n ≤ lastYears → Filled p n es fitted
     → FittedOf p n (record { ok = true; ends = es })
+unfolding fittedList
 filled-all p n es t l f =
-    let e : listOf es ≡ fittedList billionths p n fitted =
+    let e : listOf es ≡ fittedList billionths p n =
     ap listOf (sym (take-all fitted es (omega (arith, f .size)))) ∙ f .ends in
     let a = needed t l (f .range) in
     record {
       ok = sym (is-true (fittedInRange p n fitted) (f .range));
       ends = λ t. e;
-      limit = λ t i h. rw (e, fitted-at billionths p n fitted i h) (fitted-within p n (firstFitted + i) (old-needed a (lit≤ tt) i h));
+      limit = λ t i h. rw (e, fitted-at billionths p n i h) (fitted-within p n (firstFitted + i) (old-needed a (lit≤ tt) i h));
     }

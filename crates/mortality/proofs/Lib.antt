@@ -1,3 +1,2 @@
-pub mod Years
 pub mod Filled
-pub mod Answers
+pub mod Closed

@@ -1,9 +1,11 @@
 -- The cell's laws at the grid of 10^-9: q holds every order's bracket, and its ends lie at most 100 units apart to age 90 and
 -- 600 above.
 use mathlib.Core.Path.{_≡_, refl}
-use Prim.Native.Nat.{ℕ, _+_, _≤_, _<_}
+use Prim.Native.Nat.{ℕ, _≤_, _<_}
 use native.Mathlib.Omega.{arith}
 use lib.Dec.{lit≤}
+use Rattle.whole.specs.Split.{below}
+use Rattle.taylor.specs.Taylor.{taylorDen, taylorNum}
 use Rattle.taylor.specs.Order.{leastOrder}
 use Rattle.expo.specs.Billionths.{billionths}
 use Rattle.expo.specs.BillionthsFacts.{billionths-sound, billionths-narrow}
@@ -12,22 +14,29 @@ use Rattle.expo.specs.Terms.{slack}
 use Rattle.expo.specs.WidthFacts.{expWidth, slackUpper, slackLower}
 use Rattle.expo.specs.Overlap.{Overlap}
 use Rattle.params.specs.declared.Params.{Params}
+use Rattle.series.specs.Series.{highestForce}
+use Rattle.logarithm.specs.Range.{Halving}
 use Rattle.logarithm.specs.WidthFacts.{logWidth}
 use Rattle.logarithm.specs.BillionthsFacts as log
 use Rattle.weights.specs.Weights.{firstClosed}
 use Rattle.logistic.specs.WidthFacts.{Fine}
 use Rattle.logistic.specs.Billionths.{billionths-fine}
-use Rattle.mortality.specs.Cell.{death}
+use Rattle.mortality.specs.Cell.{survival, death}
 use Rattle.mortality.specs.Exact.{orderDeath}
 use Rattle.mortality.specs.Facts.{Fit}
 use Rattle.mortality.specs.Answered.{Answered}
 use Rattle.mortality.specs.Holds.{death-holds}
-use Rattle.mortality.specs.Width.{youngWidth, fittedWidth, sumWidth, oldWidth, youngDeathWidth, oldDeathWidth, young-width, old-width}
+use Rattle.mortality.specs.Width.{Narrowed, narrowed-more, youngWidth, fittedWidth, sumWidth, oldWidth, youngDeathWidth, oldDeathWidth}
+use Rattle.mortality.specs.Width.{young-survival-width, old-survival-width, death-narrowed}
+
+-- from the range's upper end down the force is at most one half
+halving : Halving billionths (below highestForce)
+unfolding leastOrder slackUpper slack total taylorDen taylorNum
+halving = record { order = 6; some-order = lit≤ tt; counted = lit≤ tt; slack-small = lit≤ tt; tested = lit≤ tt }
 
 pub billionths-fit : Fit billionths
 unfolding leastOrder
-billionths-fit =
-    record { unit = refl; log = log.billionths-fine; terms = lit≤ tt; half = log.billionths-halving }
+billionths-fit = record { unit = refl; log = log.billionths-fine; terms = lit≤ tt; half = halving }
 
 -- q's ends and an order's overlap
 pub q-holds : {p : Params} {x n : ℕ} → Answered p x n → (j : ℕ) → leastOrder ≤ j
@@ -49,12 +58,19 @@ oldLimit = 600
 sum-fine : Fine billionths (sumWidth billionths)
 sum-fine = billionths-fine (omega (arith, widths .1))
 
-pub q-width-young : {p : Params} {x n : ℕ} → Answered p x n → x < firstClosed
-    → death billionths p x n .upper ≤ death billionths p x n .lower + youngLimit
-q-width-young a l =
-    omega (arith, young-width billionths billionths-sound billionths-narrow billionths-fit sum-fine a l .width, widths .0)
+module _ {p : Params} {x n : ℕ} (a : Answered p x n) where
+  pub p-width-young : x < firstClosed → Narrowed (survival billionths p x n) youngLimit
+  p-width-young l =
+      narrowed-more (omega (arith, widths .0))
+      (young-survival-width billionths billionths-sound billionths-narrow billionths-fit sum-fine a l)
 
-pub q-width-old : {p : Params} {x n : ℕ} → Answered p x n → firstClosed ≤ x
-    → death billionths p x n .upper ≤ death billionths p x n .lower + oldLimit
-q-width-old a l =
-    omega (arith, old-width billionths billionths-sound billionths-narrow billionths-fit sum-fine a l .width, widths .2)
+  pub p-width-old : firstClosed ≤ x → Narrowed (survival billionths p x n) oldLimit
+  p-width-old l =
+      narrowed-more (omega (arith, widths .2))
+      (old-survival-width billionths billionths-sound billionths-narrow billionths-fit sum-fine a l)
+
+  pub q-width-young : x < firstClosed → Narrowed (death billionths p x n) youngLimit
+  q-width-young l = death-narrowed billionths p x n youngLimit (p-width-young l)
+
+  pub q-width-old : firstClosed ≤ x → Narrowed (death billionths p x n) oldLimit
+  q-width-old l = death-narrowed billionths p x n oldLimit (p-width-old l)

@@ -2,8 +2,9 @@
 -- Year n is 2013 + n.
 use Prim.Native.Nat.{ℕ, zero, suc, _+_}
 use mathlib.Core.Bool.{Bool, true, cond, _&&_}
-use mathlib.Core.List.{List, [], _∷_, _++_}
+use mathlib.Core.List.{List}
 use lib.Dec.{ltb}
+use Rattle.whole.specs.Table.{listed}
 use Rattle.whole.specs.SignedEnds.{SignedEnds}
 use Rattle.expo.specs.Grid.{Grid, Ends}
 use Rattle.expo.specs.Exponential.{expBetween}
@@ -19,17 +20,16 @@ use Rattle.force.specs.Force.{negated, deathOf}
 unfoldable pub youngForce : Grid → Params → ℕ → ℕ → Ends
 youngForce g p x n = expBetween g (negated (logForce p x n))
 
--- H at age y, and at the first i ages from 80 on
+-- H at age y, and at the ages 80 to 90
 unfoldable pub fittedEnds : Grid → Params → ℕ → ℕ → SignedEnds
 fittedEnds g p n y = inverseLogistic g (logForce p y n) (youngForce g p y n)
 
-unfoldable pub fittedList : Grid → Params → ℕ → ℕ → List SignedEnds
-fittedList g p n zero = []
-fittedList g p n (suc i) = fittedList g p n i ++ (fittedEnds g p n (firstFitted + i) ∷ [])
+unfoldable pub fittedList : Grid → Params → ℕ → List SignedEnds
+fittedList g p n = listed (fittedEnds g p n) firstFitted fitted
 
 -- the force above 90, by the closure
 unfoldable pub oldForce : Grid → Params → ℕ → ℕ → Ends
-oldForce g p x n = logistic g (closedSum x (fittedList g p n fitted))
+oldForce g p x n = logistic g (closedSum x (fittedList g p n))
 
 unfoldable pub force : Grid → Params → ℕ → ℕ → Ends
 force g p x n = cond (ltb x firstClosed) (youngForce g p x n) (oldForce g p x n)
@@ -39,7 +39,7 @@ unfoldable pub survival : Grid → Params → ℕ → ℕ → Ends
 survival g p x n = expBetween g (force g p x n)
 
 unfoldable pub death : Grid → Params → ℕ → ℕ → Ends
-death g p x n = deathOf g (force g p x n)
+death g p x n = deathOf g (survival g p x n)
 
 -- "Age above 90 needs the cells 80 to 90 of its year."
 unfoldable pub fittedInRange : Params → ℕ → ℕ → Bool

@@ -1,9 +1,10 @@
 -- One cell of the table exactly, at order j (paper 01, "The exact value"): the grid's formulas over fractions, the ends of an
 -- order taken from its brackets outward as on the grid, without rounding.
-use Prim.Native.Nat.{ℕ, zero, suc, _+_}
+use Prim.Native.Nat.{ℕ}
 use mathlib.Core.Bool.{cond}
-use mathlib.Core.List.{List, [], _∷_, _++_}
+use mathlib.Core.List.{List}
 use lib.Dec.{ltb, lit<}
+use Rattle.whole.specs.Table.{listed}
 use Rattle.fraction.specs.Ratio.{Ratio, complement}
 use Rattle.fraction.specs.Bracket.{Bracket}
 use Rattle.fraction.specs.Fraction.{Fraction, _+ℚ_, quotientℚ, signed, absolute}
@@ -38,13 +39,12 @@ orderFitted p n j y =
       most = exactM p y n +ℚ signed (orderLogUpper (u .most) j);
     }
 
-unfoldable pub orderFittedList : Params → ℕ → ℕ → ℕ → List Interval
-orderFittedList p n j zero = []
-orderFittedList p n j (suc i) = orderFittedList p n j i ++ (orderFitted p n j (firstFitted + i) ∷ [])
+unfoldable pub orderFittedList : Params → ℕ → ℕ → List Interval
+orderFittedList p n j = listed (orderFitted p n j) firstFitted fitted
 
 unfoldable pub orderOldForce : Params → ℕ → ℕ → ℕ → Bracket
 orderOldForce p x n j =
-    let G = exactClosedSum x (orderFittedList p n j fitted) in
+    let G = exactClosedSum x (orderFittedList p n j) in
     record { least = orderLogisticLower (G .least) j; most = orderLogisticUpper (G .most) j }
 
 unfoldable pub orderForce : Params → ℕ → ℕ → ℕ → Bracket

@@ -1,10 +1,12 @@
 -- What the laws of a cell ask of a grid besides `Sound` and `Narrow`.
 use mathlib.Core.Path.{_≡_}
 use Prim.Native.Nat.{_≤_}
+use Rattle.whole.specs.Split.{below}
 use Rattle.taylor.specs.Order.{leastOrder}
 use Rattle.expo.specs.Grid.{Grid}
 use Rattle.logarithm.specs.WidthFacts.{Fine}
-use Rattle.logarithm.specs.Range.{Halving, leastLogForce}
+use Rattle.series.specs.Series.{highestForce}
+use Rattle.logarithm.specs.Range.{Halving}
 use Rattle.mortality.specs.Exact.{sheetUnit}
 
 pub record Fit (g : Grid) : Type 0 where
@@ -14,4 +16,4 @@ pub record Fit (g : Grid) : Type 0 where
   pub log : Fine g
   pub terms : g .logTerms ≤ leastOrder
   -- from the greatest log force of a cell in range down the force is at most one half
-  pub half : Halving g leastLogForce
+  pub half : Halving g (below highestForce)

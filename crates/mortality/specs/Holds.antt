@@ -1,7 +1,7 @@
 -- Every order of a cell's exact value overlaps the grid's ends: z, the force, H, G, p and q, for a set in its limits, an age
 -- and a year whose needed cells are in range.
 use mathlib.Core.Path.{_≡_, refl, ap, sym, _∙_}
-use Prim.Native.Nat.{ℕ, zero, suc, _+_, _-_, _*_, _≤_, _<_}
+use Prim.Native.Nat.{ℕ, zero, suc, _+_, _*_, _≤_, _<_}
 use native.Mathlib.Nat.{le-trans}
 use native.Mathlib.Decide.{decLt}
 use native.Mathlib.Omega.{arith}
@@ -10,6 +10,7 @@ use borrow.Author.Tests.{lt-ltb, le-ltb}
 use lib.IntN.{ℤ, pos, negsuc, negℤ, natAbs, _+ℤ_, _*ℤ_, pos-*ℤ-pos}
 use Rattle.whole.specs.Order.{pos-nonneg, ≤ℤ-of-≡, *ℤ-assoc, *ℤ-distrib-right}
 use Rattle.whole.specs.Split.{below}
+use Rattle.whole.specs.Table.{listed-at}
 use Rattle.fraction.specs.Ratio.{_≤/_, whole/, quotient/, complement}
 use Rattle.fraction.specs.RatioLaws.{≤/-trans, quotient/-mono, complement-reverse}
 use Rattle.fraction.specs.Fraction.{Fraction, _≤ℚ_, _+ℚ_, negℚ, wholeℚ, quotientℚ, signed, absolute}
@@ -22,13 +23,12 @@ use Rattle.expo.specs.WidthFacts.{Narrow}
 use Rattle.expo.specs.Overlap.{inUnits, Overlap}
 use Rattle.expo.specs.Holds.{exp-overlap}
 use Rattle.params.specs.declared.Params.{Params}
-use Rattle.series.specs.Series.{logForce}
+use Rattle.series.specs.Series.{logForce, highestForce}
 use Rattle.series.specs.Exact.{exactLogForce}
 use Rattle.series.specs.SeriesLaws.{logForce-holds}
 use Rattle.series.specs.WidthLaws.{logForceWidth}
 use Rattle.series.specs.RangeLaws.{Negated, negated-holds}
 use Rattle.logarithm.specs.Logarithm.{logLower, logUpper, inverseLogistic}
-use Rattle.logarithm.specs.Range.{leastLogForce}
 use Rattle.logarithm.specs.Force.{force-half}
 use Rattle.logarithm.specs.Holds.{log-overlap}
 use Rattle.weights.specs.Weights.{fitted, firstFitted, firstClosed}
@@ -41,7 +41,6 @@ use Rattle.force.specs.Force.{negated, deathOf}
 use Rattle.mortality.specs.Cell.{youngForce, fittedEnds, fittedList, oldForce, force, survival, death}
 use Rattle.mortality.specs.Exact.{sheetUnit, exactM, exactZ, orderYoungForce, orderFitted, orderFittedList, orderOldForce, orderForce, orderSurvival, orderDeath}
 use Rattle.mortality.specs.Facts.{Fit}
-use Rattle.mortality.specs.Lists.{listed-at}
 use Rattle.mortality.specs.Answered.{Answered}
 use Rattle.mortality.specs.Needed.{young-needed, old-needed}
 
@@ -78,14 +77,13 @@ abbrev unit-positive : 0 < sheetUnit
 unit-positive = lit< tt
 
 -- what stands at each place of the two lists
-pub fitted-at : (g : Grid) (p : Params) (n k i : ℕ) → i < k → endsAt (fittedList g p n k) i ≡ fittedEnds g p n (firstFitted + i)
+pub fitted-at : (g : Grid) (p : Params) (n i : ℕ) → i < fitted → endsAt (fittedList g p n) i ≡ fittedEnds g p n (firstFitted + i)
 unfolding fittedList
-fitted-at g p n k i h = listed-at (fittedList g p n) (λ (i : ℕ). fittedEnds g p n (firstFitted + i)) refl (λ i. refl) _ k i h
+fitted-at g p n i h = listed-at (fittedEnds g p n) _ firstFitted fitted i h
 
-pub order-fitted-at : (p : Params) (n j k i : ℕ) → i < k → intervalAt (orderFittedList p n j k) i ≡ orderFitted p n j (firstFitted + i)
+pub order-fitted-at : (p : Params) (n j i : ℕ) → i < fitted → intervalAt (orderFittedList p n j) i ≡ orderFitted p n j (firstFitted + i)
 unfolding orderFittedList
-order-fitted-at p n j k i h =
-    listed-at (orderFittedList p n j) (λ (i : ℕ). orderFitted p n j (firstFitted + i)) refl (λ i. refl) _ k i h
+order-fitted-at p n j i h = listed-at (orderFitted p n j) _ firstFitted fitted i h
 
 module _ (g : Grid) (s : Sound g) (fit : Fit g) where
   -- n/unit in both forms
@@ -136,8 +134,8 @@ module _ (g : Grid) (s : Sound g) (fit : Fit g) where
   -- ---- the force to 90
 
   pub half-young : Narrow g s → (p : Params) (x n : ℕ) → Negated (logForce p x n) logForceWidth → 2 * youngForce g p x n .upper ≤ g .unit
-  unfolding youngForce expBetween negated leastLogForce
-  half-young w p x n r = force-half g s leastLogForce (fit .half) w (below (logForce p x n .upper)) (r .least)
+  unfolding youngForce expBetween negated
+  half-young w p x n r = force-half g s (below highestForce) (fit .half) w (below (logForce p x n .upper)) (r .least)
 
   pub young-overlap : (p : Params) (x n j : ℕ) → Negated (logForce p x n) logForceWidth
       → Overlap g s (youngForce g p x n) (orderYoungForce p x n j .least) (orderYoungForce p x n j .most)
@@ -175,9 +173,9 @@ module _ (g : Grid) (s : Sound g) (fit : Fit g) where
       → Overlap g s (oldForce g p x n) (orderOldForce p x n j .least) (orderOldForce p x n j .most)
   unfolding oldForce orderOldForce
   old-overlap w p x n j l r =
-      logistic-overlap g s (closedSum x (fittedList g p n fitted)) (exactClosedSum x (orderFittedList p n j fitted)) j
-      (closedSum-overlap g s x (fittedList g p n fitted) (orderFittedList p n j fitted) (λ i h.
-      rw (fitted-at g p n fitted i h, order-fitted-at p n j fitted i h) (fitted-overlap w p n j (firstFitted + i) l (r i h))))
+      logistic-overlap g s (closedSum x (fittedList g p n)) (exactClosedSum x (orderFittedList p n j)) j
+      (closedSum-overlap g s x (fittedList g p n) (orderFittedList p n j) (λ i h.
+      rw (fitted-at g p n i h, order-fitted-at p n j i h) (fitted-overlap w p n j (firstFitted + i) l (r i h))))
 
   -- ---- the force at any age, p and q
 
@@ -198,6 +196,6 @@ module _ (g : Grid) (s : Sound g) (fit : Fit g) where
 
     -- q holds every order's bracket
     pub death-holds : Overlap g s (death g p x n) (orderDeath p x n j .least) (orderDeath p x n j .most)
-    unfolding death deathOf survival orderDeath inUnits complement
+    unfolding death deathOf orderDeath inUnits complement
     death-holds =
         record { below = complement-reverse (survival-holds .above); above = complement-reverse (survival-holds .below) }

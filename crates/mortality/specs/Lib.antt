@@ -5,8 +5,9 @@ pub mod Facts
 pub mod Answered
 pub mod Code
 -- laws
-pub mod Lists
 pub mod Needed
+pub mod Years
+pub mod Answers
 pub mod Holds
 pub mod Width
 pub mod Billionths

@@ -2,13 +2,15 @@
 use mathlib.Core.Path.{_≡_, refl, ap, _∙_}
 use mathlib.Core.Bool.{Bool, true, false, cond}
 use Prim.Native.Nat.{ℕ, suc, _+_, _-_, _*_, _^_, _≤_, _<_, max, zero-le}
-use native.Mathlib.Nat.{mul-le-mul-right, pow-suc, pow-zero, one-mul}
+use native.Mathlib.Nat.{pow-suc, pow-zero, one-mul}
 use native.Mathlib.Decide.{decLt}
 use native.Mathlib.Omega.{arith}
 use lib.Signed.{nonNeg}
 use borrow.Author.Tests.{lt-ltb, le-ltb}
+use Rattle.whole.specs.Split.{below}
 use Rattle.fraction.specs.Ratio.{Ratio, _≤/_, _</_, whole/, quotient/, complement, _+/_, _*/_}
 use Rattle.fraction.specs.RatioLaws.{≤/-refl, ≤/-trans, +/-mono, +/-comm, +/-assoc, +/-cancel, </→≤/, +/-complement, whole/-+/, whole/-*/}
+use Rattle.fraction.specs.Multiples.{times, times-one, times-suc, times-times, times-grows}
 use Rattle.fraction.specs.Fraction.{Fraction, _≤ℚ_, _+ℚ_, signed, absolute}
 use Rattle.fraction.specs.FractionLaws.{≤ℚ-refl, ≤ℚ-trans, +ℚ-mono, +ℚ-assoc, signed-≤ℚ, signed-+ℚ}
 use Rattle.taylor.specs.Order.{leastOrder, orderLower, orderUpper}
@@ -18,16 +20,15 @@ use Rattle.expo.specs.Billionths.{billionths}
 use Rattle.expo.specs.BillionthsFacts.{billionths-sound}
 use Rattle.expo.specs.Overlap.{inUnits}
 use Rattle.params.specs.declared.Params.{Params}
-use Rattle.series.specs.Series.{logForce}
+use Rattle.series.specs.Series.{logForce, highestForce}
 use Rattle.series.specs.WidthLaws.{logForceWidth}
 use Rattle.series.specs.RangeLaws.{Negated}
 use Rattle.logarithm.specs.Exact.{logSum, logRemainder, orderLogLower, orderLogUpper}
 use Rattle.logarithm.specs.Brackets.{log-upper-falls, log-brackets-agree}
 use Rattle.logarithm.specs.Half.{half, logOrder}
-use Rattle.logarithm.specs.Range.{leastLogForce}
 use Rattle.logarithm.specs.Narrowing.{log-narrow}
-use Rattle.logarithm.specs.BillionthsFacts.{order-range-half}
-use Rattle.weights.specs.Weights.{fitted, firstFitted, firstClosed}
+use Rattle.logarithm.specs.Force.{order-force-half}
+use Rattle.weights.specs.Weights.{firstFitted, firstClosed}
 use Rattle.logistic.specs.Units.{Bounded}
 use Rattle.logistic.specs.Exact.{overOne, share, orderLogisticLower, orderLogisticUpper}
 use Rattle.logistic.specs.LogisticNarrow.{logistic-narrow}
@@ -43,27 +44,7 @@ use Rattle.mortality.specs.Needed.{young-needed, old-needed}
 use Rattle.mortality.specs.Holds.{z-overlap, order-fitted-at}
 use Rattle.mortality.specs.Billionths.{billionths-fit}
 
--- ---- multiples of one fraction
-
--- n·e
-unfoldable pub times : ℕ → Ratio → Ratio
-times n e = whole/ n */ e
-
-times-one : (e : Ratio) → e ≤/ times 1 e
-unfolding times whole/ _*/_
-times-one e = record { cross = omega arith }
-
-times-suc : (n : ℕ) (e : Ratio) → times n e +/ e ≤/ times (suc n) e
-unfolding times whole/ _*/_ _+/_
-times-suc n e = record { cross = omega arith }
-
-times-times : (a b : ℕ) (e : Ratio) → whole/ a */ times b e ≤/ times (a * b) e
-unfolding times whole/ _*/_
-times-times a b e = record { cross = omega arith }
-
-times-grows : (a b : ℕ) (e : Ratio) → a ≤ b → times a e ≤/ times b e
-unfolding times whole/ _*/_
-times-grows a b e h = record { cross = mul-le-mul-right (1 * e .den) (mul-le-mul-right (e .num) h) }
+-- ---- parts of 1/M
 
 -- forty times 1/(40·M) is 1/M
 finer : (M : ℕ) → 0 < M → 0 < 40 * M
@@ -79,7 +60,7 @@ times-part M h = record { cross = omega arith }
 -- ---- complements
 
 -- b ≤ a + d gives 1 − a ≤ (1 − b) + d
-complement-narrow : (a b d : Ratio) → a ≤/ whole/ 1 → b ≤/ whole/ 1 → b ≤/ a +/ d → complement a ≤/ complement b +/ d
+pub complement-narrow : (a b d : Ratio) → a ≤/ whole/ 1 → b ≤/ whole/ 1 → b ≤/ a +/ d → complement a ≤/ complement b +/ d
 complement-narrow a b d ha hb h =
     +/-cancel a
     (≤/-trans (+/-comm (complement a) a .below)
@@ -102,17 +83,24 @@ added m l u e h =
 -- ---- p and q from a narrow force
 
 module _ (p : Params) (x n j M : ℕ) (h : 0 < M) (l : narrowOrder 1 (40 * M) ≤ j) where
-  -- a force that is k parts wide gives a q that is k + 1 parts wide
-  death-parts : (k : ℕ) → suc k ≤ 40 → orderForce p x n j .most ≤/ orderForce p x n j .least +/ times k (part M h)
+  -- a force that is k parts wide gives a p that is k + 1 parts wide
+  survival-parts : (k : ℕ) → suc k ≤ 40 → orderForce p x n j .most ≤/ orderForce p x n j .least +/ times k (part M h)
       → orderForce p x n j .most ≤/ whole/ 1
-      → orderDeath p x n j .most ≤/ orderDeath p x n j .least +/ quotient/ (whole/ 1) M h
-  unfolding orderDeath orderSurvival
-  death-parts k c f o =
+      → orderSurvival p x n j .most ≤/ orderSurvival p x n j .least +/ quotient/ (whole/ 1) M h
+  unfolding orderSurvival
+  survival-parts k c f o =
       let s = exp-narrow-below 1 (40 * M) (finer M h) (orderForce p x n j .least) (orderForce p x n j .most) (times k (part M h)) j f o l in
-      ≤/-trans
-      (complement-narrow (orderLower (orderForce p x n j .most) j) (orderUpper (orderForce p x n j .least) j) (times (suc k) (part M h))
-      (order-lower-one (orderForce p x n j .most) j) (upper-below-one (orderForce p x n j .least) j) (more (orderLower (orderForce p x n j .most) j) k (part M h) s))
+      ≤/-trans (more (orderLower (orderForce p x n j .most) j) k (part M h) s)
       (+/-mono (≤/-refl _) (≤/-trans (times-grows (suc k) 40 (part M h) c) (times-part M h)))
+
+-- both ends of an order's p are at most 1
+pub survival-least-one : (p : Params) (x n j : ℕ) → orderSurvival p x n j .least ≤/ whole/ 1
+unfolding orderSurvival
+survival-least-one p x n j = order-lower-one (orderForce p x n j .most) j
+
+pub survival-most-one : (p : Params) (x n j : ℕ) → orderSurvival p x n j .most ≤/ whole/ 1
+unfolding orderSurvival
+survival-most-one p x n j = upper-below-one (orderForce p x n j .least) j
 
 -- ---- the logarithm of a force of at most one half is at most 1
 
@@ -150,15 +138,15 @@ module _ (p : Params) (x n : ℕ) (r : Negated (logForce p x n) logForceWidth) w
       ≤/-trans (z-overlap billionths billionths-sound billionths-fit p x n r .above)
       (record { cross = omega (arith, r .most) })
 
-  z-large : inUnits billionths billionths-sound leastLogForce ≤/ exactZ p x n
-  unfolding inUnits negated leastLogForce
+  z-large : inUnits billionths billionths-sound (below highestForce) ≤/ exactZ p x n
+  unfolding inUnits negated
   z-large =
       ≤/-trans (record { cross = omega (arith, r .least) })
       (z-overlap billionths billionths-sound billionths-fit p x n r .below)
 
   young-half : (j : ℕ) → leastOrder ≤ j → orderYoungForce p x n j .most ≤/ half
   unfolding orderYoungForce
-  young-half j l = order-range-half j z-large l
+  young-half j l = order-force-half billionths billionths-sound (below highestForce) (billionths-fit .half) j z-large l
 
   young-parts : (j M : ℕ) (h : 0 < M) → narrowOrder 30 (40 * M) ≤ j
       → orderYoungForce p x n j .most ≤/ orderYoungForce p x n j .least +/ times 1 (part M h)
@@ -231,40 +219,46 @@ upper-one p x n j = upper-below-one (exactZ p x n) j
 
 old-one : (p : Params) (x n j : ℕ) → orderOldForce p x n j .most ≤/ whole/ 1
 unfolding orderOldForce
-old-one p x n j = logistic-one (exactClosedSum x (orderFittedList p n j fitted) .most) j
+old-one p x n j = logistic-one (exactClosedSum x (orderFittedList p n j) .most) j
 
 module _ {p : Params} {x n : ℕ} (a : Answered p x n) (M : ℕ) (h : 0 < M) (j : ℕ) (l : deathOrder M ≤ j) where
   old-parts : firstClosed ≤ x → orderOldForce p x n j .most ≤/ orderOldForce p x n j .least +/ times 31 (part M h)
   unfolding orderOldForce deathOrder
   old-parts c =
-      let es = orderFittedList p n j fitted in
+      let es = orderFittedList p n j in
       let I = exactClosedSum x es in
       let e = part M h in
       let w : I .most ≤ℚ I .least +ℚ signed (whole/ 10 */ times 3 e) =
-      closedSum-narrow x es (times 3 e) c (a .age) (λ i k. rw (order-fitted-at p n j fitted i k)
+      closedSum-narrow x es (times 3 e) c (a .age) (λ i k. rw (order-fitted-at p n j i k)
       (fitted-parts p (firstFitted + i) n (old-needed a c i k) j M h (omega arith) (omega arith) (omega arith))) in
       let w′ : I .most ≤ℚ I .least +ℚ signed (times 30 e) =
       ≤ℚ-trans w (+ℚ-mono (≤ℚ-refl (I .least)) (signed-≤ℚ .0 (times-times 10 3 e))) in
-      let b = closedSum-bounded x es (whole/ 31) c (a .age) (λ i k. rw (order-fitted-at p n j fitted i k)
+      let b = closedSum-bounded x es (whole/ 31) c (a .age) (λ i k. rw (order-fitted-at p n j i k)
       (fitted-bounded p (firstFitted + i) n (old-needed a c i k) j (omega arith))) in
       more (orderLogisticLower (I .least) j) 30 e
       (logistic-narrow 310 (40 * M) (finer M h) I (times 30 e) j w′ (≤/-trans (b .low) (whole/-*/ 10 31 .above))
       (≤/-trans (b .high) (whole/-*/ 10 31 .above)) (omega arith))
 
-  -- q's bracket is at most 1/M wide
-  pub q-narrow : orderDeath p x n j .most ≤/ orderDeath p x n j .least +/ quotient/ (whole/ 1) M h
+  -- p's bracket is at most 1/M wide, and so is q's
+  pub p-narrow : orderSurvival p x n j .most ≤/ orderSurvival p x n j .least +/ quotient/ (whole/ 1) M h
   unfolding orderForce deathOrder
-  q-narrow =
+  p-narrow =
       elim (decLt x firstClosed) [
         | yes k ↦
             let f = young-parts p x n (young-needed a k) j M h (omega arith) in
-            death-parts p x n j M h (omega arith) 1 (omega arith) (rw (lt-ltb x firstClosed k) f)
+            survival-parts p x n j M h (omega arith) 1 (omega arith) (rw (lt-ltb x firstClosed k) f)
             (rw (lt-ltb x firstClosed k) (upper-one p x n j))
         | no k ↦
             let c : firstClosed ≤ x = omega arith in
-            death-parts p x n j M h (omega arith) 31 (omega arith) (rw (le-ltb x firstClosed c) (old-parts c))
+            survival-parts p x n j M h (omega arith) 31 (omega arith) (rw (le-ltb x firstClosed c) (old-parts c))
             (rw (le-ltb x firstClosed c) (old-one p x n j))
       ]
+
+  pub q-narrow : orderDeath p x n j .most ≤/ orderDeath p x n j .least +/ quotient/ (whole/ 1) M h
+  unfolding orderDeath
+  q-narrow =
+      complement-narrow (orderSurvival p x n j .least) (orderSurvival p x n j .most) (quotient/ (whole/ 1) M h)
+      (survival-least-one p x n j) (survival-most-one p x n j) p-narrow
 
 -- the orders that count are from 400 up
 pub deathOrder-counts : (M : ℕ) → leastOrder ≤ deathOrder M

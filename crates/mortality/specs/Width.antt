@@ -33,7 +33,7 @@ use Rattle.logistic.specs.LogisticWidth.{logistic-width, logistic-ordered}
 use Rattle.closure.specs.Closure.{closedSum}
 use Rattle.closure.specs.SumWidth.{closedSum-width, closedSum-ordered}
 use Rattle.force.specs.Force.{negated, deathOf}
-use Rattle.mortality.specs.Cell.{youngForce, fittedEnds, fittedList, oldForce, force, death}
+use Rattle.mortality.specs.Cell.{youngForce, fittedEnds, fittedList, oldForce, force, survival, death}
 use Rattle.mortality.specs.Facts.{Fit}
 use Rattle.mortality.specs.Answered.{Answered}
 use Rattle.mortality.specs.Needed.{young-needed, old-needed}
@@ -43,6 +43,9 @@ use Rattle.mortality.specs.Holds.{half-young, fitted-at}
 pub record Narrowed (e : Ends) (w : ℕ) : Type 0 where
   pub ordered : e .lower ≤ e .upper
   pub width : e .upper ≤ e .lower + w
+
+pub narrowed-more : {e : Ends} {w v : ℕ} → w ≤ v → Narrowed e w → Narrowed e v
+narrowed-more h n = record { ordered = n .ordered; width = omega (arith, n .width) }
 
 -- ---- the widths, in units: of the force to 90, of H, of G, of the force above 90, and of q
 
@@ -134,9 +137,9 @@ module _ (g : Grid) (s : Sound g) (w : Narrow g s) where
       unfolding oldForce oldWidth sumWidth
       old-force-width l =
           regroup _ _ _ _ _
-          (logistic-width g s w (closedSum x (fittedList g p n fitted)) (sumWidth g)
-          (closedSum-width x (fittedList g p n fitted) (fittedWidth g) l (a .age) (λ i h.
-          rw (fitted-at g p n fitted i h) (fitted-width p n (firstFitted + i) (old-needed a l i h)
+          (logistic-width g s w (closedSum x (fittedList g p n)) (sumWidth g)
+          (closedSum-width x (fittedList g p n) (fittedWidth g) l (a .age) (λ i h.
+          rw (fitted-at g p n i h) (fitted-width p n (firstFitted + i) (old-needed a l i h)
           (logForce-width p (a .limits) (omega arith) (a .year))))) small)
 
       old-narrowed : firstClosed ≤ x → Narrowed (oldForce g p x n) (oldWidth g)
@@ -144,20 +147,23 @@ module _ (g : Grid) (s : Sound g) (w : Narrow g s) where
       old-narrowed l =
           record {
             ordered =
-                logistic-ordered g s (closedSum x (fittedList g p n fitted)) (closedSum-ordered x (fittedList g p n fitted) (λ i h.
-                rw (fitted-at g p n fitted i h) (fitted-ordered l i h)));
+                logistic-ordered g s (closedSum x (fittedList g p n)) (closedSum-ordered x (fittedList g p n) (λ i h.
+                rw (fitted-at g p n i h) (fitted-ordered l i h)));
             width = old-force-width l;
           }
 
-      -- the force, p and q of an age to 90, and of one above
-      pub young-width : x < firstClosed → Narrowed (death g p x n) (youngDeathWidth g)
-      unfolding death deathOf force youngDeathWidth
-      young-width l =
+      -- p of an age to 90, and of one above; q is no wider
+      pub young-survival-width : x < firstClosed → Narrowed (survival g p x n) (youngDeathWidth g)
+      unfolding survival force youngDeathWidth
+      young-survival-width l =
           rw (lt-ltb x firstClosed l)
-          (complement-narrowed (g .unit) _ _ (exp-narrowed (youngForce g p x n) (youngWidth g) (young-narrowed p x n (young-needed a l))))
+          (exp-narrowed (youngForce g p x n) (youngWidth g) (young-narrowed p x n (young-needed a l)))
 
-      pub old-width : firstClosed ≤ x → Narrowed (death g p x n) (oldDeathWidth g)
-      unfolding death deathOf force oldDeathWidth
-      old-width l =
-          rw (le-ltb x firstClosed l)
-          (complement-narrowed (g .unit) _ _ (exp-narrowed (oldForce g p x n) (oldWidth g) (old-narrowed l)))
+      pub old-survival-width : firstClosed ≤ x → Narrowed (survival g p x n) (oldDeathWidth g)
+      unfolding survival force oldDeathWidth
+      old-survival-width l =
+          rw (le-ltb x firstClosed l) (exp-narrowed (oldForce g p x n) (oldWidth g) (old-narrowed l))
+
+pub death-narrowed : (g : Grid) (p : Params) (x n w : ℕ) → Narrowed (survival g p x n) w → Narrowed (death g p x n) w
+unfolding death deathOf
+death-narrowed g p x n w h = complement-narrowed (g .unit) (survival g p x n) w h

@@ -1,24 +1,23 @@
-// One cell of the table on the grid of 10^-9: the force at ages to 90, the closure above, and q with two ends.
+// One cell of the table on the grid of 10^-9: p, the chance to live through the year, with two ends, from an age's
+// parameters at ages to 90 and by the closure above. A function here takes an age's four parameters or a row of weights, and
+// no set but where it loops over ages.
 ghost use mathlib.Core.Path.{_≡_};
-ghost use Prim.Native.Nat.{ℕ, suc, _≤_, _<_};
+ghost use Prim.Native.Nat.{_≤_};
 ghost use lib.Dec.{T};
-ghost use Rattle.params.specs.declared.Params.{Params};
 ghost use Rattle.params.specs.Limits.{inLimits, lastYears};
 ghost use Rattle.ends.specs.Code.{endsOf};
-ghost use Rattle.series.specs.Series.{logForce};
-ghost use Rattle.weights.specs.Weights.{firstClosed, lastClosed};
-ghost use Rattle.closure.specs.Code.{InLimit};
-ghost use Rattle.mortality.specs.Code.{YearOf, FittedOf, cellOf};
+ghost use Rattle.series.specs.Series.{cellForce};
+ghost use Rattle.series.specs.BoundLaws.{CellLimits};
+ghost use Rattle.weights.specs.Weights.{lastClosed};
+ghost use Rattle.closure.specs.Code.{InLimit, RowWithin};
+ghost use Rattle.mortality.specs.Code.{YearOf, YearWithin, NextOf, FittedOf, CellWithin, youngCell, oldCell, cellOf};
 use ends::SignedEnds;
 use expo::Ends;
+use params::Age;
 use params::Params;
-
-// Ages 80 to 90 are fitted, and ages from 91 on are closed.
-const FIRST_FITTED: usize = 80;
-
-const FITTED: usize = 11;
-
-const FIRST_CLOSED: usize = 91;
+use weights::FIRST_CLOSED;
+use weights::FIRST_FITTED;
+use weights::FITTED;
 
 // The year 2013 + number, with K and kappa.
 pub struct Year {
@@ -33,7 +32,7 @@ pub struct Fitted {
     pub ends: [SignedEnds; 11],
 }
 
-// The ends of q, or a needed cell out of range.
+// The ends of p, or a needed cell out of range.
 pub enum Cell {
     Steep,
     Of(Ends),
@@ -44,8 +43,8 @@ pub fn year_at(p: Params, n: u64) -> Year
     requires { ⌜ T (inLimits p) × (n ≤ lastYears) ⌝ }
     ensures { λ r. ⌜ (r .number ≡ n) × YearOf p r ⌝ }
 {
-    let period = series::period_index(p, n);
-    let kappas = series::kappa_at(p, n);
+    let period = series::period_index(p.period, p.theta, n);
+    let kappas = series::kappa_at(p.a, p.kappa, n);
     Year {
         number: n,
         period,
@@ -53,27 +52,27 @@ pub fn year_at(p: Params, n: u64) -> Year
     }
 }
 
-// The year after.
-pub fn next_year(p: Params, y: Year) -> Year
-    requires { ⌜ YearOf p y × (y .number < lastYears) ⌝ }
-    ensures { λ r. ⌜ (r .number ≡ suc (y .number)) × YearOf p r ⌝ }
+// The year after, by a and theta.
+pub fn next_year(a: i64, theta: i64, y: Year) -> Year
+    requires { ⌜ YearWithin a theta y ⌝ }
+    ensures { λ r. ⌜ NextOf a theta y r ⌝ }
 {
     let kappas = y.kappas;
-    let next = series::kappa_step(p.a, kappas);
+    let next = series::kappa_step(a, kappas);
     Year {
         number: y.number + 1,
-        period: y.period + p.theta,
+        period: y.period + theta,
         kappas: next,
     }
 }
 
-// The log force at age x.
-fn log_force_at(p: Params, x: usize, y: Year) -> SignedEnds
-    requires { ⌜ YearOf p y × (x < firstClosed) ⌝ }
-    ensures { λ r. ⌜ endsOf r ≡ logForce p x (y .number) ⌝ }
+// The log force at an age of a year.
+fn log_force_at(age: Age, y: Year) -> SignedEnds
+    requires { ⌜ CellLimits age (y .period) (endsOf (y .kappas)) ⌝ }
+    ensures { λ r. ⌜ endsOf r ≡ cellForce age (y .period) (endsOf (y .kappas)) ⌝ }
 {
     let kappas = y.kappas;
-    series::log_force(p, x, y.period, kappas)
+    series::log_force(age, y.period, kappas)
 }
 
 // The ends of H of a year.
@@ -84,7 +83,10 @@ pub fn fitted_in(p: Params, y: Year) -> Fitted
     let mut ends = [SignedEnds { lower: 0, upper: 0 }; 11];
     let mut i = 0;
     while i < FITTED {
-        let m = log_force_at(p, FIRST_FITTED + i, y);
+        let m = log_force_at(
+            params::age_of_runs(&p.level, &p.slope, &p.alpha, &p.beta, FIRST_FITTED + i),
+            y,
+        );
         if !series::in_range(m) {
             return Fitted { ok: false, ends };
         }
@@ -94,28 +96,28 @@ pub fn fitted_in(p: Params, y: Year) -> Fitted
     Fitted { ok: true, ends }
 }
 
-// The cell at an age to 90.
-pub fn young_cell(p: Params, x: usize, y: Year) -> Cell
-    requires { ⌜ YearOf p y × (x < firstClosed) ⌝ }
-    ensures { λ r. ⌜ r ≡ cellOf p x (y .number) ⌝ }
+// The cell at an age to 90, by its parameters.
+pub fn young_cell(age: Age, y: Year) -> Cell
+    requires { ⌜ CellWithin age y ⌝ }
+    ensures { λ r. ⌜ r ≡ youngCell (cellForce age (y .period) (endsOf (y .kappas))) ⌝ }
 {
-    let m = log_force_at(p, x, y);
+    let m = log_force_at(age, y);
     if !series::in_range(m) {
         return Cell::Steep;
     }
-    Cell::Of(force::death_to_90(m))
+    Cell::Of(force::survival_to_90(m))
 }
 
-// The cell at an age above 90, of the ends of H of its year.
-pub fn old_cell(x: usize, f: Fitted) -> Cell
-    requires { ⌜ (firstClosed ≤ x) × (x ≤ lastClosed) × (T (f .ok) → InLimit (f .ends)) ⌝ }
-    ensures { λ r. ⌜ ((p : Params) (n : ℕ) → FittedOf p n f → r ≡ cellOf p x n) ⌝ }
+// The cell at an age above 90, by its row of weights and the ends of H of its year.
+pub fn old_cell(row: [i64; 11], f: Fitted) -> Cell
+    requires { ⌜ RowWithin row × (T (f .ok) → InLimit (f .ends)) ⌝ }
+    ensures { λ r. ⌜ r ≡ oldCell row f ⌝ }
 {
     if !f.ok {
         return Cell::Steep;
     }
     let ends = f.ends;
-    Cell::Of(force::death_of(logistic::logistic(closure::closed_sum(x, ends))))
+    Cell::Of(expo::exp_between(logistic::logistic(closure::closed_sum(row, ends))))
 }
 
 // The cell at age x in year n.
@@ -125,7 +127,9 @@ pub fn cell_at(p: Params, x: usize, n: u64) -> Cell
 {
     let y = year_at(p, n);
     if x < FIRST_CLOSED {
-        return young_cell(p, x, y);
+        return young_cell(params::age_at(p, x), y);
     }
-    old_cell(x, fitted_in(p, y))
+    let table = weights::table();
+    let row = table[x - FIRST_CLOSED];
+    old_cell(row, fitted_in(p, y))
 }

@@ -6,7 +6,8 @@ use mathlib.Core.Bool.{Bool, true, _&&_}
 use lib.Dec.{leb}
 use lib.IntN.{ℤ, pos, natAbs, _+ℤ_, _*ℤ_}
 use Rattle.params.specs.declared.Params.{Params}
-use Rattle.params.specs.Set.{A, B, alpha, beta, ages}
+use Rattle.params.specs.declared.Age.{Age}
+use Rattle.params.specs.Set.{ages, ageOf}
 
 abbrev pub levelLimit : ℕ
 levelLimit = 40000000000
@@ -26,7 +27,17 @@ periodLimit = 500000000000
 abbrev pub kappaLimit : ℕ
 kappaLimit = 50000000000
 
--- years from the start year to the last year of a quote, 2013 to 2184
+-- the start year, 2013, and the years from it to the first year of a quote, 2014, to the last one of a survival or an
+-- expectancy, 2064, and to the last one of q, 2184
+abbrev pub startYear : ℕ
+startYear = 2013
+
+abbrev pub firstYears : ℕ
+firstYears = 1
+
+abbrev pub quoteYears : ℕ
+quoteYears = 51
+
 abbrev pub lastYears : ℕ
 lastYears = 171
 
@@ -34,16 +45,16 @@ lastYears = 171
 abbrev pub within : ℕ → ℤ → Bool
 within k z = leb (natAbs z) k
 
--- the four parameters of age x
-unfoldable pub ageInLimits : Params → ℕ → Bool
-ageInLimits p x =
-    within levelLimit (A p x) && (within slopeLimit (B p x) && (within levelLimit (alpha p x)
-    && within slopeLimit (beta p x)))
+-- the four parameters of an age
+unfoldable pub ageInLimits : Age → Bool
+ageInLimits a =
+    within levelLimit (a .level) && (within slopeLimit (a .slope) && (within levelLimit (a .alpha)
+    && within slopeLimit (a .beta)))
 
 -- those of the first n ages
 unfoldable pub agesInLimits : Params → ℕ → Bool
 agesInLimits p zero = true
-agesInLimits p (suc n) = agesInLimits p n && ageInLimits p n
+agesInLimits p (suc n) = agesInLimits p n && ageInLimits (ageOf p n)
 
 -- a, theta, K, K + 171·theta and k
 unfoldable pub seriesInLimits : Params → Bool

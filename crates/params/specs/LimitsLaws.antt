@@ -7,48 +7,53 @@ use native.Mathlib.Nat.{eq-or-lt-of-le, le-of-suc-le-suc}
 use native.Mathlib.Omega.{arith}
 use lib.Dec.{T}
 use lib.Ieee.Fits.{and-l, and-r}
-use lib.IntN.{pos, _+ℤ_, _*ℤ_}
+use lib.IntN.{ℤ, pos, _+ℤ_, _*ℤ_}
 use Rattle.whole.specs.Bound.{Under, under-lit}
 use Rattle.params.specs.declared.Params.{Params}
-use Rattle.params.specs.Set.{A, B, alpha, beta, ages}
+use Rattle.params.specs.declared.Age.{Age}
+use Rattle.params.specs.Set.{ages, ageOf}
 use Rattle.params.specs.Limits.{levelLimit, slopeLimit, aLimit, thetaLimit, periodLimit, kappaLimit, lastYears}
 use Rattle.params.specs.Limits.{within, ageInLimits, agesInLimits, seriesInLimits, inLimits}
 
 -- the four parameters of an age
-pub record AgeWithin (p : Params) (x : ℕ) : Type 0 where
-  pub level : Under (A p x) levelLimit
-  pub slope : Under (B p x) slopeLimit
-  pub alpha : Under (alpha p x) levelLimit
-  pub beta : Under (beta p x) slopeLimit
+pub record AgeWithin (a : Age) : Type 0 where
+  pub level : Under (a .level) levelLimit
+  pub slope : Under (a .slope) slopeLimit
+  pub alpha : Under (a .alpha) levelLimit
+  pub beta : Under (a .beta) slopeLimit
 
--- a, theta, K, K + 171·theta and k
+-- theta, K and K + 171·theta
+pub record PeriodWithin (k t : ℤ) : Type 0 where
+  pub theta : Under t thetaLimit
+  pub start : Under k periodLimit
+  pub last : Under (k +ℤ pos lastYears *ℤ t) periodLimit
+
+-- these, a and k
 pub record SeriesWithin (p : Params) : Type 0 where
   pub a : Under (p .a) aLimit
-  pub theta : Under (p .theta) thetaLimit
-  pub period : Under (p .period) periodLimit
-  pub last : Under (p .period +ℤ pos lastYears *ℤ p .theta) periodLimit
+  pub index : PeriodWithin (p .period) (p .theta)
   pub kappa : Under (p .kappa) kappaLimit
 
 both : (a b : Bool) → T (a && b) → T a × T b
 both a b t = (and-l a b t, and-r a b t)
 
-age-within : (p : Params) (x : ℕ) → T (ageInLimits p x) → AgeWithin p x
+age-within : (a : Age) → T (ageInLimits a) → AgeWithin a
 unfolding ageInLimits
-age-within p x t =
-    let (l, t₁) = both (within levelLimit (A p x)) _ t in
-    let (s, t₂) = both (within slopeLimit (B p x)) _ t₁ in
-    let (al, be) = both (within levelLimit (alpha p x)) (within slopeLimit (beta p x)) t₂ in
+age-within a t =
+    let (l, t₁) = both (within levelLimit (a .level)) _ t in
+    let (s, t₂) = both (within slopeLimit (a .slope)) _ t₁ in
+    let (al, be) = both (within levelLimit (a .alpha)) (within slopeLimit (a .beta)) t₂ in
     record { level = under-lit l; slope = under-lit s; alpha = under-lit al; beta = under-lit be }
 
-ages-within : (p : Params) (n : ℕ) → T (agesInLimits p n) → (x : ℕ) → x < n → AgeWithin p x
+ages-within : (p : Params) (n : ℕ) → T (agesInLimits p n) → (x : ℕ) → x < n → AgeWithin (ageOf p x)
 unfolding agesInLimits
 ages-within p zero t x h = absurd (omega arith)
 ages-within p (suc n) t x h =
-    let (before, here) = both (agesInLimits p n) (ageInLimits p n) t in
-    ⊎-elim (λ e. rw e (age-within p n here)) (λ l. ages-within p n before x l) (eq-or-lt-of-le (le-of-suc-le-suc h))
+    let (before, here) = both (agesInLimits p n) (ageInLimits (ageOf p n)) t in
+    ⊎-elim (λ e. rw e (age-within (ageOf p n) here)) (λ l. ages-within p n before x l) (eq-or-lt-of-le (le-of-suc-le-suc h))
 
 -- one age that is out of limits decides
-pub age-out : (p : Params) (x n : ℕ) → x < n → ageInLimits p x ≡ false → agesInLimits p n ≡ false
+pub age-out : (p : Params) (x n : ℕ) → x < n → ageInLimits (ageOf p x) ≡ false → agesInLimits p n ≡ false
 unfolding agesInLimits
 age-out p x zero h e = absurd (omega arith)
 age-out p x (suc n) h e =
@@ -56,7 +61,7 @@ age-out p x (suc n) h e =
     (eq-or-lt-of-le (le-of-suc-le-suc h))
 
 -- in limits, the four parameters of every age
-pub in-limits-age : (p : Params) → T (inLimits p) → (x : ℕ) → x < ages → AgeWithin p x
+pub in-limits-age : (p : Params) → T (inLimits p) → (x : ℕ) → x < ages → AgeWithin (ageOf p x)
 unfolding inLimits
 in-limits-age p t = ages-within p ages (and-r (seriesInLimits p) (agesInLimits p ages) t)
 
@@ -71,8 +76,6 @@ in-limits-series p t =
     both (within periodLimit (p .period +ℤ pos lastYears *ℤ p .theta)) (within kappaLimit (p .kappa)) t₃ in
     record {
       a = under-lit a;
-      theta = under-lit theta;
-      period = under-lit period;
-      last = under-lit last;
+      index = record { theta = under-lit theta; start = under-lit period; last = under-lit last };
       kappa = under-lit kappa;
     }

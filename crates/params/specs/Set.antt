@@ -2,8 +2,10 @@
 use Prim.Native.Nat.{ℕ}
 use lib.IntN.{ℤ, pos}
 use lib.ListN.{getD, length, replicate}
-use mathlib.Core.Path.{_≡_}
+use mathlib.Core.Path.{_≡_, refl}
+use mathlib.Core.List.{List}
 use Rattle.params.specs.declared.Params.{Params}
+use Rattle.params.specs.declared.Age.{Age}
 use Rattle.params.specs.declared.Sex.the-variants.{M}
 
 -- ages 0 to 90 have parameters
@@ -22,6 +24,25 @@ alpha p x = getD (p .alpha) x (pos 0)
 
 unfoldable pub beta : Params → ℕ → ℤ
 beta p x = getD (p .beta) x (pos 0)
+
+-- the four together
+abbrev pub ageOf : Params → ℕ → Age
+ageOf p x = record { level = A p x; slope = B p x; alpha = alpha p x; beta = beta p x }
+
+-- the numbers at place x of four runs
+abbrev pub fourAt : List ℤ → List ℤ → List ℤ → List ℤ → ℕ → Age
+fourAt level slope alpha beta x =
+    record {
+      level = getD level x (pos 0);
+      slope = getD slope x (pos 0);
+      alpha = getD alpha x (pos 0);
+      beta = getD beta x (pos 0);
+    }
+
+-- of a set's runs, the age's parameters
+pub four-age : (p : Params) (x : ℕ) → fourAt (p .level) (p .slope) (p .alpha) (p .beta) x ≡ ageOf p x
+unfolding A B alpha beta
+four-age p x = refl
 
 -- each run has one number for each age, as in every set that a program holds
 pub record Whole (p : Params) : Type 0 where

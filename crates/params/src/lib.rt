@@ -4,7 +4,7 @@ ghost use Prim.Native.Nat.{_<_};
 ghost use lib.IntN.{pos, natAbs};
 ghost use lib.Signed.{_≤ℤ_};
 ghost use Rattle.params.specs.Refusals.{refusalNumber};
-ghost use Rattle.params.specs.Set.{ages, A as levelAt, B, alpha, beta, blank};
+ghost use Rattle.params.specs.Set.{ages, ageOf, fourAt, blank};
 ghost use Rattle.params.specs.Limits.{within, ageInLimits, seriesInLimits, inLimits};
 
 // A label only.
@@ -29,8 +29,15 @@ const PERIOD_LIMIT: i64 = 500_000_000_000;
 
 const KAPPA_LIMIT: i64 = 50_000_000_000;
 
-// Years from the start year to the last year of a quote.
-const LAST_YEARS: i64 = 171;
+// The start year, and the years from it to the first year of a quote, to the last one of a survival or an expectancy, and
+// to the last one of q.
+pub const START_YEAR: i64 = 2013;
+
+pub const FIRST_YEARS: i64 = 1;
+
+pub const QUOTE_YEARS: i64 = 51;
+
+pub const LAST_YEARS: i64 = 171;
 
 // The parameters of one sheet. In the model's letters: level is A, slope is B, period is K in the start year, kappa
 // is k.
@@ -40,10 +47,18 @@ pub struct Params {
     pub theta: i64,
     pub period: i64,
     pub kappa: i64,
-    pub level: [i64; 91],
-    pub slope: [i64; 91],
-    pub alpha: [i64; 91],
-    pub beta: [i64; 91],
+    pub level: [i64; AGES],
+    pub slope: [i64; AGES],
+    pub alpha: [i64; AGES],
+    pub beta: [i64; AGES],
+}
+
+// The parameters of one age.
+pub struct Age {
+    pub level: i64,
+    pub slope: i64,
+    pub alpha: i64,
+    pub beta: i64,
 }
 
 // The papers' refusals, and none.
@@ -74,36 +89,32 @@ pub fn refusal_number(r: Refusal) -> u8
     }
 }
 
-// A at age x.
-pub fn level_at(p: Params, x: usize) -> i64
+// The four parameters of age x, out of the four runs: a loop over ages lends the runs, since a call that takes the set
+// copies it.
+pub fn age_of_runs<'a>(
+    level: &'a [i64; AGES],
+    slope: &'a [i64; AGES],
+    alpha: &'a [i64; AGES],
+    beta: &'a [i64; AGES],
+    x: usize,
+) -> Age
     requires { ⌜ x < ages ⌝ }
-    ensures { λ r. ⌜ r ≡ levelAt p x ⌝ }
+    ensures { λ r. ⌜ r ≡ fourAt (now (level .entry)) (now (slope .entry)) (now (alpha .entry)) (now (beta .entry)) x ⌝ }
 {
-    p.level[x]
+    Age {
+        level: level[x],
+        slope: slope[x],
+        alpha: alpha[x],
+        beta: beta[x],
+    }
 }
 
-// B at age x.
-pub fn slope_at(p: Params, x: usize) -> i64
+// The four parameters of age x.
+pub fn age_at(p: Params, x: usize) -> Age
     requires { ⌜ x < ages ⌝ }
-    ensures { λ r. ⌜ r ≡ B p x ⌝ }
+    ensures { λ r. ⌜ r ≡ ageOf p x ⌝ }
 {
-    p.slope[x]
-}
-
-// alpha at age x.
-pub fn alpha_at(p: Params, x: usize) -> i64
-    requires { ⌜ x < ages ⌝ }
-    ensures { λ r. ⌜ r ≡ alpha p x ⌝ }
-{
-    p.alpha[x]
-}
-
-// beta at age x.
-pub fn beta_at(p: Params, x: usize) -> i64
-    requires { ⌜ x < ages ⌝ }
-    ensures { λ r. ⌜ r ≡ beta p x ⌝ }
-{
-    p.beta[x]
+    age_of_runs(&p.level, &p.slope, &p.alpha, &p.beta, x)
 }
 
 // Sex M and every number 0.
@@ -116,10 +127,10 @@ pub fn blank() -> Params
         theta: 0,
         period: 0,
         kappa: 0,
-        level: [0; 91],
-        slope: [0; 91],
-        alpha: [0; 91],
-        beta: [0; 91],
+        level: [0; AGES],
+        slope: [0; AGES],
+        alpha: [0; AGES],
+        beta: [0; AGES],
     }
 }
 
@@ -134,21 +145,20 @@ fn within(v: i64, limit: i64) -> bool
     v <= limit
 }
 
-// The four parameters of age x are in limits.
-fn age_in_limits(p: Params, x: usize) -> bool
-    requires { ⌜ x < ages ⌝ }
-    ensures { λ r. ⌜ r ≡ ageInLimits p x ⌝ }
+// The four parameters of an age are in limits.
+fn age_in_limits(a: Age) -> bool
+    ensures { λ r. ⌜ r ≡ ageInLimits a ⌝ }
 {
-    if !within(level_at(p, x), LEVEL_LIMIT) {
+    if !within(a.level, LEVEL_LIMIT) {
         return false;
     }
-    if !within(slope_at(p, x), SLOPE_LIMIT) {
+    if !within(a.slope, SLOPE_LIMIT) {
         return false;
     }
-    if !within(alpha_at(p, x), LEVEL_LIMIT) {
+    if !within(a.alpha, LEVEL_LIMIT) {
         return false;
     }
-    within(beta_at(p, x), SLOPE_LIMIT)
+    within(a.beta, SLOPE_LIMIT)
 }
 
 // a, theta, K, K + 171·theta and k are in limits. The sum is formed where its terms are.
@@ -179,7 +189,8 @@ pub fn in_limits(p: Params) -> bool
     }
     let mut x: usize = 0;
     while x < AGES {
-        if !age_in_limits(p, x) {
+        let age = age_of_runs(&p.level, &p.slope, &p.alpha, &p.beta, x);
+        if !age_in_limits(age) {
             return false;
         }
         x += 1;

@@ -10,12 +10,12 @@ use Rattle.sheet_length.specs.Held.{Held}
 use Rattle.line_writer.specs.Put.{Room, Put}
 use Rattle.line_writer.specs.PutLaws.{put-as, room-as}
 
-module _ (key : List ℕ) {v z : ℤ} (h : Held v z) {bytes : List ℕ} {at : ℕ} where
+module _ (key : List ℕ) {z : ℤ} (h : Held z) {bytes : List ℕ} {at : ℕ} where
   -- what the writer of a line asks
-  pub line-room : Room bytes at (lineText key z) → Room bytes at (lineText key (toZ w64 (ofZ w64 v)))
+  pub line-room : Room bytes at (lineText key z) → Room bytes at (lineText key (toZ w64 (ofZ w64 z)))
   line-room room = room-as (sym (ap (lineText key) (h .is))) room
 
   -- what it gives
-  pub line-put : {after : List ℕ} {next : ℕ} → Put bytes at (lineText key (toZ w64 (ofZ w64 v))) after next
+  pub line-put : {after : List ℕ} {next : ℕ} → Put bytes at (lineText key (toZ w64 (ofZ w64 z))) after next
       → Put bytes at (lineText key z) after next
   line-put put = put-as (ap (lineText key) (h .is)) put

@@ -3,8 +3,10 @@ ghost use Prim.Native.Nat.{_<_};
 ghost use lib.Dec.{T};
 ghost use Rattle.params.specs.Set.{ages};
 ghost use Rattle.params.specs.Limits.{inLimits};
+ghost use Rattle.params.specs.LimitsLaws.{AgeWithin};
 ghost use Rattle.sheet_length.specs.Parts.{seriesText, ageText};
 ghost use Rattle.line_writer.specs.Put.{Room, Put};
+use params::Age;
 use params::Params;
 
 // Writes the lines of the series; the place after them.
@@ -19,16 +21,12 @@ pub fn put_series(buffer: &mut [u8], at: usize, p: Params) -> usize
 }
 
 // Writes the four lines of age x; the place after them.
-pub fn put_age(buffer: &mut [u8], at: usize, p: Params, x: usize) -> usize
-    requires { ⌜ T (inLimits p) × (x < ages) × Room (now buffer) at (ageText p x) ⌝ }
-    ensures { λ r. ⌜ Put (now (buffer .entry)) at (ageText p x) (now (buffer .exit)) r ⌝ }
+pub fn put_age(buffer: &mut [u8], at: usize, a: Age, x: usize) -> usize
+    requires { ⌜ AgeWithin a × (x < ages) × Room (now buffer) at (ageText a x) ⌝ }
+    ensures { λ r. ⌜ Put (now (buffer .entry)) at (ageText a x) (now (buffer .exit)) r ⌝ }
 {
-    let level = params::level_at(p, x);
-    let slope = params::slope_at(p, x);
-    let alpha = params::alpha_at(p, x);
-    let beta = params::beta_at(p, x);
-    let second = line_writer::put_age_line(buffer, at, b"A.", x, level);
-    let third = line_writer::put_age_line(buffer, second, b"B.", x, slope);
-    let fourth = line_writer::put_age_line(buffer, third, b"al.", x, alpha);
-    line_writer::put_age_line(buffer, fourth, b"be.", x, beta)
+    let second = line_writer::put_age_line(buffer, at, b"A.", x, a.level);
+    let third = line_writer::put_age_line(buffer, second, b"B.", x, a.slope);
+    let fourth = line_writer::put_age_line(buffer, third, b"al.", x, a.alpha);
+    line_writer::put_age_line(buffer, fourth, b"be.", x, a.beta)
 }

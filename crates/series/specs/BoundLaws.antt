@@ -8,11 +8,12 @@ use Rattle.whole.specs.Split.{split, split-add, split-scale-left}
 use Rattle.whole.specs.Bound.{Under, under-between, under-low, under-high, under-add, under-mul}
 use Rattle.whole.specs.SignedEnds.{SignedEnds, leastProduct, greatestProduct}
 use Rattle.params.specs.declared.Params.{Params}
-use Rattle.params.specs.Set.{B, alpha, beta, ages}
+use Rattle.params.specs.declared.Age.{Age}
+use Rattle.params.specs.Set.{ages, ageOf}
 use Rattle.params.specs.Limits.{levelLimit, slopeLimit, aLimit, periodLimit, kappaLimit, lastYears, inLimits}
-use Rattle.params.specs.LimitsLaws.{SeriesWithin, AgeWithin, in-limits-series, in-limits-age}
+use Rattle.params.specs.LimitsLaws.{PeriodWithin, AgeWithin, in-limits-series, in-limits-age}
 use Rattle.ends.specs.EndLaws.{Within, least-under, greatest-under, outward-under}
-use Rattle.series.specs.Series.{periodIndex, kappaStep, kappa, cellForce}
+use Rattle.series.specs.Series.{periodIn, periodIndex, kappaStep, kappaIn, kappa, cellForce}
 
 -- k + n·t lies between k and k + m·t
 between : (k t : ℤ) {n m b : ℕ} → n ≤ m → Under k b → Under (k +ℤ pos m *ℤ t) b → Under (k +ℤ pos n *ℤ t) b
@@ -32,9 +33,9 @@ between k (negsuc t) {n} {m} {b} h u v =
     under-between (omega (split, split-add k (pos m *ℤ z), split-scale-left m z)) (omega split)
 
 -- the period's index in a year of a quote
-pub periodIndex-under : (p : Params) {n : ℕ} → SeriesWithin p → n ≤ lastYears → Under (periodIndex p n) periodLimit
-unfolding periodIndex
-periodIndex-under p l h = between (p .period) (p .theta) h (l .period) (l .last)
+pub period-under : {start theta : ℤ} {n : ℕ} → PeriodWithin start theta → n ≤ lastYears → Under (periodIn start theta n) periodLimit
+unfolding periodIn
+period-under {start} {theta} l h = between start theta h (l .start) (l .last)
 
 -- kappa, in every year
 pub kappaStep-under : {a : ℤ} {e : SignedEnds} → Under a aLimit → Within kappaLimit e
@@ -42,10 +43,10 @@ pub kappaStep-under : {a : ℤ} {e : SignedEnds} → Under a aLimit → Within k
 unfolding kappaStep
 kappaStep-under u v = outward-under kappaLimit (lit< tt) (lit≤ tt) (least-under u v) (greatest-under u v)
 
-pub kappa-under : (p : Params) (n : ℕ) → SeriesWithin p → Within kappaLimit (kappa p n)
-unfolding kappa
-kappa-under p zero l = record { low = l .kappa; high = l .kappa }
-kappa-under p (suc n) l = kappaStep-under (l .a) (kappa-under p n l)
+pub kappa-under : {a start : ℤ} (n : ℕ) → Under a aLimit → Under start kappaLimit → Within kappaLimit (kappaIn a start n)
+unfolding kappaIn
+kappa-under zero u v = record { low = v; high = v }
+kappa-under (suc n) u v = kappaStep-under u (kappa-under n u v)
 
 -- ---- the log force of a cell
 
@@ -60,31 +61,33 @@ abbrev pub forceLimit : ℕ
 forceLimit = levelLimit + levelLimit + quotientLimit
 
 -- what the log force of a cell is formed of is in its limits
-pub record CellLimits (p : Params) (x : ℕ) (k : ℤ) (e : SignedEnds) : Type 0 where
-  pub age : AgeWithin p x
+pub record CellLimits (a : Age) (k : ℤ) (e : SignedEnds) : Type 0 where
+  pub age : AgeWithin a
   pub period : Under k periodLimit
   pub kappas : Within kappaLimit e
 
 -- so it is for a set in its limits, in every year of a quote
 pub cell-limits : (p : Params) → T (inLimits p) → {x n : ℕ} → x < ages → n ≤ lastYears
-    → CellLimits p x (periodIndex p n) (kappa p n)
+    → CellLimits (ageOf p x) (periodIndex p n) (kappa p n)
 cell-limits p t {x} {n} hx hn =
     let l = in-limits-series p t in
-    record { age = in-limits-age p t x hx; period = periodIndex-under p l hn; kappas = kappa-under p n l }
+    record {
+      age = in-limits-age p t x hx;
+      period = period-under (l .index) hn;
+      kappas = kappa-under n (l .a) (l .kappa);
+    }
 
 -- so each step is
-pub least-sum-under : {p : Params} {x : ℕ} {k : ℤ} {e : SignedEnds} → CellLimits p x k e
-    → Under (B p x *ℤ k +ℤ leastProduct (beta p x) e) sumLimit
-least-sum-under c = under-add (under-mul (c .age .slope) (c .period)) (least-under (c .age .beta) (c .kappas))
+module _ {a : Age} {k : ℤ} {e : SignedEnds} (c : CellLimits a k e) where
+  pub least-sum-under : Under (a .slope *ℤ k +ℤ leastProduct (a .beta) e) sumLimit
+  least-sum-under = under-add (under-mul (c .age .slope) (c .period)) (least-under (c .age .beta) (c .kappas))
 
-pub greatest-sum-under : {p : Params} {x : ℕ} {k : ℤ} {e : SignedEnds} → CellLimits p x k e
-    → Under (B p x *ℤ k +ℤ greatestProduct (beta p x) e) sumLimit
-greatest-sum-under c = under-add (under-mul (c .age .slope) (c .period)) (greatest-under (c .age .beta) (c .kappas))
+  pub greatest-sum-under : Under (a .slope *ℤ k +ℤ greatestProduct (a .beta) e) sumLimit
+  greatest-sum-under = under-add (under-mul (c .age .slope) (c .period)) (greatest-under (c .age .beta) (c .kappas))
 
-pub cellForce-under : {p : Params} {x : ℕ} {k : ℤ} {e : SignedEnds} → CellLimits p x k e
-    → Within forceLimit (cellForce p x k e)
-unfolding cellForce
-cellForce-under c =
-    let u = under-add (c .age .level) (c .age .alpha) in
-    let q = outward-under quotientLimit (lit< tt) (lit≤ tt) (least-sum-under c) (greatest-sum-under c) in
-    record { low = under-add u (q .low); high = under-add u (q .high) }
+  pub cellForce-under : Within forceLimit (cellForce a k e)
+  unfolding cellForce
+  cellForce-under =
+      let u = under-add (c .age .level) (c .age .alpha) in
+      let q = outward-under quotientLimit (lit< tt) (lit≤ tt) least-sum-under greatest-sum-under in
+      record { low = under-add u (q .low); high = under-add u (q .high) }

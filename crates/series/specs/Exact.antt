@@ -1,5 +1,5 @@
 -- The time series and the log force exactly (paper 01, "The exact value"): fractions, in the parameters' units of 10^-9.
-use Prim.Native.Nat.{ℕ, zero, suc, _<_}
+use Prim.Native.Nat.{ℕ, zero, suc}
 use lib.Dec.{lit<}
 use lib.IntN.{_+ℤ_, _*ℤ_}
 use Rattle.fraction.specs.Fraction.{Fraction, wholeℚ, _+ℚ_, scaleℚ, quotientℚ}

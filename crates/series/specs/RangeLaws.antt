@@ -2,22 +2,23 @@
 -- lower end of m gives the upper end of z, and z is as wide as m. They hold the exact log force, negated.
 use mathlib.Core.Path.{_≡_, refl}
 use Prim.Native.Nat.{ℕ, _+_, _≤_, _<_}
+use native.Mathlib.Omega.{arith}
 use lib.Dec.{T}
 use lib.Ieee.Fits.{and-l, and-r}
 use lib.IntN.{ℤ, pos, negsuc, negℤ}
-use lib.Signed.{_≤ℤ_, _<ℤ_, leZ, leZ-yes, ltZ-yes}
+use lib.Signed.{_≤ℤ_, _<ℤ_, leZ, leZ-yes}
 use Rattle.whole.specs.Split.{above, below, split, split-add}
 use Rattle.whole.specs.SignedEnds.{SignedEnds}
-use Rattle.fraction.specs.Fraction.{Fraction, _≤ℚ_, _<ℚ_, wholeℚ, negℚ}
-use Rattle.fraction.specs.FractionLaws.{≤ℚ-trans, ≤ℚ-<ℚ-trans, negℚ-reverse, wholeℚ-≤ℚ, wholeℚ-<ℚ, wholeℚ-negℚ}
+use Rattle.fraction.specs.Fraction.{Fraction, _≤ℚ_, wholeℚ, negℚ}
+use Rattle.fraction.specs.FractionLaws.{negℚ-reverse, wholeℚ-negℚ}
 use Rattle.params.specs.declared.Params.{Params}
+use Rattle.params.specs.declared.Age.{Age}
 use Rattle.params.specs.Set.{ages}
 use Rattle.params.specs.Limits.{lastYears, inLimits}
 use Rattle.ends.specs.EndLaws.{Holds, Wide}
-use Rattle.series.specs.Series.{logForce, lowestForce, highestForce, inRange}
-use Rattle.series.specs.Exact.{exactLogForce}
-use Rattle.series.specs.SeriesLaws.{logForce-holds}
-use Rattle.series.specs.WidthLaws.{logForceWidth, logForce-wide}
+use Rattle.series.specs.Series.{cellForce, logForce, lowestForce, highestForce, inRange}
+use Rattle.series.specs.BoundLaws.{CellLimits}
+use Rattle.series.specs.WidthLaws.{logForceWidth, cellForce-wide, logForce-wide}
 
 -- lower end at least −30,000,000,000, upper end at most −700,000,000
 pub record InRange (m : SignedEnds) : Type 0 where
@@ -69,17 +70,13 @@ negated-holds {m} n h = (
 
 -- ---- of a log force
 
--- in a year of a quote, the ends of −m for a set in its limits
+-- the ends of −m of a cell in its limits and in range, in a year of a quote
+pub cell-negated : {a : Age} {k : ℤ} {e : SignedEnds} → CellLimits a k e → Wide (e .lower) (e .upper) lastYears
+    → T (inRange (cellForce a k e)) → Negated (cellForce a k e) logForceWidth
+cell-negated {a} {k} {e} l w r =
+    negated (in-range (cellForce a k e) r) (cellForce-wide a k logForceWidth (l .age .beta) w (omega arith))
+
+-- and for a set in its limits
 pub logForce-negated : (p : Params) → T (inLimits p) → {x n : ℕ} → x < ages → n ≤ lastYears
     → T (inRange (logForce p x n)) → Negated (logForce p x n) logForceWidth
 logForce-negated p t {x} {n} hx hn r = negated (in-range (logForce p x n) r) (logForce-wide p t hx hn)
-
--- the exact log force is at most the upper end, and so at most −700,000,000 and negative
-pub exactLogForce-high : (p : Params) (x n : ℕ) → T (inRange (logForce p x n))
-    → exactLogForce p x n ≤ℚ wholeℚ highestForce
-exactLogForce-high p x n r =
-    ≤ℚ-trans (logForce-holds p x n .high) (wholeℚ-≤ℚ .0 (in-range (logForce p x n) r .high))
-
-pub exactLogForce-negative : (p : Params) (x n : ℕ) → T (inRange (logForce p x n))
-    → exactLogForce p x n <ℚ wholeℚ (pos 0)
-exactLogForce-negative p x n r = ≤ℚ-<ℚ-trans (exactLogForce-high p x n r) (wholeℚ-<ℚ .0 (ltZ-yes tt))

@@ -6,32 +6,40 @@ use lib.IntN.{ℤ, pos, negℤ, _+ℤ_, _*ℤ_}
 use lib.Signed.{leZ}
 use Rattle.whole.specs.SignedEnds.{SignedEnds, leastProduct, greatestProduct, outward}
 use Rattle.params.specs.declared.Params.{Params}
-use Rattle.params.specs.Set.{A, B, alpha, beta}
+use Rattle.params.specs.declared.Age.{Age}
+use Rattle.params.specs.Set.{ageOf}
 
 -- the unit of a, B and beta: 10^-8
 abbrev pub rateUnit : ℕ
 rateUnit = 100000000
 
 -- "K in year t is K + (t − 2013)·theta, exactly."
-unfoldable pub periodIndex : Params → ℕ → ℤ
-periodIndex p n = p .period +ℤ pos n *ℤ p .theta
+unfoldable pub periodIn : ℤ → ℤ → ℕ → ℤ
+periodIn start theta n = start +ℤ pos n *ℤ theta
+
+abbrev pub periodIndex : Params → ℕ → ℤ
+periodIndex p n = periodIn (p .period) (p .theta) n
 
 -- "Kappa starts exact; each year it is multiplied by a and divided by 10^8, outward."
 unfoldable pub kappaStep : ℤ → SignedEnds → SignedEnds
 kappaStep a e = outward (leastProduct a e) (greatestProduct a e) rateUnit
 
-unfoldable pub kappa : Params → ℕ → SignedEnds
-kappa p zero = record { lower = p .kappa; upper = p .kappa }
-kappa p (suc n) = kappaStep (p .a) (kappa p n)
+unfoldable pub kappaIn : ℤ → ℤ → ℕ → SignedEnds
+kappaIn a start zero = record { lower = start; upper = start }
+kappaIn a start (suc n) = kappaStep a (kappaIn a start n)
+
+abbrev pub kappa : Params → ℕ → SignedEnds
+kappa p n = kappaIn (p .a) (p .kappa) n
 
 -- "Log force m at ages 0 to 90: A + alpha + (B·K + beta·kappa)/10^8, outward."
-unfoldable pub cellForce : Params → ℕ → ℤ → SignedEnds → SignedEnds
-cellForce p x period kappas =
-    let e = outward (B p x *ℤ period +ℤ leastProduct (beta p x) kappas) (B p x *ℤ period +ℤ greatestProduct (beta p x) kappas) rateUnit in
-    record { lower = A p x +ℤ alpha p x +ℤ e .lower; upper = A p x +ℤ alpha p x +ℤ e .upper }
+unfoldable pub cellForce : Age → ℤ → SignedEnds → SignedEnds
+cellForce a period kappas =
+    let b = a .slope *ℤ period in
+    let e = outward (b +ℤ leastProduct (a .beta) kappas) (b +ℤ greatestProduct (a .beta) kappas) rateUnit in
+    record { lower = a .level +ℤ a .alpha +ℤ e .lower; upper = a .level +ℤ a .alpha +ℤ e .upper }
 
 unfoldable pub logForce : Params → ℕ → ℕ → SignedEnds
-logForce p x n = cellForce p x (periodIndex p n) (kappa p n)
+logForce p x n = cellForce (ageOf p x) (periodIndex p n) (kappa p n)
 
 -- "A needed cell must have its lower end at or above −30,000,000,000 and its upper end at or below −700,000,000."
 abbrev pub lowestForce : ℤ

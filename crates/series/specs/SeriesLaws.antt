@@ -6,9 +6,10 @@ use Rattle.whole.specs.SignedEnds.{SignedEnds, leastProduct, greatestProduct, o
 use Rattle.fraction.specs.Fraction.{Fraction, _≤ℚ_, wholeℚ, _+ℚ_, scaleℚ}
 use Rattle.fraction.specs.FractionLaws.{≤ℚ-refl, ≤ℚ-trans, +ℚ-mono, wholeℚ-+ℚ}
 use Rattle.params.specs.declared.Params.{Params}
-use Rattle.params.specs.Set.{A, B, alpha, beta}
+use Rattle.params.specs.declared.Age.{Age}
+use Rattle.params.specs.Set.{ageOf}
 use Rattle.ends.specs.EndLaws.{Holds, least-product, greatest-product, outward-holds}
-use Rattle.series.specs.Series.{rateUnit, periodIndex, kappaStep, kappa, cellForce, logForce}
+use Rattle.series.specs.Series.{rateUnit, periodIndex, kappaStep, kappaIn, kappa, cellForce, logForce}
 use Rattle.series.specs.Exact.{perRate, exactKappa, exactLogForce}
 
 -- one year holds a·y/10^8
@@ -19,7 +20,7 @@ kappaStep-holds a {e} h =
 
 -- kappa holds k·(a/10^8)^n in year n
 pub kappa-holds : (p : Params) (n : ℕ) → Holds (kappa p n) (exactKappa p n)
-unfolding kappa exactKappa
+unfolding kappaIn exactKappa
 kappa-holds p zero = record { low = ≤ℚ-refl (wholeℚ (p .kappa)); high = ≤ℚ-refl (wholeℚ (p .kappa)) }
 kappa-holds p (suc n) = kappaStep-holds (p .a) (kappa-holds p n)
 
@@ -31,21 +32,21 @@ sum-high : (c u : ℤ) {z : Fraction} → z ≤ℚ wholeℚ u → wholeℚ c +�
 sum-high c u h = ≤ℚ-trans (+ℚ-mono (≤ℚ-refl (wholeℚ c)) h) (wholeℚ-+ℚ c u .above)
 
 -- the log force of a cell holds A + alpha + (B·K + beta·y)/10^8 where the ends of kappa hold y
-pub cellForce-holds : (p : Params) (x : ℕ) (period : ℤ) {e : SignedEnds} {y : Fraction} → Holds e y
-    → Holds (cellForce p x period e)
-    (wholeℚ (A p x +ℤ alpha p x) +ℚ perRate (wholeℚ (B p x *ℤ period) +ℚ scaleℚ (beta p x) y))
+pub cellForce-holds : (a : Age) (period : ℤ) {e : SignedEnds} {y : Fraction} → Holds e y
+    → Holds (cellForce a period e)
+    (wholeℚ (a .level +ℤ a .alpha) +ℚ perRate (wholeℚ (a .slope *ℤ period) +ℚ scaleℚ (a .beta) y))
 unfolding cellForce perRate
-cellForce-holds p x period {e} h =
-    let b = B p x *ℤ period in
-    let l = leastProduct (beta p x) e in
-    let g = greatestProduct (beta p x) e in
+cellForce-holds a period {e} h =
+    let b = a .slope *ℤ period in
+    let l = leastProduct (a .beta) e in
+    let g = greatestProduct (a .beta) e in
     let q = outward (b +ℤ l) (b +ℤ g) rateUnit in
-    let c = A p x +ℤ alpha p x in
-    let d = outward-holds (b +ℤ l) (b +ℤ g) (lit< tt) (sum-low b l (least-product (beta p x) h))
-    (sum-high b g (greatest-product (beta p x) h)) in
+    let c = a .level +ℤ a .alpha in
+    let d = outward-holds (b +ℤ l) (b +ℤ g) (lit< tt) (sum-low b l (least-product (a .beta) h))
+    (sum-high b g (greatest-product (a .beta) h)) in
     record { low = sum-low c (q .lower) (d .low); high = sum-high c (q .upper) (d .high) }
 
 -- the log force holds the exact one
 pub logForce-holds : (p : Params) (x n : ℕ) → Holds (logForce p x n) (exactLogForce p x n)
 unfolding logForce exactLogForce
-logForce-holds p x n = cellForce-holds p x (periodIndex p n) (kappa-holds p n)
+logForce-holds p x n = cellForce-holds (ageOf p x) (periodIndex p n) (kappa-holds p n)

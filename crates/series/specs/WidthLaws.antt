@@ -9,11 +9,12 @@ use Rattle.whole.specs.Split.{split, split-add}
 use Rattle.whole.specs.Bound.{Under}
 use Rattle.whole.specs.SignedEnds.{SignedEnds}
 use Rattle.params.specs.declared.Params.{Params}
-use Rattle.params.specs.Set.{A, B, alpha, beta, ages}
+use Rattle.params.specs.declared.Age.{Age}
+use Rattle.params.specs.Set.{ages, ageOf}
 use Rattle.params.specs.Limits.{slopeLimit, aLimit, lastYears, inLimits}
 use Rattle.params.specs.LimitsLaws.{in-limits-series, in-limits-age}
 use Rattle.ends.specs.EndLaws.{Wide, product-width, outward-width}
-use Rattle.series.specs.Series.{rateUnit, periodIndex, kappaStep, kappa, cellForce, logForce}
+use Rattle.series.specs.Series.{rateUnit, periodIndex, kappaStep, kappaIn, kappa, cellForce, logForce}
 
 -- the greatest width of a log force in the years of a quote, in units
 abbrev pub logForceWidth : ℕ
@@ -26,10 +27,15 @@ unfolding kappaStep
 kappaStep-wide {w} u h = outward-width (suc w) (lit< tt) (product-width u h) (omega arith)
 
 pub kappa-wide : (p : Params) (n : ℕ) → Under (p .a) aLimit → Wide (kappa p n .lower) (kappa p n .upper) n
-unfolding kappa
+unfolding kappaIn
 kappa-wide p zero u =
     record { ordered = omega split; width = omega (split, split-add (p .kappa) (pos 0)) }
 kappa-wide p (suc n) u = kappaStep-wide u (kappa-wide p n u)
+
+-- what is at most w wide is at most v wide, for a greater v
+pub wide-more : {l u : ℤ} {w v : ℕ} → w ≤ v → Wide l u w → Wide l u v
+wide-more {l} {u} {w} {v} h e =
+    record { ordered = e .ordered; width = omega (split, e .width, split-add l (pos w), split-add l (pos v)) }
 
 -- a sum with one number is as wide
 sum-wide : (c : ℤ) {l u : ℤ} {w : ℕ} → Wide l u w → Wide (c +ℤ l) (c +ℤ u) w
@@ -39,18 +45,17 @@ sum-wide c {l} {u} {w} h = record {
 }
 
 -- the log force of a cell is at most w wide where kappa is at most n wide and n/10 + 1 ≤ w
-pub cellForce-wide : (p : Params) (x : ℕ) (period : ℤ) {e : SignedEnds} {n : ℕ} (w : ℕ) → Under (beta p x) slopeLimit
+pub cellForce-wide : (a : Age) (period : ℤ) {e : SignedEnds} {n : ℕ} (w : ℕ) → Under (a .beta) slopeLimit
     → Wide (e .lower) (e .upper) n → slopeLimit * n + rateUnit ≤ w * rateUnit + 1
-    → Wide (cellForce p x period e .lower) (cellForce p x period e .upper) w
+    → Wide (cellForce a period e .lower) (cellForce a period e .upper) w
 unfolding cellForce
-cellForce-wide p x period w u h l =
-    let b = B p x *ℤ period in
-    sum-wide (A p x +ℤ alpha p x) (outward-width w (lit< tt) (sum-wide b (product-width u h)) l)
+cellForce-wide a period w u h l =
+    sum-wide (a .level +ℤ a .alpha) (outward-width w (lit< tt) (sum-wide (a .slope *ℤ period) (product-width u h)) l)
 
 pub logForce-wide : (p : Params) → T (inLimits p) → {x n : ℕ} → x < ages → n ≤ lastYears
     → Wide (logForce p x n .lower) (logForce p x n .upper) logForceWidth
 unfolding logForce
-logForce-wide p t {x} {n} hx hn = cellForce-wide p x (periodIndex p n) logForceWidth (in-limits-age p t x hx .beta)
+logForce-wide p t {x} {n} hx hn = cellForce-wide (ageOf p x) (periodIndex p n) logForceWidth (in-limits-age p t x hx .beta)
     (kappa-wide p n (in-limits-series p t .a)) (omega arith)
 
 -- the lower end is at most the upper one, and that at most n above it for kappa, 19 above it for the log force

@@ -10,7 +10,7 @@ use lib.ListN.{length, getD, take, drop, length-append, List·getD-append}
 use lib.Seq.{getD-append-add, take-add, drop-drop, drop-cons, take-all, take-suc}
 use Rattle.params.specs.declared.Params.{Params}
 use Rattle.params.specs.declared.Sex.{Sex}
-use Rattle.params.specs.Set.{A, B, alpha, beta, ages, blank, Whole}
+use Rattle.params.specs.Set.{A, B, alpha, beta, ages, Whole}
 use Rattle.sheet.specs.Sheet.{forAges, ageKeys, keys, ageValues, values, runFrom, paramsOf}
 
 -- ---- f at each age, one after the other
@@ -106,10 +106,6 @@ pub params-whole : (sex : Sex) (vs : List ℤ) → Whole (paramsOf sex vs)
 unfolding paramsOf
 params-whole sex vs =
     record { level = run-length 4 vs; slope = run-length 5 vs; alpha = run-length 6 vs; beta = run-length 7 vs }
-
-pub blank-whole : Whole blank
-unfolding blank
-blank-whole = record { level = refl; slope = refl; alpha = refl; beta = refl }
 
 pub keys-length : length keys ≡ 368
 unfolding keys ageKeys

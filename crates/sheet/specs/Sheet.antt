@@ -23,6 +23,10 @@ use Rattle.params.specs.Limits.{inLimits}
 abbrev pub mostBytes : ℕ
 mostBytes = 65536
 
+-- the bytes of the first two lines
+abbrev pub headBytes : ℕ
+headBytes = 19
+
 -- ---- the lines' keys and values, in their order
 
 -- f at 0, 1, .. to n − 1, one after the other

@@ -26,13 +26,13 @@ use Rattle.sheet.specs.declared.Reading.{Reading}
 use Rattle.params.specs.Refusals.{refusalNumber}
 use Rattle.params.specs.Set.{A, B, alpha, beta, ages, Whole}
 use Rattle.params.specs.Limits.{inLimits}
-use Rattle.sheet.specs.Sheet.{mostBytes, forAges, ageKeys, keys, ageValues, values, lineText, linesText, headText}
+use Rattle.sheet.specs.Sheet.{mostBytes, headBytes, forAges, ageKeys, keys, ageValues, values, lineText, linesText, headText}
 use Rattle.sheet.specs.Sheet.{sheetText, readLine, readLines, readHead, paramsOf, readSet}
 use Rattle.sheet.specs.Sheet.{refused, judged, readSheet}
 use Rattle.params.specs.LimitsLaws.{in-limits-age, in-limits-series}
 use Rattle.sheet.specs.NumberTrip.{torn-not-taken, number-reads, number-read}
 use Rattle.sheet.specs.SetTrip.{keys-length, values-length, values-params, params-values}
-use Rattle.sheet.specs.SetTrip.{params-whole, blank-whole}
+use Rattle.sheet.specs.SetTrip.{params-whole}
 
 -- every value has at most 15 digits
 abbrev pub AllSmall : List ℤ → Type 0
@@ -209,9 +209,9 @@ in-limits-small p t =
     let w = in-limits-series p t in (
       under-small (w .a) (omega arith),
       (
-        under-small (w .theta) (omega arith),
+        under-small (w .index .theta) (omega arith),
         (
-          under-small (w .period) (omega arith),
+          under-small (w .index .start) (omega arith),
           (under-small (w .kappa) (omega arith), ages-small p t ages (omega arith)),
         ),
       ),
@@ -235,7 +235,7 @@ lines-short (k ∷ ks) (v ∷ vs) t =
     let l = lines-short ks vs (and-r (leb (length k) 5) (allShort ks) t) in
     simp length-append (omega (arith, number-length v))
 
-head-length : (sex : Sex) → length (headText sex) ≡ 19
+pub head-length : (sex : Sex) → length (headText sex) ≡ headBytes
 unfolding headText bytesOf
 head-length M = refl
 head-length F = refl
@@ -288,21 +288,3 @@ read-writes-back bs p e = go (leb (length bs) mostBytes) e
     go true q = judged-accepted (readSet bs) p q λ rest r t.
         let (same, whole) = set-read bs p rest r in (same, t, whole)
     go false q = refused-not-accepted Torn (omega arith) q
-
--- every answer's set is whole
-judged-whole : (bs : List ℕ) (q : Parse Params) → readSet bs ≡ q → Whole (judged q .set)
-unfolding judged refused
-judged-whole bs torn e = blank-whole
-judged-whole bs (taken p rest) e = go (inLimits p)
-  where
-    go : (c : Bool) → Whole (cond c (record { refusal = Accepted; set = p }) (refused OffScale) .set)
-    go true = set-read bs p rest e .1
-    go false = blank-whole
-
-pub reading-whole : (bs : List ℕ) → Whole (readSheet bs .set)
-unfolding readSheet refused
-reading-whole bs = go (leb (length bs) mostBytes)
-  where
-    go : (c : Bool) → Whole (cond c (judged (readSet bs)) (refused Torn) .set)
-    go true = judged-whole bs (readSet bs) refl
-    go false = blank-whole

@@ -2,6 +2,9 @@
 use params::Params;
 use params::Refusal;
 
+// The bytes of the first two lines.
+pub const HEAD: usize = 19;
+
 // What reading a sheet gives.
 pub struct Reading {
     pub refusal: Refusal,

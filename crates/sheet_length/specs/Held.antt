@@ -1,5 +1,5 @@
 -- A value in limits as the code holds it, in 64 bits: it reads back as itself, and it has at most 15 digits.
-use mathlib.Core.Path.{_≡_, refl, ap, _∙_}
+use mathlib.Core.Path.{_≡_}
 use Prim.Native.Nat.{ℕ, _^_, _<_}
 use native.Mathlib.Omega.{arith}
 use lib.Dec.{T, leb, leb→le}
@@ -9,51 +9,49 @@ use mir.Val.{toZ, ofZ}
 use Rattle.whole.specs.Bound.{Under, under-weaken, back}
 use Rattle.tokens.specs.Number.{mostDigits}
 use Rattle.params.specs.declared.Params.{Params}
-use Rattle.params.specs.Set.{A, B, alpha, beta, ages}
+use Rattle.params.specs.declared.Age.{Age}
 use Rattle.params.specs.Limits.{periodLimit, inLimits}
-use Rattle.params.specs.LimitsLaws.{in-limits-series, in-limits-age}
+use Rattle.params.specs.LimitsLaws.{AgeWithin, in-limits-series}
 
--- the bits of v stand for z
-pub record Held (v z : ℤ) : Type 0 where
-  pub is : toZ w64 (ofZ w64 v) ≡ z
-  pub small : natAbs (toZ w64 (ofZ w64 v)) < 10 ^ mostDigits
+pub record Held (z : ℤ) : Type 0 where
+  pub is : toZ w64 (ofZ w64 z) ≡ z
+  pub small : natAbs (toZ w64 (ofZ w64 z)) < 10 ^ mostDigits
 
-held : {v z : ℤ} {k : ℕ} → Under z k → T (leb k periodLimit) → v ≡ z → Held v z
-held {v} {z} {k} u t e =
+held : {z : ℤ} {k : ℕ} → Under z k → T (leb k periodLimit) → Held z
+held {z} {k} u t =
     let w = under-weaken u (leb→le k periodLimit t) in
-    let q : toZ w64 (ofZ w64 v) ≡ z = ap (λ (y : ℤ). toZ w64 (ofZ w64 y)) e ∙ back w tt in
+    let q : toZ w64 (ofZ w64 z) ≡ z = back w tt in
     record { is = q; small = rw q (omega (arith, w .under)) }
 
 -- the values of the series
 pub record SeriesHeld (p : Params) : Type 0 where
-  pub a : Held (p .a) (p .a)
-  pub theta : Held (p .theta) (p .theta)
-  pub period : Held (p .period) (p .period)
-  pub kappa : Held (p .kappa) (p .kappa)
+  pub a : Held (p .a)
+  pub theta : Held (p .theta)
+  pub period : Held (p .period)
+  pub kappa : Held (p .kappa)
 
 pub series-held : (p : Params) → T (inLimits p) → SeriesHeld p
 series-held p t =
     let w = in-limits-series p t in
     record {
-      a = held (w .a) tt refl;
-      theta = held (w .theta) tt refl;
-      period = held (w .period) tt refl;
-      kappa = held (w .kappa) tt refl;
+      a = held (w .a) tt;
+      theta = held (w .index .theta) tt;
+      period = held (w .index .start) tt;
+      kappa = held (w .kappa) tt;
     }
 
--- the values of age x, wherever they are read
-pub record AgeHeld (p : Params) (x : ℕ) : Type 0 where
-  pub level : {v : ℤ} → v ≡ A p x → Held v (A p x)
-  pub slope : {v : ℤ} → v ≡ B p x → Held v (B p x)
-  pub alpha : {v : ℤ} → v ≡ alpha p x → Held v (alpha p x)
-  pub beta : {v : ℤ} → v ≡ beta p x → Held v (beta p x)
+-- the values of an age
+pub record AgeHeld (a : Age) : Type 0 where
+  pub level : Held (a .level)
+  pub slope : Held (a .slope)
+  pub alpha : Held (a .alpha)
+  pub beta : Held (a .beta)
 
-pub age-held : (p : Params) (x : ℕ) → T (inLimits p) → x < ages → AgeHeld p x
-age-held p x t h =
-    let w = in-limits-age p t x h in
+pub age-held : (a : Age) → AgeWithin a → AgeHeld a
+age-held a w =
     record {
-      level = λ e. held (w .level) tt e;
-      slope = λ e. held (w .slope) tt e;
-      alpha = λ e. held (w .alpha) tt e;
-      beta = λ e. held (w .beta) tt e;
+      level = held (w .level) tt;
+      slope = held (w .slope) tt;
+      alpha = held (w .alpha) tt;
+      beta = held (w .beta) tt;
     }

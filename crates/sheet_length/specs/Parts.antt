@@ -6,6 +6,7 @@ use lib.ListN.{length}
 use Rattle.tokens.specs.Text.{bytesOf}
 use Rattle.tokens.specs.Number.{numberText}
 use Rattle.params.specs.declared.Params.{Params}
+use Rattle.params.specs.declared.Age.{Age}
 use Rattle.sheet.specs.Sheet.{forAges, ageKeys, ageValues, linesText}
 
 -- how many bytes a line has: its key, `=`, the number and a line feed
@@ -18,9 +19,9 @@ seriesText p =
     linesText (bytesOf "a" ∷ bytesOf "theta" ∷ bytesOf "K" ∷ bytesOf "k" ∷ [])
     (p .a ∷ p .theta ∷ p .period ∷ p .kappa ∷ [])
 
--- the four lines of age x
-unfoldable pub ageText : Params → ℕ → List ℕ
-ageText p x = linesText (ageKeys x) (ageValues p x)
+-- the four lines of age x, with these numbers
+unfoldable pub ageText : Age → ℕ → List ℕ
+ageText a x = linesText (ageKeys x) (a .level ∷ a .slope ∷ a .alpha ∷ a .beta ∷ [])
 
 -- the lines of the first n ages
 unfoldable pub agesText : Params → ℕ → List ℕ

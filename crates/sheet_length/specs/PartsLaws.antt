@@ -11,10 +11,11 @@ use Rattle.tokens.specs.Text.{bytesOf}
 use Rattle.tokens.specs.Number.{unsignedText}
 use Rattle.printing.specs.NumberLengths.{text-small, text-step}
 use Rattle.params.specs.declared.Params.{Params}
-use Rattle.params.specs.declared.Sex.{Sex}
-use Rattle.params.specs.declared.Sex.the-variants.{M, F}
-use Rattle.params.specs.Set.{A, B, alpha, beta, ages}
-use Rattle.sheet.specs.Sheet.{forAges, ageKeys, keys, ageValues, values, lineText, linesText, headText, sheetText}
+use Rattle.params.specs.declared.Age.{Age}
+use Rattle.params.specs.Set.{ages, ageOf}
+use Rattle.sheet.specs.Sheet.{headBytes, forAges, ageKeys, keys, ageValues, values}
+use Rattle.sheet.specs.Sheet.{lineText, linesText, headText, sheetText}
+use Rattle.sheet.specs.SheetTrip.{head-length}
 use Rattle.sheet_length.specs.Parts.{lineLength, seriesText, ageText, agesText}
 
 -- ---- lines, and then lines
@@ -40,11 +41,11 @@ pub ages-none : (p : Params) → agesText p 0 ≡ []
 unfolding agesText forAges linesText
 ages-none p = refl
 
-pub ages-more : (p : Params) (n : ℕ) → agesText p (suc n) ≡ agesText p n ++ ageText p n
-unfolding agesText ageText forAges
+pub ages-more : (p : Params) (n : ℕ) → agesText p (suc n) ≡ agesText p n ++ ageText (ageOf p n) n
+unfolding agesText ageText forAges ageValues
 ages-more p n = lines-append (forAges ageKeys n) (ageKeys n) (forAges (ageValues p) n) (ageValues p n) (even p n)
 
-pub ages-step : (p : Params) (n : ℕ) → length (agesText p (suc n)) ≡ length (agesText p n) + length (ageText p n)
+pub ages-step : (p : Params) (n : ℕ) → length (agesText p (suc n)) ≡ length (agesText p n) + length (ageText (ageOf p n) n)
 ages-step p n = rw (ages-more p n, length-append)
 
 -- more ages have no fewer bytes
@@ -66,12 +67,7 @@ sheet-parts p =
 
 -- ---- lengths
 
-pub head-length : (sex : Sex) → length (headText sex) ≡ 19
-unfolding headText bytesOf
-head-length M = refl
-head-length F = refl
-
-pub sheet-sum : (p : Params) → length (sheetText p) ≡ 19 + length (seriesText p) + length (agesText p ages)
+pub sheet-sum : (p : Params) → length (sheetText p) ≡ headBytes + length (seriesText p) + length (agesText p ages)
 sheet-sum p = rw (sheet-parts p) (simp (length-append, head-length) (omega arith))
 
 -- an age below 10 has one digit, and the others have two
@@ -93,9 +89,9 @@ pub series-length : (p : Params)
 unfolding seriesText linesText bytesOf
 series-length p = simp (length-append, line-length) (omega arith)
 
-pub age-length : (p : Params) (x : ℕ) → let d = length (unsignedText x) in
-    length (ageText p x)
-    ≡ lineLength (2 + d) (A p x) + lineLength (2 + d) (B p x) + lineLength (3 + d) (alpha p x)
-    + lineLength (3 + d) (beta p x)
-unfolding ageText linesText ageKeys ageValues bytesOf
-age-length p x = simp (length-append, line-length) (omega arith)
+pub age-length : (a : Age) (x : ℕ) → let d = length (unsignedText x) in
+    length (ageText a x)
+    ≡ lineLength (2 + d) (a .level) + lineLength (2 + d) (a .slope) + lineLength (3 + d) (a .alpha)
+    + lineLength (3 + d) (a .beta)
+unfolding ageText linesText ageKeys bytesOf
+age-length a x = simp (length-append, line-length) (omega arith)

@@ -7,13 +7,12 @@ ghost use lib.ListN.{length};
 ghost use Rattle.tokens.specs.Number.{mostDigits};
 ghost use Rattle.params.specs.Set.{ages};
 ghost use Rattle.params.specs.Limits.{inLimits};
+ghost use Rattle.params.specs.LimitsLaws.{AgeWithin};
 ghost use Rattle.sheet.specs.Sheet.{sheetText};
 ghost use Rattle.sheet_length.specs.Parts.{lineLength, seriesText, ageText};
 use params::AGES;
+use params::Age;
 use params::Params;
-
-// The bytes of the first two lines.
-const HEAD: usize = 19;
 
 // How many bytes a line has, by how many its key has: at most 23.
 fn line_len(key: usize, v: i64) -> usize
@@ -32,16 +31,13 @@ fn series_len(p: Params) -> usize
 }
 
 // How many bytes the four lines of age x have.
-fn age_len(p: Params, x: usize) -> usize
-    requires { ⌜ T (inLimits p) × (x < ages) ⌝ }
-    ensures { λ r. ⌜ r ≡ length (ageText p x) ⌝ }
+fn age_len(a: Age, x: usize) -> usize
+    requires { ⌜ AgeWithin a × (x < ages) ⌝ }
+    ensures { λ r. ⌜ r ≡ length (ageText a x) ⌝ }
 {
     let digits = if x < 10 { 1 } else { 2 };
-    let first = line_len(2 + digits, params::level_at(p, x))
-        + line_len(2 + digits, params::slope_at(p, x));
-    first
-        + line_len(3 + digits, params::alpha_at(p, x))
-        + line_len(3 + digits, params::beta_at(p, x))
+    let first = line_len(2 + digits, a.level) + line_len(2 + digits, a.slope);
+    first + line_len(3 + digits, a.alpha) + line_len(3 + digits, a.beta)
 }
 
 // How many bytes the sheet has.
@@ -49,10 +45,11 @@ pub fn sheet_len(p: Params) -> usize
     requires { ⌜ T (inLimits p) ⌝ }
     ensures { λ r. ⌜ r ≡ length (sheetText p) ⌝ }
 {
-    let mut len = HEAD + series_len(p);
+    let mut len = sheet::HEAD + series_len(p);
     let mut x: usize = 0;
     while x < AGES {
-        len += age_len(p, x);
+        let age = params::age_of_runs(&p.level, &p.slope, &p.alpha, &p.beta, x);
+        len += age_len(age, x);
         x += 1;
     }
     len

@@ -70,7 +70,7 @@ module _ (bytes : List ℕ) (at : ℕ) (name age : List ℕ) where
 
         module _ {v : ℤ} {next : ℕ} (n : numberAt bytes (at + length name + length age + 1) ≡ Number v next) where
           number : readNumber (drop (at + length name + length age + 1) bytes) ≡ taken v (drop next bytes)
-          number = number-found bytes (at + length name + length age + 1) n .read
+          number = number-found bytes (at + length name + length age + 1) n
 
           pub feed-torn : textAt bytes next (bytesOf "\n") ≡ false → readLine (name ++ age) (drop at bytes) ≡ torn
           unfolding readLine

@@ -20,11 +20,11 @@ use Rattle.params.specs.declared.Sex.the-variants.{M, F}
 use Rattle.params.specs.Refusals.{refusalNumber}
 use Rattle.params.specs.Set.{blank}
 use Rattle.params.specs.Limits.{inLimits}
-use Rattle.sheet.specs.Sheet.{mostBytes, keys, headText, readLines, readHead, paramsOf, readSet}
+use Rattle.sheet.specs.Sheet.{mostBytes, headBytes, keys, headText, readLines, readHead, paramsOf, readSet}
 use Rattle.sheet.specs.Sheet.{refused, judged, readSheet}
 use Rattle.sheet_ages.specs.declared.SetRead.{SetRead}
 use Rattle.sheet_ages.specs.Ages.{setRead}
-use Rattle.sheet_set.specs.SetLines.{afterHead, fromLines}
+use Rattle.sheet_set.specs.SetLines.{fromLines}
 use Rattle.sheet_reader.specs.Read.{whole, atEnd, refusalOf}
 use Rattle.tokens.specs.Steps.{goes, stops}
 
@@ -91,10 +91,10 @@ module _ (bs : List ℕ) where
     unfolding bytesOf
     then-sex line = takeText-then sexText line bs (text-found bs 0 sexText h)
 
-    pub head-m : textAt bs sexPlace (bytesOf "M\n") ≡ true → readSet bs ≡ whole (fromLines M (drop afterHead bs))
+    pub head-m : textAt bs sexPlace (bytesOf "M\n") ≡ true → readSet bs ≡ whole (fromLines M (drop headBytes bs))
     unfolding headText bytesOf
     head-m m =
-        head-then bs M (drop afterHead bs)
+        head-then bs M (drop headBytes bs)
         (m-head bs (then-sex (bytesOf "M\n") ∙ text-found bs sexPlace (bytesOf "M\n") m))
 
     module _ (m : textAt bs sexPlace (bytesOf "M\n") ≡ false) where
@@ -102,10 +102,10 @@ module _ (bs : List ℕ) where
       unfolding headText bytesOf
       not-m = then-sex (bytesOf "M\n") ∙ text-missing bs sexPlace (bytesOf "M\n") m
 
-      pub head-f : textAt bs sexPlace (bytesOf "F\n") ≡ true → readSet bs ≡ whole (fromLines F (drop afterHead bs))
+      pub head-f : textAt bs sexPlace (bytesOf "F\n") ≡ true → readSet bs ≡ whole (fromLines F (drop headBytes bs))
       unfolding headText bytesOf
       head-f f =
-          head-then bs F (drop afterHead bs)
+          head-then bs F (drop headBytes bs)
           (f-head bs not-m (then-sex (bytesOf "F\n") ∙ text-found bs sexPlace (bytesOf "F\n") f))
 
       pub head-torn : textAt bs sexPlace (bytesOf "F\n") ≡ false → readSet bs ≡ torn

@@ -1,9 +1,9 @@
 // Reads a parameter sheet.
 ghost use mathlib.Core.Path.{_≡_};
 ghost use lib.ListN.{drop};
-ghost use Rattle.sheet.specs.Sheet.{refused, judged, readSheet};
+ghost use Rattle.sheet.specs.Sheet.{headBytes, refused, judged, readSheet};
 ghost use Rattle.params.specs.declared.Refusal.the-variants.{Torn};
-ghost use Rattle.sheet_set.specs.SetLines.{afterHead, fromLines};
+ghost use Rattle.sheet_set.specs.SetLines.{fromLines};
 ghost use Rattle.sheet_reader.specs.Read.{whole, atEnd, refusalOf};
 use params::Refusal;
 use params::Sex;
@@ -53,14 +53,14 @@ fn refusal_of(whole: bool, within: bool) -> Refusal
 
 // What the lines after the first two give.
 fn judged_set(bytes: &[u8], sex: Sex) -> Reading
-    ensures { λ r. ⌜ r ≡ judged (whole (fromLines sex (drop afterHead (now (bytes .entry))))) ⌝ }
+    ensures { λ r. ⌜ r ≡ judged (whole (fromLines sex (drop headBytes (now (bytes .entry))))) ⌝ }
 {
     let got = sheet_set::set_at(bytes, sex);
     let set = got.set;
-    let nothing = params::blank();
     let whole = ends(got.ok, got.next, bytes.len());
     let refusal = refusal_of(whole, params::in_limits(set));
     if params::refusal_number(refusal) != 0 {
+        let nothing = params::blank();
         return Reading {
             refusal,
             set: nothing,

@@ -1,14 +1,10 @@
--- The lines after the first two, and the place where they begin.
+-- The lines after the first two.
 use Prim.Native.Nat.{ℕ}
 use mathlib.Core.List.{List}
 use Rattle.tokens.specs.Text.{Parse, torn, taken}
 use Rattle.params.specs.declared.Params.{Params}
 use Rattle.params.specs.declared.Sex.{Sex}
 use Rattle.sheet.specs.Sheet.{keys, readLines, paramsOf}
-
--- the place after the first two lines
-abbrev pub afterHead : ℕ
-afterHead = 19
 
 -- the lines after the first two
 unfoldable pub fromLines : Sex → List ℕ → Parse Params

@@ -1,23 +1,21 @@
 // Reads the lines after a parameter sheet's first two into a set: those of the series, and those of the ages.
 ghost use mathlib.Core.Path.{_≡_};
 ghost use lib.ListN.{drop};
+ghost use Rattle.sheet.specs.Sheet.{headBytes};
 ghost use Rattle.sheet_ages.specs.Ages.{setRead};
-ghost use Rattle.sheet_set.specs.SetLines.{afterHead, fromLines};
+ghost use Rattle.sheet_set.specs.SetLines.{fromLines};
 use params::Params;
 use params::Sex;
 use sheet_ages::SetRead;
 use sheet_lines::FourRead;
 
-// The place after the first two lines.
-const AFTER_HEAD: usize = 19;
-
 // The lines after the first two, into a set of this sex.
 pub fn set_at(bytes: &[u8], sex: Sex) -> SetRead
-    ensures { λ r. ⌜ setRead (now (bytes .entry)) r ≡ fromLines sex (drop afterHead (now (bytes .entry))) ⌝ }
+    ensures { λ r. ⌜ setRead (now (bytes .entry)) r ≡ fromLines sex (drop headBytes (now (bytes .entry))) ⌝ }
 {
     let FourRead::Four(next, a, theta, period, kappa) = sheet_lines::four_at(
         bytes,
-        AFTER_HEAD,
+        sheet::HEAD,
         b"a",
         b"theta",
         b"K",
@@ -36,10 +34,10 @@ pub fn set_at(bytes: &[u8], sex: Sex) -> SetRead
         theta,
         period,
         kappa,
-        level: [0; 91],
-        slope: [0; 91],
-        alpha: [0; 91],
-        beta: [0; 91],
+        level: [0; params::AGES],
+        slope: [0; params::AGES],
+        alpha: [0; params::AGES],
+        beta: [0; params::AGES],
     };
     sheet_ages::ages_at(bytes, next, start)
 }

@@ -20,7 +20,8 @@ fn put_ages(buffer: &mut [u8], at: usize, p: Params) -> usize
     let mut place = at;
     let mut age: usize = 0;
     while age < AGES {
-        place = part_writer::put_age(buffer, place, p, age);
+        let four = params::age_of_runs(&p.level, &p.slope, &p.alpha, &p.beta, age);
+        place = part_writer::put_age(buffer, place, four, age);
         age += 1;
     }
     place

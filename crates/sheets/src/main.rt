@@ -52,10 +52,11 @@ fn print_sex(sex: Sex) {
 fn print_ages(p: Params) {
     let mut x: usize = 0;
     while x < params::AGES {
-        print_number(params::level_at(p, x));
-        print_number(params::slope_at(p, x));
-        print_number(params::alpha_at(p, x));
-        print_number(params::beta_at(p, x));
+        let age = params::age_of_runs(&p.level, &p.slope, &p.alpha, &p.beta, x);
+        print_number(age.level);
+        print_number(age.slope);
+        print_number(age.alpha);
+        print_number(age.beta);
         x += 1;
     }
 }
@@ -89,7 +90,7 @@ fn print_written(set: Params, buffer: &mut [u8]) {
 }
 
 // A buffer as it is before the call.
-fn filled() -> [u8; 16384]
+fn filled() -> [u8; MOST_ROOM]
     ensures { λ r. ⌜ 16384 ≡ length r ⌝ }
 {
     [FILL; MOST_ROOM]
@@ -117,7 +118,7 @@ fn sheet_in(bytes: &mut [u8], room: usize) -> bool {
 }
 
 // The bytes for a sheet.
-fn empty() -> [u8; 70000]
+fn empty() -> [u8; MOST_SHEET]
     ensures { λ r. ⌜ 70000 ≡ length r ⌝ }
 {
     [0; MOST_SHEET]

@@ -8,6 +8,8 @@ ghost use lib.Dec.{eqb};
 ghost use lib.IntN.{pos, negsuc};
 ghost use lib.ListN.{length};
 ghost use lib.Signed.{mag};
+ghost use Rattle.params.specs.Set.{ages};
+use params::AGES;
 use params::Params;
 use params::Sex;
 
@@ -43,7 +45,7 @@ fn signed(sign: u8, m: u64) -> i64
 }
 
 // The number in place i.
-fn number(bytes: &[u8; 3313], i: usize) -> i64
+fn number(bytes: &[u8; RAW], i: usize) -> i64
     requires { ⌜ i < 368 ⌝ }
 {
     let at = 1 + 9 * i;
@@ -53,13 +55,13 @@ fn number(bytes: &[u8; 3313], i: usize) -> i64
 }
 
 // A run of parameters: from place i on, every fourth number.
-fn run(bytes: &[u8; 3313], i: usize) -> [i64; 91]
+fn run(bytes: &[u8; RAW], i: usize) -> [i64; AGES]
     requires { ⌜ i < 8 ⌝ }
-    ensures { λ r. ⌜ length r ≡ 91 ⌝ }
+    ensures { λ r. ⌜ length r ≡ ages ⌝ }
 {
-    let mut out = [0i64; 91];
+    let mut out = [0i64; AGES];
     let mut x: usize = 0;
-    while x < params::AGES {
+    while x < AGES {
         out[x] = number(bytes, i + 4 * x);
         x += 1;
     }
@@ -72,7 +74,7 @@ fn sex(b: u8) -> Sex {
 }
 
 // The set of the bytes.
-pub fn set(bytes: &[u8; 3313]) -> Params {
+pub fn set(bytes: &[u8; RAW]) -> Params {
     let label = sex(bytes[0]);
     let level = run(bytes, 4);
     let slope = run(bytes, 5);

@@ -4,7 +4,7 @@ use Prim.Native.Nat.{ℕ, _+_, _*_, _≤_, _<_}
 use native.Mathlib.Nat.{le-mul-of-pos-right}
 use native.Mathlib.Omega.{arith}
 use Rattle.fraction.specs.Ratio.{Ratio, _≤/_, _</_, _+/_, whole/, quotient/}
-use Rattle.taylor.specs.Positive.{taylorDen-positive, sum-at-least-one}
+use Rattle.taylor.specs.Positive.{sum-at-least-one}
 use Rattle.taylor.specs.Order.{orderLower, orderUpper}
 use Rattle.taylor.specs.Sums.{sum-grows, sum-monotone}
 use Rattle.taylor.specs.Stretched.{sum-below-stretched, stretched-falls, stretched-monotone}
@@ -37,11 +37,6 @@ pub upper-antitone : {z z' : Ratio} (j : ℕ) → z ≤/ z' → orderUpper z' j 
 unfolding orderUpper
 upper-antitone {z} {z'} j h =
     record { cross = omega (arith, sum-monotone (z .num) (z .den) (z' .num) (z' .den) j (h .cross)) }
-
--- the upper end is positive, and at most 1
-pub upper-positive : (z : Ratio) (j : ℕ) → 0 < orderUpper z j .num
-unfolding orderUpper
-upper-positive z j = taylorDen-positive (z .den) j (z .positive)
 
 pub upper-below-one : (z : Ratio) (j : ℕ) → orderUpper z j ≤/ whole/ 1
 unfolding orderUpper whole/

@@ -7,7 +7,7 @@ use Rattle.taylor.specs.Taylor.{taylorNum, taylorDen}
 use Rattle.taylor.specs.Positive.{taylorDen-positive}
 use Rattle.taylor.specs.Order.{expSum, orderUpper}
 use Rattle.taylor.specs.Sums.{sum-monotone}
-use Rattle.taylor.specs.Products.{sum-of-sum, product-of-sums}
+use Rattle.taylor.specs.Products.{sum-of-sum}
 
 -- m/d ≤ (n/d)·(n'/d), n/d ≤ a/b and n'/d ≤ a'/b' give m/d ≤ (a/b)·(a'/b')
 below-algebra : (m d n n' a b a' b' : ℕ) → 0 < d → m * d ≤ n * n' → n * b ≤ a * d → n' * b' ≤ a' * d →
@@ -38,32 +38,9 @@ above-algebra m d n n' e f a b a' b' h l x y =
     le-of-mul-le-mul-right {k = e * f}
     (omega (arith, mul-le-mul-right (b * b') l, mul-le-mul-right d (mul-le-mul x y))) h
 
-pub product-of-expSums : (x y : Ratio) (i j : ℕ) → expSum x i */ expSum y j ≤/ expSum (x +/ y) (i + j)
-unfolding expSum _+/_ _*/_
-product-of-expSums x y i j =
-    let a : ℕ = x .num in
-    let b : ℕ = x .den in
-    let c : ℕ = y .num in
-    let d : ℕ = y .den in
-    let q : ℕ = b * d in
-    let h : 0 < q = mul-pos (x .positive) (y .positive) in
-    record {
-      cross = above-algebra (taylorNum (a * d + c * b) q (i + j)) (taylorDen q (i + j)) (taylorNum (a * d) q i)
-          (taylorNum (c * b) q j) (taylorDen q i) (taylorDen q j) (taylorNum a b i) (taylorDen b i) (taylorNum c d j)
-          (taylorDen d j) (mul-pos (taylorDen-positive q i h) (taylorDen-positive q j h))
-          (product-of-sums (a * d) (c * b) q i j h)
-          (sum-monotone a b (a * d) q i (omega arith)) (sum-monotone c d (c * b) q j (omega arith));
-    }
-
 -- so for the upper ends: 1/s_j(x)·1/s_j(y) ≤ 1/s_j(x + y), and 1/s_(i+j)(x + y) ≤ 1/s_i(x)·1/s_j(y)
 pub product-of-uppers : (x y : Ratio) (j : ℕ) → orderUpper x j */ orderUpper y j ≤/ orderUpper (x +/ y) j
 unfolding expSum orderUpper _*/_
 product-of-uppers x y j =
     let h = expSum-of-sum x y j in
-    record { cross = omega (arith, h .cross) }
-
-pub upper-of-sum : (x y : Ratio) (i j : ℕ) → orderUpper (x +/ y) (i + j) ≤/ orderUpper x i */ orderUpper y j
-unfolding expSum orderUpper _*/_
-upper-of-sum x y i j =
-    let h = product-of-expSums x y i j in
     record { cross = omega (arith, h .cross) }

@@ -1,7 +1,7 @@
 -- Reading a number: what it takes is below 10¹⁵ in size and leaves a shorter end of the bytes. The last laws pass from a
 -- place in a slice to the bytes from that place on.
 use mathlib.Core.Path.{_≡_, refl, sym, ap, subst, _∙_}
-use Prim.Native.Nat.{ℕ, zero, suc, _+_, _-_, _^_, _≤_, _<_}
+use Prim.Native.Nat.{ℕ, zero, suc, _+_, _-_, _^_, _<_}
 use native.Mathlib.Nat.{pow-le-pow-right, zero-lt-suc}
 use native.Mathlib.Omega.{arith}
 use mathlib.Core.Bool.{Bool, true, false, cond}
@@ -110,32 +110,18 @@ at-place bytes at {rest} t =
     rw e (sym (t .left ∙ drop-drop (length (drop at bytes) - length rest) at bytes))
 
 -- the number v was read at the place, and next is the place after it
-pub record NumberFound (bytes : List ℕ) (at : ℕ) (v : ℤ) (next : ℕ) : Type 0 where
-  pub read : readNumber (drop at bytes) ≡ taken v (drop next bytes)
-  pub onward : at < next
-  pub within : next ≤ length bytes
-  pub small : natAbs v < 10 ^ mostDigits
-
 pub number-found : (bytes : List ℕ) (at : ℕ) {v : ℤ} {next : ℕ} → numberAt bytes at ≡ Number v next
-    → NumberFound bytes at v next
+    → readNumber (drop at bytes) ≡ taken v (drop next bytes)
 unfolding numberAt
 number-found bytes at {v} {next} e = go (readNumber (drop at bytes)) refl e
   where
     go : (p : Parse ℤ) → readNumber (drop at bytes) ≡ p → placed (length bytes) p ≡ Number v next
-        → NumberFound bytes at v next
-    go torn q h = let z : _≡_ {A = ℕ} 0 1 = cc in absurd (omega arith)
+        → readNumber (drop at bytes) ≡ taken v (drop next bytes)
+    go torn q h = cc
     go (taken w rest) q h =
         let ev : w ≡ v = cc in
         let en : length bytes - length rest ≡ next = cc in
-        let t = number-taken (drop at bytes) q in
-        let l = length-drop at bytes in
-        rw (← ev, ← en)
-        (record {
-          read = q ∙ ap (taken w) (sym (at-place bytes at t));
-          onward = omega (arith, t .shorter);
-          within = omega arith;
-          small = t .small;
-        })
+        rw (← ev, ← en) (q ∙ ap (taken w) (sym (at-place bytes at (number-taken (drop at bytes) q))))
 
 -- no number stands at the place
 pub number-torn : (bytes : List ℕ) (at : ℕ) → numberAt bytes at ≡ Torn → readNumber (drop at bytes) ≡ torn

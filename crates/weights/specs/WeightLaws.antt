@@ -2,7 +2,7 @@
 -- 1,060. Each is one test that is computed over the thirty ages. And how large one weight may be.
 use mathlib.Core.Path.{_≡_, ap, subst, _∙_}
 use mathlib.Core.Bool.{Bool}
-use mathlib.Core.List.{List}
+use mathlib.Core.List.{List, []}
 use Prim.Native.Nat.{ℕ, _+_, _-_, _≤_, _<_}
 use native.Mathlib.Nat.{add-sub-of-le, zero-add}
 use native.Mathlib.Omega.{arith}
@@ -14,12 +14,12 @@ use Rattle.whole.specs.Split.{split, split-neg, split-sub}
 use Rattle.whole.specs.Order.{≤ℤ-antisymm}
 use Rattle.whole.specs.Bound.{Under, under-lit, under-between, under-add, under-mul}
 use Rattle.whole.specs.Table.{every, at, listed, listed-at}
-use Rattle.weights.specs.Weights.{firstFitted, fitted, firstClosed, lastClosed, weightUnit, weight, weightRow}
+use Rattle.weights.specs.Weights.{firstFitted, fitted, firstClosed, lastClosed, closed, weightUnit, weight, weightRow, weightTable}
 use Rattle.weights.specs.Totals.{weightLimit, mostSize, weightTotal, sizeTotal, rowTotal}
 
 -- a test that passes at each of the thirty ages holds of an age from 91 to 120
 thirty : List ℕ
-thirty = replicate 30 0
+thirty = replicate closed 0
 
 by-age : (test : ℕ → Bool) → T (every (λ (k entry : ℕ). test (firstClosed + k)) 0 thirty)
     → (x : ℕ) → firstClosed ≤ x → x ≤ lastClosed → T (test x)
@@ -51,6 +51,12 @@ row-total {x} h l =
 pub row-weight : (x i : ℕ) → i < fitted → getD (weightRow x) i (pos 0) ≡ weight x i
 unfolding weightRow
 row-weight x i h = listed-at (weight x) (pos 0) 0 fitted i h ∙ ap (weight x) (zero-add i)
+
+-- the table has the row of each age in its place
+pub table-row : {x : ℕ} → firstClosed ≤ x → x ≤ lastClosed → getD weightTable (x - firstClosed) [] ≡ weightRow x
+unfolding weightTable
+table-row {x} h l =
+    listed-at weightRow [] firstClosed closed (x - firstClosed) (omega arith) ∙ ap weightRow (add-sub-of-le h)
 
 -- ---- one weight
 

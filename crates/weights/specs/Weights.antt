@@ -1,5 +1,5 @@
 -- "The weight of age y at age x is 10 + (y − 85)(x − 85), in 110ths": y from 80 to 90, x from 91 to 120.
-use Prim.Native.Nat.{ℕ, _+_}
+use Prim.Native.Nat.{ℕ, suc, _+_, _-_}
 use mathlib.Core.List.{List}
 use lib.IntN.{ℤ, pos, _+ℤ_, _-ℤ_, _*ℤ_}
 use Rattle.whole.specs.Table.{listed}
@@ -11,11 +11,15 @@ firstFitted = 80
 abbrev pub fitted : ℕ
 fitted = 11
 
+-- ages 91 to 120 are closed
 abbrev pub firstClosed : ℕ
-firstClosed = 91
+firstClosed = firstFitted + fitted
 
 abbrev pub lastClosed : ℕ
 lastClosed = 120
+
+abbrev pub closed : ℕ
+closed = suc lastClosed - firstClosed
 
 abbrev pub weightUnit : ℕ
 weightUnit = 110
@@ -27,3 +31,7 @@ weight x i = pos 10 +ℤ (pos (firstFitted + i) -ℤ pos 85) *ℤ (pos x -ℤ po
 -- of all fitted ages at age x
 unfoldable pub weightRow : ℕ → List ℤ
 weightRow x = listed (weight x) 0 fitted
+
+-- of all fitted ages at the ages 91 to 120
+unfoldable pub weightTable : List (List ℤ)
+weightTable = listed weightRow firstClosed closed

@@ -1,9 +1,18 @@
 // The weights of the closure: of the fitted ages 80 to 90 at the ages 91 to 120.
 ghost use mathlib.Core.Path.{_≡_};
-ghost use Prim.Native.Nat.{_≤_};
-ghost use Rattle.weights.specs.Weights.{firstClosed, lastClosed, weightRow};
+ghost use Rattle.weights.specs.Weights.{weightTable};
 
-const FIRST_CLOSED: usize = 91;
+// Ages 80 to 90 are fitted, and ages 91 to 120 are closed.
+pub const FIRST_FITTED: usize = 80;
+
+pub const FITTED: usize = 11;
+
+pub const FIRST_CLOSED: usize = FIRST_FITTED + FITTED;
+
+pub const LAST_CLOSED: usize = 120;
+
+// What a weight is a part of.
+pub const WEIGHT_UNIT: i64 = 110;
 
 // The weights in 110ths: a row for each age from 91 to 120, an entry for each age from 80 to 90.
 const WEIGHTS: [[i64; 11]; 30] = [
@@ -39,10 +48,9 @@ const WEIGHTS: [[i64; 11]; 30] = [
     [-165, -130, -95, -60, -25, 10, 45, 80, 115, 150, 185],
 ];
 
-// The weights of the fitted ages at age x.
-pub fn row_at(x: usize) -> [i64; 11]
-    requires { ⌜ (firstClosed ≤ x) × (x ≤ lastClosed) ⌝ }
-    ensures { λ r. ⌜ r ≡ weightRow x ⌝ }
+// The whole table, for a loop over ages to take once.
+pub fn table() -> [[i64; 11]; 30]
+    ensures { λ r. ⌜ r ≡ weightTable ⌝ }
 {
-    WEIGHTS[x - FIRST_CLOSED]
+    WEIGHTS
 }

@@ -1,33 +1,26 @@
 -- What the proofs of rounded division share: what the machine's division toward zero gives, that the results fit 64
--- bits, and when one more or one less than a quotient is the floor or the ceiling.
--- The operations of ℤ compute by cases, so that no lemma finds its arguments under them. They stand here sealed
--- (`diff`, `sum`, `quot`, `less`), and `simp sealed` puts these for the others: then each lemma finds its operands in
--- the goal.
+-- bits, and when one step away from zero gives the floor or the ceiling.
+-- The operations of ℤ compute by cases, so that no lemma finds its arguments under them. Two stand here sealed (`diff`,
+-- `less`), and `simp sealed` puts these for the others: then a lemma finds its operands in the goal.
 use mathlib.Core.Path.{_≡_, refl, sym, subst, _∙_}
 use mathlib.Core.Bool.{Bool, true, false, not}
-use Prim.Native.Nat.{ℕ, zero, suc, _+_, _*_, _^_, _/_, _≤_, _<_}
-use native.Mathlib.Nat.{div-le-self, zero-div, zero-lt-suc}
+use Prim.Native.Nat.{ℕ, zero, suc, _/_, _<_}
+use native.Mathlib.Nat.{div-le-self, zero-div}
 use native.Mathlib.Omega.{arith}
 use lib.Dec.{T}
-use lib.IntN.{ℤ, pos, negsuc, natAbs, _+ℤ_, _-ℤ_, _*ℤ_}
+use lib.IntN.{ℤ, pos, negsuc, negℤ, natAbs, _-ℤ_}
 use lib.Signed.{_≤ℤ_, _<ℤ_, ltZ, ltZ-yes, ltZ-no, quotZ}
 use mir.Syntax.{w64}
 use mir.Val.{SFits, ofZ}
-use Rattle.whole.specs.Split.{above, below, split, mul-eq, split-add, split-sub, split-neg, split-scale}
+use mir.Facts.{toZ-ofZ}
+use Rattle.whole.specs.Split.{above, below, split, split-sub, split-neg}
 use Rattle.whole.specs.Division.{floorDiv, ceilDiv}
-use Rattle.whole.specs.DivisionLaws.{floorℕ-encloses, floor-unique, ceil-unique}
-use Rattle.whole.specs.Bound.{fits-parts, fits-within, fits-floor, fits-ceil}
+use Rattle.whole.specs.Bound.{bits, fits-parts, fits-within}
 
 -- ---- the sealed operations
 
 pub diff : ℤ → ℤ → ℤ
 diff a b = a -ℤ b
-
-pub sum : ℤ → ℤ → ℤ
-sum a b = a +ℤ b
-
-pub quot : ℤ → ℤ → ℤ
-quot a b = quotZ a b
 
 pub less : ℤ → ℤ → Bool
 less a b = ltZ a b
@@ -36,19 +29,11 @@ pub diff-is : (a b : ℤ) → a -ℤ b ≡ diff a b
 unfolding diff
 diff-is a b = refl
 
-pub sum-is : (a b : ℤ) → a +ℤ b ≡ sum a b
-unfolding sum
-sum-is a b = refl
-
-pub quot-is : (a b : ℤ) → quotZ a b ≡ quot a b
-unfolding quot
-quot-is a b = refl
-
 pub less-is : (a b : ℤ) → ltZ a b ≡ less a b
 unfolding less
 less-is a b = refl
 
-pub ruleset sealed = (diff-is, sum-is, quot-is, less-is)
+pub ruleset sealed = (diff-is, less-is)
 
 -- a test that passed or failed
 pub less-true : {a b : ℤ} → less a b ≡ true → a <ℤ b
@@ -59,123 +44,117 @@ pub less-false : {a b : ℤ} → less a b ≡ false → b ≤ℤ a
 unfolding less
 less-false e = ltZ-no (subst (λ (t : Bool). T (not t)) (sym e) tt)
 
-split-diff : (a b : ℤ) → above (diff a b) + (below a + above b) ≡ below (diff a b) + (above a + below b)
-unfolding diff
-split-diff a b = split-sub a b
-
-split-sum : (a b : ℤ) → above (sum a b) + (below a + below b) ≡ below (sum a b) + (above a + above b)
-unfolding sum
-split-sum a b = split-add a b
-
--- a difference fits where it is at least −2⁶³ and below 2⁶³
-pub sfits-diff : (a b : ℤ) → above a + below b < below a + above b + 2 ^ 63
-    → below a + above b ≤ above a + below b + 2 ^ 63 → SFits w64 (diff a b)
-sfits-diff a b h k = fits-parts (diff a b) (above a + below b) (below a + above b) (split-diff a b) h k
-
 -- ---- the machine's division, toward zero
 
--- a divisor that is positive, as a natural number and in its bits
-pub divisor : {d : ℤ} → pos 0 <ℤ d → 0 < natAbs d
-divisor {d = pos m} h = omega split
-divisor {d = negsuc m} h = absurd (h .lt)
-
+-- a divisor that is positive, in its bits
 pub divisor-bits : {d : ℤ} → pos 0 <ℤ d → 0 < ofZ w64 d
 divisor-bits {d = pos m} h = omega split
 divisor-bits {d = negsuc m} h = absurd (h .lt)
 
 -- each part of the quotient is the quotient of that part
 split-quot : (z : ℤ) {d : ℤ} → pos 0 <ℤ d
-    → (above (quot z d) ≡ above z / natAbs d) × (below (quot z d) ≡ below z / natAbs d)
-unfolding quot
+    → (above (quotZ z d) ≡ above z / natAbs d) × (below (quotZ z d) ≡ below z / natAbs d)
 split-quot (pos a) {d = pos m} h = (refl, sym (zero-div m))
 split-quot (negsuc a) {d = pos m} h = let e = split-neg (pos (suc a / m)) in (e .0 ∙ sym (zero-div m), e .1)
 split-quot z {d = negsuc m} h = absurd (h .lt)
 
-pub sfits-quot : (z d : ℤ) → SFits w64 z → pos 0 <ℤ d → SFits w64 (quot z d)
-sfits-quot z d f h = fits-within (quot z d)
+quot-fits : (z d : ℤ) → SFits w64 z → pos 0 <ℤ d → SFits w64 (quotZ z d)
+quot-fits z d f h = fits-within (quotZ z d)
     (omega (arith, split-quot z h, div-le-self (above z) (natAbs d), div-le-self (below z) (natAbs d))) f
 
 -- not below zero it is the floor, not above zero the ceiling
-pub floor-plain : {z d : ℤ} → pos 0 ≤ℤ z → pos 0 <ℤ d → quot z d ≡ floorDiv z (natAbs d)
-unfolding quot floorDiv
+pub floor-plain : {z d : ℤ} → pos 0 ≤ℤ z → pos 0 <ℤ d → quotZ z d ≡ floorDiv z (natAbs d)
+unfolding floorDiv
 floor-plain {z = pos a} {d = pos m} h k = refl
 floor-plain {z = pos a} {d = negsuc m} h k = absurd (k .lt)
 floor-plain {z = negsuc a} h k = absurd (h .le)
 
-pub ceil-plain : {z d : ℤ} → z ≤ℤ pos 0 → pos 0 <ℤ d → quot z d ≡ ceilDiv z (natAbs d)
-unfolding quot floorDiv ceilDiv
+pub ceil-plain : {z d : ℤ} → z ≤ℤ pos 0 → pos 0 <ℤ d → quotZ z d ≡ ceilDiv z (natAbs d)
+unfolding floorDiv ceilDiv
 ceil-plain {z = pos zero} {d = pos m} h k = rw (zero-div m)
 ceil-plain {z = pos (suc a)} {d = pos m} h k = absurd (omega split)
 ceil-plain {z = negsuc a} {d = pos m} h k = refl
 ceil-plain {d = negsuc m} h k = absurd (k .lt)
 
--- ---- one step away from zero
+-- ---- one step away from zero: u − (u − n) / d, where u is 1 on n's side of zero
 
--- p − n more than the quotient of k + s − t by m is k / m rounded up, for each k > 0
-pub record Outward (p n s t : ℕ) : Type 0 where
-  pub start : (k : ℕ) → 0 < k → t ≤ s + k
-  pub least : (k m q : ℕ) → 0 < k → 0 < m → q * m + t ≤ s + k → s + k < q * m + m + t → k + n * m ≤ p * m + q * m
-  pub close : (k m q : ℕ) → 0 < k → 0 < m → q * m + t ≤ s + k → s + k < q * m + m + t → p * m + q * m < k + n * m + m
+-- what is formed on the way fits, and the value is r
+pub record Away (u n d r : ℤ) : Type 0 where
+  pub first : SFits w64 (u -ℤ n)
+  pub value : u -ℤ quotZ (u -ℤ n) d ≡ r
+  pub fits : SFits w64 r
 
--- p − n, where n ≤ p, has no part below zero
-no-below : (z : ℤ) (p n : ℕ) → above z + n ≡ below z + p → n ≤ p → below z ≡ 0
-no-below (pos a) p n e h = refl
-no-below (negsuc a) p n e h = omega arith
+-- below zero the floor
+from-minus : (a : ℕ) → negsuc 0 -ℤ negsuc a ≡ pos a
+from-minus a = omega (split, split-sub (negsuc 0) (negsuc a))
 
--- the quotient q of x = k + s − t, in natural numbers
-module _ (x d : ℤ) (k s t : ℕ) (hd : pos 0 <ℤ d) (e : above x + t ≡ below x + (s + k)) (h : t ≤ s + k) where
-  quot-natural : (above (quot x d) * natAbs d + t ≤ s + k) × (s + k < above (quot x d) * natAbs d + natAbs d + t)
-      × (below (quot x d) ≡ 0)
-  quot-natural =
-      let z : below x ≡ 0 = no-below x (s + k) t e h in
-      let q = split-quot x hd in
-      let b : below (quot x d) ≡ 0 = rw (q .1, z) (zero-div (natAbs d)) in
-      let f = rw (← q .0) at (floorℕ-encloses (above x) (divisor hd)) in
-      (omega arith, omega arith, b)
+pub floor-away : {n d : ℤ} → n <ℤ pos 0 → pos 0 <ℤ d → SFits w64 n → Away (negsuc 0) n d (floorDiv n (natAbs d))
+unfolding floorDiv
+floor-away {n = pos a} h k f = absurd (omega split)
+floor-away {n = negsuc a} {d = negsuc m} h k f = absurd (k .lt)
+floor-away {n = negsuc a} {d = pos m} h k f =
+    record {
+      first = rw (from-minus a) (record { sfits = f .sfits });
+      value = rw (from-minus a) (omega (split, split-sub (negsuc 0) (pos (a / m))));
+      fits = record { sfits = omega (arith, f .sfits, div-le-self a m) };
+    }
 
--- u − (v − z) / d is the floor of z / d, for z < 0
-pub floor-outward : (u v z d : ℤ) → z <ℤ pos 0 → pos 0 <ℤ d → Outward (below u) (above u) (above v) (below v)
-    → diff u (quot (diff v z) d) ≡ floorDiv z (natAbs d)
-floor-outward u v (pos a) d h hd o = absurd (omega split)
-floor-outward u v (negsuc a) d h hd o =
-    let m = natAbs d in
-    let x = diff v (negsuc a) in
-    let q = quot x d in
-    let r = diff u q in
-    let f = quot-natural x d (suc a) (above v) (below v) hd (omega (arith, split-diff v (negsuc a)))
-    (o .start (suc a) (zero-lt-suc a)) in
-    let l = o .least (suc a) m (above q) (zero-lt-suc a) (divisor hd) (f .0) (f .1) in
-    let g = o .close (suc a) m (above q) (zero-lt-suc a) (divisor hd) (f .0) (f .1) in
-    let e = mul-eq m (split-diff u q) in
-    let n = mul-eq m (f .2) in
-    floor-unique r (negsuc a) (divisor hd) (omega (split, split-scale r m))
-    (omega (split, split-scale r m, split-add (r *ℤ pos m) (pos m)))
+-- above zero the ceiling
+from-plain : (a : ℕ) → pos 1 -ℤ pos (suc a) ≡ negℤ (pos a)
+from-plain a = omega (split, split-sub (pos 1) (pos (suc a)), split-neg (pos a))
 
--- and so it fits
-pub sfits-floor-outward : (u v z d : ℤ) → z <ℤ pos 0 → pos 0 <ℤ d → Outward (below u) (above u) (above v) (below v)
-    → SFits w64 z → SFits w64 (diff u (quot (diff v z) d))
-sfits-floor-outward u v z d h hd o f =
-    rw (floor-outward u v z d h hd o) (fits-floor (natAbs d) f)
+minus-quot : (a m : ℕ) → quotZ (negℤ (pos a)) (pos m) ≡ negℤ (pos (a / m))
+minus-quot zero m = rw (zero-div m)
+minus-quot (suc a) m = refl
 
--- u + (z − v) / d is the ceiling of z / d, for z > 0
-pub ceil-outward : (u v z d : ℤ) → pos 0 <ℤ z → pos 0 <ℤ d → Outward (above u) (below u) (below v) (above v)
-    → sum u (quot (diff z v) d) ≡ ceilDiv z (natAbs d)
-ceil-outward u v (negsuc a) d h hd o = absurd (h .lt)
-ceil-outward u v (pos a) d h hd o =
-    let k : 0 < a = omega split in
-    let m = natAbs d in
-    let x = diff (pos a) v in
-    let q = quot x d in
-    let r = sum u q in
-    let f = quot-natural x d a (below v) (above v) hd (omega (arith, split-diff (pos a) v)) (o .start a k) in
-    let l = o .least a m (above q) k (divisor hd) (f .0) (f .1) in
-    let g = o .close a m (above q) k (divisor hd) (f .0) (f .1) in
-    let e = mul-eq m (split-sum u q) in
-    let n = mul-eq m (f .2) in
-    ceil-unique r (pos a) (divisor hd) (omega (split, split-scale r m))
-    (omega (split, split-scale r m, split-add (pos a) (pos m)))
+pub ceil-away : {n d : ℤ} → pos 0 <ℤ n → pos 0 <ℤ d → SFits w64 n → Away (pos 1) n d (ceilDiv n (natAbs d))
+unfolding floorDiv ceilDiv
+ceil-away {n = negsuc a} h k f = absurd (h .lt)
+ceil-away {n = pos zero} h k f = absurd (omega split)
+ceil-away {n = pos (suc a)} {d = negsuc m} h k f = absurd (k .lt)
+ceil-away {n = pos (suc a)} {d = pos m} h k f =
+    record {
+      first = rw (from-plain a) (fits-parts (negℤ (pos a)) 0 a (omega (arith, split-neg (pos a))) (omega arith) (omega (arith, f .sfits)));
+      value = rw (from-plain a, minus-quot a m) (omega (split, split-sub (pos 1) (negℤ (pos (a / m))), split-neg (pos (a / m))));
+      fits = record { sfits = omega (arith, f .sfits, div-le-self a m) };
+    }
 
-pub sfits-ceil-outward : (u v z d : ℤ) → pos 0 <ℤ z → pos 0 <ℤ d → Outward (above u) (below u) (below v) (above v)
-    → SFits w64 z → SFits w64 (sum u (quot (diff z v) d))
-sfits-ceil-outward u v z d h hd o f =
-    rw (ceil-outward u v z d h hd o) (fits-ceil (natAbs d) f)
+-- ---- as the code forms it, each number read from its bits
+
+-- on which side of zero n is, by the tests of its bits
+module _ {n : ℤ} (f : SFits w64 n) where
+  pub below-zero : ltZ (bits n) (pos 0) ≡ true → n <ℤ pos 0
+  below-zero t = ltZ-yes (rw (← toZ-ofZ f, t) tt)
+
+  pub not-below-zero : ltZ (bits n) (pos 0) ≡ false → pos 0 ≤ℤ n
+  not-below-zero t = ltZ-no (rw (← toZ-ofZ f, t) tt)
+
+  pub above-zero : ltZ (pos 0) (bits n) ≡ true → pos 0 <ℤ n
+  above-zero t = ltZ-yes (rw (← toZ-ofZ f, t) tt)
+
+  pub not-above-zero : ltZ (pos 0) (bits n) ≡ false → n ≤ℤ pos 0
+  not-above-zero t = ltZ-no (rw (← toZ-ofZ f, t) tt)
+
+-- n / d
+pub record Quotient (n d : ℤ) : Type 0 where
+  pub fits : SFits w64 (quotZ (bits n) (bits d))
+  pub is : bits (quotZ (bits n) (bits d)) ≡ quotZ n d
+
+pub quotient : {n d : ℤ} → SFits w64 n → SFits w64 d → pos 0 <ℤ d → Quotient n d
+quotient {n} {d} fn fd hd =
+    let f = quot-fits n d fn hd in
+    record { fits = rw (toZ-ofZ fn, toZ-ofZ fd) f; is = rw (toZ-ofZ fn, toZ-ofZ fd) (toZ-ofZ f) }
+
+-- u − (u − n) / d
+module _ {u n d r : ℤ} (fn : SFits w64 n) (fd : SFits w64 d) (hd : pos 0 <ℤ d) (a : Away u n d r) where
+  pub first-fits : SFits w64 (u -ℤ bits n)
+  first-fits = rw (toZ-ofZ fn) (a .first)
+
+  pub quotient-fits : SFits w64 (quotZ (bits (u -ℤ bits n)) (bits d))
+  quotient-fits = rw (toZ-ofZ fn) (quotient (a .first) fd hd .fits)
+
+  pub last-fits : SFits w64 (u -ℤ bits (quotZ (bits (u -ℤ bits n)) (bits d)))
+  last-fits = rw (toZ-ofZ fn, quotient (a .first) fd hd .is, a .value) (a .fits)
+
+  pub last-is : bits (u -ℤ bits (quotZ (bits (u -ℤ bits n)) (bits d))) ≡ r
+  last-is = rw (toZ-ofZ fn, quotient (a .first) fd hd .is, a .value) (toZ-ofZ (a .fits))

@@ -7,7 +7,7 @@ use native.Mathlib.Nat.{mul-le-mul, le-trans, lt-of-mul-lt-mul-right}
 use native.Mathlib.Omega.{arith}
 use lib.Dec.{T, ltb, ltb→lt, leb, leb→le}
 use lib.IntN.{ℤ, pos, negsuc, negℤ, natAbs, _+ℤ_, _-ℤ_, _*ℤ_}
-use lib.Signed.{_≤ℤ_, natAbs-le}
+use lib.Signed.{_≤ℤ_}
 use mir.Syntax.{w64}
 use mir.Val.{SFits, toZ, ofZ}
 use mir.Facts.{toZ-ofZ}
@@ -110,15 +110,16 @@ fits-floor {z} m f = fits-within (floorDiv z m) (floor-within z m) f
 pub fits-ceil : {z : ℤ} (m : ℕ) → SFits w64 z → SFits w64 (ceilDiv z m)
 fits-ceil {z} m f = fits-within (ceilDiv z m) (ceil-within z m) f
 
-pub under-fits : {z : ℤ} → SFits w64 z → Under z (2 ^ 63)
-under-fits {z} f = record { under = natAbs-le z (f .sfits) }
-
 -- a number under a bound below 2⁶³ fits; at a numeral bound, `fits u tt`
 pub fits : {z : ℤ} {k : ℕ} → Under z k → T (ltb k (2 ^ 63)) → SFits w64 z
 fits {z} {k} u t = fits-parts z (above z) (below z) (omega arith)
     (omega (arith, u .under, split-abs z, ltb→lt k (2 ^ 63) t))
     (omega (arith, u .under, split-abs z, ltb→lt k (2 ^ 63) t))
 
--- and its bits read back as the number
-pub back : {z : ℤ} {k : ℕ} → Under z k → T (ltb k (2 ^ 63)) → toZ w64 (ofZ w64 z) ≡ z
+-- a number as the code reads it from its bits
+abbrev pub bits : ℤ → ℤ
+bits z = toZ w64 (ofZ w64 z)
+
+-- is the number itself
+pub back : {z : ℤ} {k : ℕ} → Under z k → T (ltb k (2 ^ 63)) → bits z ≡ z
 back u t = toZ-ofZ (fits u t)

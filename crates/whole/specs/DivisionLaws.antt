@@ -1,13 +1,13 @@
 -- What rounded division means: the multiple of the quotient encloses the number within one divisor, and no other
 -- quotient does; rounding respects the order, is exact on multiples, and the two directions differ by at most 1.
-use mathlib.Core.Path.{_≡_, refl, sym}
+use mathlib.Core.Path.{_≡_, sym}
 use Prim.Native.Nat.{ℕ, suc, _+_, _*_, _-_, _/_, _≤_, _<_, suc-le-suc}
 use native.Mathlib.Nat.{le-antisymm, lt-of-mul-lt-mul-right, div-mul-le-self, lt-div-mul-add, div-le-self, le-refl}
 use native.Mathlib.Omega.{arith}
 use lib.IntN.{ℤ, pos, negsuc, negℤ, _+ℤ_, _*ℤ_}
-use lib.Signed.{_≤ℤ_, _<ℤ_, ≤ℤ-refl}
-use Rattle.whole.specs.Split.{above, below, split, mul-eq, split-neg, split-add, split-scale, le-split}
-use Rattle.whole.specs.Order.{≤ℤ-antisymm, ≤ℤ-trans}
+use lib.Signed.{_≤ℤ_}
+use Rattle.whole.specs.Split.{above, below, split, split-neg, split-add, split-scale, le-split}
+use Rattle.whole.specs.Order.{≤ℤ-trans}
 use Rattle.whole.specs.Division.{floorDiv, ceilDiv, ceilDivℕ}
 
 -- ---- natural numbers
@@ -44,27 +44,12 @@ pub ceilℕ-unique : (q a : ℕ) {m : ℕ} → 0 < m → a ≤ q * m → q * m <
 ceilℕ-unique q a {m} h k l =
     le-antisymm (le-of-mul-lt q (ceilDivℕ a m) m (omega (arith, ceilℕ-encloses a h))) (ceilℕ-least q a h k)
 
--- rounding respects the order
-pub floorℕ-mono : {a b m : ℕ} → 0 < m → a ≤ b → a / m ≤ b / m
-floorℕ-mono {a} {b} {m} h k =
-    let e = floorℕ-encloses a h in floorℕ-greatest (a / m) b h (omega arith)
-
-pub ceilℕ-mono : {a b m : ℕ} → 0 < m → a ≤ b → ceilDivℕ a m ≤ ceilDivℕ b m
-ceilℕ-mono {a} {b} {m} h k =
-    let e = ceilℕ-encloses b h in ceilℕ-least (ceilDivℕ b m) a h (omega arith)
-
 -- exact on multiples, and the two directions differ by at most 1
 pub floorℕ-exact : (q : ℕ) {m : ℕ} → 0 < m → q * m / m ≡ q
 floorℕ-exact q {m} h = sym (floorℕ-unique q (q * m) h (omega arith) (omega arith))
 
 pub ceilℕ-exact : (q : ℕ) {m : ℕ} → 0 < m → ceilDivℕ (q * m) m ≡ q
 ceilℕ-exact q {m} h = sym (ceilℕ-unique q (q * m) h (omega arith) (omega arith))
-
-pub floorℕ-ceilℕ : (a : ℕ) {m : ℕ} → 0 < m → (a / m ≤ ceilDivℕ a m) × (ceilDivℕ a m ≤ a / m + 1)
-floorℕ-ceilℕ a {m} h =
-    let e = floorℕ-encloses a h in
-    let f = ceilℕ-encloses a h in
-    (le-of-mul-lt (a / m) (ceilDivℕ a m) m (omega arith), ceilℕ-least (a / m + 1) a h (omega arith))
 
 -- ---- whole numbers, by their parts above and below zero (for `omega`)
 
@@ -102,17 +87,9 @@ ceil-within z m = omega (arith, split-neg z, split-neg (floorDiv (negℤ z) m), 
 pub floor-below : (z : ℤ) {m : ℕ} → 0 < m → (floorDiv z m *ℤ pos m) ≤ℤ z
 floor-below z {m} h = omega (split, split-scale (floorDiv z m) m, split-floor z h)
 
-pub floor-above : (z : ℤ) {m : ℕ} → 0 < m → z <ℤ (floorDiv z m *ℤ pos m +ℤ pos m)
-floor-above z {m} h =
-    let q = floorDiv z m in
-    omega (split, split-scale q m, split-add (q *ℤ pos m) (pos m), split-floor z h)
-
 -- ceiling: z ≤ q·m < z + m
 pub ceil-above : (z : ℤ) {m : ℕ} → 0 < m → z ≤ℤ (ceilDiv z m *ℤ pos m)
 ceil-above z {m} h = omega (split, split-scale (ceilDiv z m) m, split-ceil z h)
-
-pub ceil-below : (z : ℤ) {m : ℕ} → 0 < m → (ceilDiv z m *ℤ pos m) <ℤ (z +ℤ pos m)
-ceil-below z {m} h = omega (split, split-scale (ceilDiv z m) m, split-add z (pos m), split-ceil z h)
 
 -- a·m < b·m + m only where a ≤ b
 at-most : (a b : ℤ) (m : ℕ) → above a * m + below b * m < above b * m + below a * m + m → a ≤ℤ b
@@ -122,44 +99,13 @@ at-most a b m h = le-split (le-of-mul-lt (above a + below b) (above b + below a)
 pub floor-greatest : (q z : ℤ) {m : ℕ} → 0 < m → (q *ℤ pos m) ≤ℤ z → q ≤ℤ floorDiv z m
 floor-greatest q z {m} h k = at-most q (floorDiv z m) m (omega (split, split-scale q m, split-floor z h))
 
-pub ceil-least : (q z : ℤ) {m : ℕ} → 0 < m → z ≤ℤ (q *ℤ pos m) → ceilDiv z m ≤ℤ q
-ceil-least q z {m} h k = at-most (ceilDiv z m) q m (omega (split, split-scale q m, split-ceil z h))
-
--- no other quotient encloses z
-pub floor-unique : (q z : ℤ) {m : ℕ} → 0 < m → (q *ℤ pos m) ≤ℤ z → z <ℤ (q *ℤ pos m +ℤ pos m) → q ≡ floorDiv z m
-floor-unique q z {m} h k l = ≤ℤ-antisymm (floor-greatest q z h k)
-    (at-most (floorDiv z m) q m (omega (split, split-scale q m, split-add (q *ℤ pos m) (pos m), split-floor z h)))
-
-pub ceil-unique : (q z : ℤ) {m : ℕ} → 0 < m → z ≤ℤ (q *ℤ pos m) → (q *ℤ pos m) <ℤ (z +ℤ pos m) → q ≡ ceilDiv z m
-ceil-unique q z {m} h k l = ≤ℤ-antisymm
-    (at-most q (ceilDiv z m) m (omega (split, split-scale q m, split-add z (pos m), split-ceil z h)))
-    (ceil-least q z h k)
-
 -- rounding respects the order
 pub floor-mono : {a b : ℤ} {m : ℕ} → 0 < m → a ≤ℤ b → floorDiv a m ≤ℤ floorDiv b m
 floor-mono {a} {b} {m} h k = floor-greatest (floorDiv a m) b h (≤ℤ-trans (floor-below a h) k)
 
-pub ceil-mono : {a b : ℤ} {m : ℕ} → 0 < m → a ≤ℤ b → ceilDiv a m ≤ℤ ceilDiv b m
-ceil-mono {a} {b} {m} h k = ceil-least (ceilDiv b m) a h (≤ℤ-trans k (ceil-above b h))
-
--- exact on multiples
-pub floor-exact : (q : ℤ) {m : ℕ} → 0 < m → floorDiv (q *ℤ pos m) m ≡ q
-floor-exact q {m} h =
-    sym (floor-unique q (q *ℤ pos m) h (≤ℤ-refl _) (omega (split, split-add (q *ℤ pos m) (pos m))))
-
-pub ceil-exact : (q : ℤ) {m : ℕ} → 0 < m → ceilDiv (q *ℤ pos m) m ≡ q
-ceil-exact q {m} h =
-    sym (ceil-unique q (q *ℤ pos m) h (≤ℤ-refl _) (omega (split, split-add (q *ℤ pos m) (pos m))))
-
 -- the ceiling is the floor or one more
 pub floor-le-ceil : (z : ℤ) {m : ℕ} → 0 < m → floorDiv z m ≤ℤ ceilDiv z m
 floor-le-ceil z {m} h = at-most (floorDiv z m) (ceilDiv z m) m (omega (split, split-floor z h, split-ceil z h))
-
-pub ceil-le-floor-suc : (z : ℤ) {m : ℕ} → 0 < m → ceilDiv z m ≤ℤ (floorDiv z m +ℤ pos 1)
-ceil-le-floor-suc z {m} h =
-    let q = floorDiv z m in
-    ceil-least (q +ℤ pos 1) z h
-    (omega (split, split-scale (q +ℤ pos 1) m, mul-eq m (split-add q (pos 1)), split-floor z h))
 
 -- the width of a rounded interval: (⌈b/m⌉ − ⌊a/m⌋)·m ≤ (b − a) + 2·(m − 1)
 pub rounded-width : (a b : ℤ) {m : ℕ} → 0 < m
@@ -178,12 +124,3 @@ rounded-width a b {m} h =
       split-add q b,
       split-add (q +ℤ b) (pos (2 * m)),
     )
-
--- on natural numbers they are those of ℕ
-pub floor-pos : (a m : ℕ) → floorDiv (pos a) m ≡ pos (a / m)
-unfolding floorDiv
-floor-pos a m = refl
-
-pub ceil-pos : (a : ℕ) {m : ℕ} → 0 < m → ceilDiv (pos a) m ≡ pos (ceilDivℕ a m)
-ceil-pos a {m} h = let e = ceilℕ-encloses a h in
-    sym (ceil-unique (pos (ceilDivℕ a m)) (pos a) h (omega split) (omega split))

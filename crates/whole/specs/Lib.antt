@@ -5,6 +5,7 @@ pub mod SignedEnds
 pub mod Rows
 -- laws
 pub mod Split
+pub mod Sign
 pub mod Difference
 pub mod Order
 pub mod DivisionLaws

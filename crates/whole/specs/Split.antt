@@ -7,7 +7,7 @@ use mathlib.Core.Bool.{Bool, true, false, not, cond}
 use Prim.Native.Nat.{ℕ, zero, suc, _+_, _*_, _-_, _≤_, _<_}
 use native.Mathlib.Omega.{arith}
 use lib.Dec.{T, ltb, leb→le, le→leb, ltb→lt, lt→ltb, nltb→le}
-use lib.IntN.{ℤ, pos, negsuc, negℤ, natAbs, subℕ, _+ℤ_, _-ℤ_, _*ℤ_, +ℤ-idl, +ℤ-idr}
+use lib.IntN.{ℤ, pos, negsuc, negℤ, natAbs, subℕ, _+ℤ_, _-ℤ_, _*ℤ_}
 use lib.Signed.{leZ, ltZ, _≤ℤ_, _<ℤ_}
 
 -- the part above zero: z where z is positive, else 0
@@ -22,19 +22,9 @@ below (negsuc n) = suc n
 
 -- ---- the operations
 
--- the number is the difference of its parts, and its distance from zero is their sum
-pub split-sign : (z : ℤ) → pos (above z) -ℤ pos (below z) ≡ z
-split-sign (pos n) = +ℤ-idr (pos n)
-split-sign (negsuc n) = +ℤ-idl (negsuc n)
-
 pub split-abs : (z : ℤ) → natAbs z ≡ above z + below z
 split-abs (pos n) = omega arith
 split-abs (negsuc n) = omega arith
-
--- one of the parts is 0
-pub split-one : (z : ℤ) → above z * below z ≡ 0
-split-one (pos n) = omega arith
-split-one (negsuc n) = omega arith
 
 sub-by : (a b : ℕ) (c : Bool) → (T c → a < b) → (T (not c) → b ≤ a)
     → above (cond c (negsuc (b - suc a)) (pos (a - b))) + b ≡ below (cond c (negsuc (b - suc a)) (pos (a - b))) + a

@@ -22,7 +22,7 @@ pub fn ceil_div(n: i64, d: i64) -> i64
     ensures { λ r. ⌜ r ≡ ceilDiv n (natAbs d) ⌝ }
 {
     if 0 < n {
-        return 1 + (n - 1) / d;
+        return 1 - (1 - n) / d;
     }
     n / d
 }

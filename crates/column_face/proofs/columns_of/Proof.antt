@@ -16,6 +16,9 @@ returns c = search needs
 returns-2 : tie.Need-returns-2
 returns-2 c = search needs
 
+cast-years : tie.Need-cast-years
+cast-years c = search needs
+
 returns-3 : tie.Need-returns-3
 returns-3 c = search needs
 
@@ -48,6 +51,7 @@ columns-of-spec =
     refusal-number-requires
     returns
     returns-2
+    cast-years
     returns-3
     returns-4
     in-limits-requires

@@ -1,12 +1,18 @@
--- `put_cell` is safe: both places lie within the slice.
+-- `put_cell` is safe: both places lie within the slice, and p is at most 1.
 use native.Mathlib.Omega.{arith}
 use lib.ListN.{length-set}
 use borrow.Author.Needs.{needs}
+use Rattle.mortality.specs.Answers.{chance-ends}
 use Rattle.column_face.proofs.put_cell.Statement.{statement}
 use Rattle.column_face.proofs.put_cell.Tie as tie
 
 enum-known-cell : tie.Need-enum-known-cell
 enum-known-cell c = search needs
+
+death-of-requires : tie.Need-death-of-requires
+death-of-requires c κs =
+    let k = c .before in
+    chance-ends (k .before .before .before .pre .2) (k .cell .given .1)
 
 enum-told : tie.Need-enum-told
 enum-told c = search needs
@@ -43,6 +49,7 @@ put-cell-spec =
     tie.close
     (tie.spec
     enum-known-cell
+    death-of-requires
     enum-told
     mul-out
     mul-out-2

@@ -1,31 +1,48 @@
 -- `print_young` is safe and ends. The loop's invariant: x is at most the first age that is closed; the measure is how many
 -- ages are left.
-use borrow.Author.Needs.{needs}
+use mathlib.Core.Path.{_≡_, _∙_}
 use Prim.Native.Nat.{_≤_, _-_}
+use borrow.Author.Needs.{needs}
+use Rattle.params.specs.Set.{ageOf, four-age}
 use Rattle.weights.specs.Weights.{firstClosed}
+use Rattle.mortality.specs.Years.{cell-within}
+use Rattle.mortality.specs.Answers.{young-chance}
 use Rattle.columns.proofs.print_young.Statement.{statement}
 use Rattle.columns.proofs.print_young.Tie as tie
 
 abbrev Inv-loop : tie.InvT-loop
-Inv-loop p y x₀ t4 x = x ≤ firstClosed
+Inv-loop y p x₀ t5 x = x ≤ firstClosed
 
 abbrev μ-loop : tie.MeasureT-loop
-μ-loop p y x₀ t4 x = firstClosed - x
+μ-loop y p x₀ t5 x = firstClosed - x
+
+-- the turn of the loop that reads an age, whose parameters are the set's
+abbrev turn : tie.After-age-of-runs Inv-loop μ-loop → tie.In-loop Inv-loop μ-loop
+turn c = c .before .before .before .before .before .before .before
+
+age-read : (c : tie.After-age-of-runs Inv-loop μ-loop)
+    → c .age-of-runs .result ≡ ageOf (turn c .before .before .args .t1) (turn c .before .loop .x)
+age-read c = c .age-of-runs .ensures ∙ four-age _ _
 
 loop-holds : tie.Need-loop-holds Inv-loop μ-loop
 loop-holds c = search needs
-
-young-cell-requires : tie.Need-young-cell-requires Inv-loop μ-loop
-young-cell-requires c κs = search needs
-
-print-cell-requires : tie.Need-print-cell-requires Inv-loop μ-loop
-print-cell-requires c κs = search needs
 
 slice-aggregate-print-text : tie.Need-slice-aggregate-print-text Inv-loop μ-loop
 slice-aggregate-print-text c = search needs
 
 print-text-requires : tie.Need-print-text-requires Inv-loop μ-loop
 print-text-requires c κs = search needs
+
+age-of-runs-requires : tie.Need-age-of-runs-requires Inv-loop μ-loop
+age-of-runs-requires c κs = search needs
+
+young-cell-requires : tie.Need-young-cell-requires Inv-loop μ-loop
+young-cell-requires c κs =
+    let t = turn c in
+    rw (age-read c) (cell-within (t .before .before .pre) (t .loop-test .taken))
+
+print-cell-requires : tie.Need-print-cell-requires Inv-loop μ-loop
+print-cell-requires c κs = rw (c .young-cell .ensures) (young-chance _)
 
 add-x : tie.Need-add-x Inv-loop μ-loop
 add-x c = search needs
@@ -46,10 +63,11 @@ print-young-spec =
     Inv-loop
     μ-loop
     loop-holds
-    young-cell-requires
-    print-cell-requires
     slice-aggregate-print-text
     print-text-requires
+    age-of-runs-requires
+    young-cell-requires
+    print-cell-requires
     add-x
     loop-less
     loop-again

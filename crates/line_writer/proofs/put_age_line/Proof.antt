@@ -9,8 +9,9 @@ use mir.Val.{toZ, ofZ}
 use mir.Facts.{toZ-ofZ}
 use Rattle.tokens.specs.Number.{unsignedText, numberText}
 use Rattle.sheet.specs.Sheet.{lineText}
-use Rattle.line_writer.specs.Put.{Room, Put}
-use Rattle.line_writer.specs.PutLaws.{put-of, put-as, room-as, room-first, room-rest, put-join}
+use Rattle.line_writer.specs.Put.{Put}
+use Rattle.line_writer.specs.PutLaws.{put-of, put-as, room-as}
+use Rattle.line_writer.specs.PutLaws.{Three, three-first, three-second, three-third, three-put}
 use Rattle.line_writer.specs.Value.{valueText}
 use Rattle.line_writer.proofs.Small.{small-as}
 use Rattle.line_writer.proofs.put_age_line.Statement.{statement}
@@ -30,7 +31,7 @@ start c = c .before .before .before .before .before
 abbrev first : tie.After-put-number → tie.After-put-text
 first c = c .before .before .before .before
 
--- ---- the line's three texts have room, and they are written
+-- ---- the line's three texts have room, and two of them are written
 
 line : (s : tie.Start)
     → lineText (s .args .run .now ++ unsignedText (s .args .x)) (s .args .v)
@@ -38,38 +39,24 @@ line : (s : tie.Start)
 unfolding lineText valueText
 line s = append-assoc (s .args .run .now) (unsignedText (s .args .x)) (valueText (s .args .v))
 
-room : (s : tie.Start)
-    → Room (s .args .buffer .now) (s .args .at)
-    (s .args .run .now ++ (unsignedText (s .args .x) ++ valueText (s .args .v)))
-room s = room-as (line s) (s .pre .2)
-
-room-run : (s : tie.Start) → Room (s .args .buffer .now) (s .args .at) (s .args .run .now)
-room-run s = room-first (unsignedText (s .args .x) ++ valueText (s .args .v)) (room s)
+texts : (s : tie.Start)
+    → Three (s .args .buffer .now) (s .args .at) (s .args .run .now) (unsignedText (s .args .x)) (valueText (s .args .v))
+texts s = record { room = room-as (line s) (s .pre .2) }
 
 run : (c : tie.After-put-text) → let s = start c .args in
     Put (s .buffer .now) (s .at) (s .run .now) (c .put-text .last .0) (c .put-text .result)
 run c = put-of (c .put-text .ensures)
 
-room-after : (c : tie.After-put-text) → let s = start c .args in
-    Room (c .put-text .last .0) (c .put-text .result) (unsignedText (s .x) ++ valueText (s .v))
-room-after c = room-rest (run c) (room (start c))
-
-room-age : (c : tie.After-put-text)
-    → Room (c .put-text .last .0) (c .put-text .result)
-    (numberText (toZ w64 (ofZ w64 (c .before .before .age-number .result))))
+-- the age's text is that of the number that is written
+age-text : (c : tie.After-age-number)
+    → numberText (toZ w64 (ofZ w64 (c .age-number .result))) ≡ unsignedText (c .before .before .before .args .x)
 unfolding numberText
-room-age c =
-    room-as (sym (ap numberText (age (c .before .before)))) (room-first (valueText (start c .args .v)) (room-after c))
+age-text c = ap numberText (age c)
 
 number : (c : tie.After-put-number) → let b = first c .put-text in
     Put (b .last .0) (b .result) (unsignedText (start (first c) .args .x))
     (c .put-number .last .0) (c .put-number .result)
-unfolding numberText
-number c = put-as (ap numberText (age (first c .before .before))) (put-of (c .put-number .ensures))
-
-room-value : (c : tie.After-put-number)
-    → Room (c .put-number .last .0) (c .put-number .result) (valueText (start (first c) .args .v))
-room-value c = room-rest (number c) (room-after (first c))
+number c = put-as (age-text (first c .before .before)) (put-of (c .put-number .ensures))
 
 -- ---- the needs
 
@@ -77,19 +64,22 @@ age-number-requires : tie.Need-age-number-requires
 age-number-requires c κs = search needs
 
 put-text-requires : tie.Need-put-text-requires
-put-text-requires c κs = room-run (c .before .before .before .before) .fits
+put-text-requires c κs = three-first (texts (c .before .before .before .before)) .fits
 
 put-number-requires : tie.Need-put-number-requires
 put-number-requires c κs =
-    let b = c .before .before .before in
-    (small-as (age (b .before .before)) (omega (arith, start b .pre .0)), room-age b .fits)
+    let c₁ = c .before .before .before in
+    let s = start c₁ in
+    let n = c₁ .before .before in
+    (small-as (age n) (omega (arith, s .pre .0)), room-as (sym (age-text n)) (three-second (texts s) (run c₁)) .fits)
 
 put-value-requires : tie.Need-put-value-requires
 put-value-requires c κs =
-    let b = c .before .before .before in
-    let s = start (first b) in
+    let c₂ = c .before .before .before in
+    let c₁ = first c₂ in
+    let s = start c₁ in
     let e = value s in
-    (small-as e (s .pre .1), room-as (sym (ap valueText e)) (room-value b))
+    (small-as e (s .pre .1), room-as (sym (ap valueText e)) (three-third (texts s) (run c₁) (number c₂)))
 
 same-length : tie.Need-same-length
 same-length c = search needs
@@ -97,10 +87,9 @@ same-length c = search needs
 returns : tie.Need-returns
 returns c =
     let c₂ = c .before .before .before .before .before .before in
-    let c₁ = first c₂ in
-    let s = start c₁ in
+    let s = start (first c₂) in
     let last = put-as (ap valueText (value s)) (c .before .before .put-value .ensures) in
-    put-as (sym (line s)) (put-join (run c₁) (put-join (number c₂) last (room-after c₁)) (room s))
+    put-as (sym (line s)) (three-put (texts s) (run (first c₂)) (number c₂) last)
 
 pub put-age-line-spec : {M : Type 1} → statement M
 put-age-line-spec =

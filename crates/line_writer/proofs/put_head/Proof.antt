@@ -5,14 +5,14 @@ use Prim.Native.Nat.{_≤_}
 use native.Mathlib.Omega.{arith}
 use lib.ListN.{length}
 use Rattle.tokens.specs.Text.{bytesOf}
-use Rattle.sheet.specs.Sheet.{headText}
+use Rattle.sheet.specs.Sheet.{headBytes, headText}
 use Rattle.line_writer.specs.PutLaws.{put-of, put-as}
-use Rattle.sheet_length.specs.PartsLaws.{head-length}
+use Rattle.sheet.specs.SheetTrip.{head-length}
 use Rattle.line_writer.proofs.put_head.Statement.{statement}
 use Rattle.line_writer.proofs.put_head.Tie as tie
 
--- both texts have 19 bytes
-fits : (s : tie.Start) → 19 ≤ length (s .args .buffer .now)
+-- both texts have as many bytes
+fits : (s : tie.Start) → headBytes ≤ length (s .args .buffer .now)
 fits s = omega (arith, s .pre .fits, head-length (s .args .sex))
 
 enum-told : tie.Need-enum-told

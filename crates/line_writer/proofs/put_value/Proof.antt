@@ -1,14 +1,14 @@
 -- `put_value` meets its contract: `=`, the number and the line feed, one right after the other.
 use borrow.Author.Needs.{needs}
 use mathlib.Core.Path.{_≡_, sym, ap}
-use mathlib.Core.List.{_++_}
 use mir.Syntax.{w64}
 use mir.Val.{toZ, ofZ}
 use mir.Facts.{toZ-ofZ}
 use Rattle.tokens.specs.Text.{bytesOf}
 use Rattle.tokens.specs.Number.{numberText}
-use Rattle.line_writer.specs.Put.{Room, Put}
-use Rattle.line_writer.specs.PutLaws.{put-of, put-as, room-as, room-first, room-rest, put-join}
+use Rattle.line_writer.specs.Put.{Put}
+use Rattle.line_writer.specs.PutLaws.{put-of, put-as, room-as}
+use Rattle.line_writer.specs.PutLaws.{Three, three-first, three-second, three-third, three-put}
 use Rattle.line_writer.specs.Value.{valueText}
 use Rattle.line_writer.proofs.Small.{small-as}
 use Rattle.line_writer.proofs.put_value.Statement.{statement}
@@ -30,34 +30,20 @@ second c = c .before .before .before .before .before
 
 -- ---- the three texts have room, and they are written
 
-room : (s : tie.Start)
-    → Room (s .args .buffer .now) (s .args .at) (bytesOf "=" ++ (numberText (s .args .v) ++ bytesOf "\n"))
+texts : (s : tie.Start)
+    → Three (s .args .buffer .now) (s .args .at) (bytesOf "=") (numberText (s .args .v)) (bytesOf "\n")
 unfolding valueText
-room s = s .pre .1
-
-room-sign : (s : tie.Start) → Room (s .args .buffer .now) (s .args .at) (bytesOf "=")
-room-sign s = room-first (numberText (s .args .v) ++ bytesOf "\n") (room s)
+texts s = record { room = s .pre .1 }
 
 sign : (c : tie.After-put-text) → let s = start c .args in
     Put (s .buffer .now) (s .at) (bytesOf "=") (c .put-text .last .0) (c .put-text .result)
 unfolding bytesOf
 sign c = put-of (c .put-text .ensures)
 
-room-after : (c : tie.After-put-text)
-    → Room (c .put-text .last .0) (c .put-text .result) (numberText (start c .args .v) ++ bytesOf "\n")
-room-after c = room-rest (sign c) (room (start c))
-
-room-number : (c : tie.After-put-text)
-    → Room (c .put-text .last .0) (c .put-text .result) (numberText (toZ w64 (ofZ w64 (start c .args .v))))
-room-number c = room-as (sym (ap numberText (value (start c)))) (room-first (bytesOf "\n") (room-after c))
-
 number : (c : tie.After-put-number) → let b = first c .put-text in
     Put (b .last .0) (b .result) (numberText (start (first c) .args .v))
     (c .put-number .last .0) (c .put-number .result)
 number c = put-as (ap numberText (value (start (first c)))) (put-of (c .put-number .ensures))
-
-room-end : (c : tie.After-put-number) → Room (c .put-number .last .0) (c .put-number .result) (bytesOf "\n")
-room-end c = room-rest (number c) (room-after (first c))
 
 end : (c : tie.After-put-text2) → let b = second c .put-number in
     Put (b .last .0) (b .result) (bytesOf "\n") (c .put-text2 .last .0) (c .put-text2 .result)
@@ -71,19 +57,24 @@ slice-aggregate-put-text c = search needs
 
 put-text-requires : tie.Need-put-text-requires
 unfolding bytesOf
-put-text-requires c κs = room-sign (c .before .before .before) .fits
+put-text-requires c κs = three-first (texts (c .before .before .before)) .fits
 
 put-number-requires : tie.Need-put-number-requires
 put-number-requires c κs =
-    let b = c .before .before .before in
-    (small-as (value (start b)) (start b .pre .0), room-number b .fits)
+    let c₁ = c .before .before .before in
+    let s = start c₁ in
+    let e = value s in
+    (small-as e (s .pre .0), room-as (sym (ap numberText e)) (three-second (texts s) (sign c₁)) .fits)
 
 slice-aggregate-put-text-2 : tie.Need-slice-aggregate-put-text-2
 slice-aggregate-put-text-2 c = search needs
 
 put-text-requires-2 : tie.Need-put-text-requires-2
 unfolding bytesOf
-put-text-requires-2 c κs = room-end (c .before .before .before .before) .fits
+put-text-requires-2 c κs =
+    let c₂ = c .before .before .before .before in
+    let c₁ = first c₂ in
+    three-third (texts (start c₁)) (sign c₁) (number c₂) .fits
 
 same-length : tie.Need-same-length
 same-length c = search needs
@@ -94,7 +85,7 @@ returns c =
     let c₃ = c .before .before in
     let c₂ = second c₃ in
     let c₁ = first c₂ in
-    put-join (sign c₁) (put-join (number c₂) (end c₃) (room-after c₁)) (room (start c₁))
+    three-put (texts (start c₁)) (sign c₁) (number c₂) (end c₃)
 
 pub put-value-spec : {M : Type 1} → statement M
 put-value-spec =

@@ -1,14 +1,14 @@
 -- `in_limits` meets its contract. The loop's invariant: the ages before x are in limits. The measure is how many are
 -- left.
 use borrow.Author.Needs.{needs}
-use mathlib.Core.Path.{_≡_, refl, sym, _∙_}
+use mathlib.Core.Path.{_≡_, refl, ap, sym, _∙_}
 use mathlib.Core.Bool.{true}
-use Prim.Native.Nat.{_≤_, _-_}
+use Prim.Native.Nat.{_≤_, _<_, _-_}
 use native.Mathlib.Numerals.{add-one}
 use native.Mathlib.Omega.{arith}
 use borrow.Author.Tests.{not-true, not-false}
-use Rattle.params.specs.Set.{ages}
-use Rattle.params.specs.Limits.{inLimits, agesInLimits}
+use Rattle.params.specs.Set.{ages, ageOf, four-age}
+use Rattle.params.specs.Limits.{inLimits, ageInLimits, agesInLimits}
 use Rattle.params.specs.LimitsLaws.{age-out}
 use Rattle.params.proofs.Sizes.{fails, passes}
 use Rattle.params.proofs.in_limits.Statement.{statement}
@@ -19,6 +19,15 @@ Inv-loop p x₀ x = (x ≤ ages) × (agesInLimits p x ≡ true)
 
 abbrev μ-loop : tie.MeasureT-loop
 μ-loop p x₀ x = ages - x
+
+-- the turn of the loop that reads an age
+abbrev turn : tie.After-age-of-runs Inv-loop μ-loop → tie.At-loop Inv-loop μ-loop
+turn c = c .before .before .before .before .before .before .before
+
+-- the test of an age is that of the set's
+judged : (c : tie.After-age-in-limits Inv-loop μ-loop) → let l = turn (c .before) in
+    c .age-in-limits .result ≡ ageInLimits (ageOf (l .before .before .before .args .t1) (l .loop .x))
+judged c = c .age-in-limits .ensures ∙ ap ageInLimits (c .before .age-of-runs .ensures ∙ four-age _ _)
 
 series-in-limits-requires : tie.Need-series-in-limits-requires Inv-loop μ-loop
 series-in-limits-requires c κs = search needs
@@ -31,16 +40,20 @@ loop-holds : tie.Need-loop-holds Inv-loop μ-loop
 unfolding agesInLimits
 loop-holds c = (omega arith, refl)
 
+age-of-runs-requires : tie.Need-age-of-runs-requires Inv-loop μ-loop
+age-of-runs-requires c κs = search needs
+
 age-in-limits-requires : tie.Need-age-in-limits-requires Inv-loop μ-loop
 age-in-limits-requires c κs = search needs
 
 returns-2 : tie.Need-returns-2 Inv-loop μ-loop
 unfolding inLimits
 returns-2 c =
-    let l = c .before .before .before in
+    let l = turn (c .before .before) in
     let a = c .before .age-in-limits in
-    let e = sym (a .ensures) ∙ not-true (a .result) (c .if2 .taken) in
-    let out = age-out _ _ ages (c .before .before .loop-test .taken) e in
+    let e = sym (judged (c .before)) ∙ not-true (a .result) (c .if2 .taken) in
+    let h : l .loop .x < ages = omega arith in
+    let out = age-out _ _ ages h e in
     passes (l .before .if1 .left) (l .before .before .series-in-limits .ensures) (sym out)
 
 add-x : tie.Need-add-x Inv-loop μ-loop
@@ -52,9 +65,9 @@ loop-less c = search needs
 loop-again : tie.Need-loop-again Inv-loop μ-loop
 unfolding agesInLimits
 loop-again c =
-    let l = c .before .before .before .loop in
+    let l = turn (c .before .before) .loop in
     let a = c .before .age-in-limits in
-    (search needs, rw (add-one (l .x), l .inv .1, ← a .ensures, not-false (a .result) (c .if2 .left)))
+    (search needs, rw (add-one (l .x), l .inv .1, ← judged (c .before), not-false (a .result) (c .if2 .left)))
 
 returns-3 : tie.Need-returns-3 Inv-loop μ-loop
 unfolding inLimits
@@ -72,6 +85,7 @@ in-limits-spec =
     series-in-limits-requires
     returns
     loop-holds
+    age-of-runs-requires
     age-in-limits-requires
     returns-2
     add-x

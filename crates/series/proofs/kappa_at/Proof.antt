@@ -1,31 +1,36 @@
 -- `kappa_at` meets its contract. The loop's invariant: the ends are those of kappa in year i; the measure is the years
 -- left.
-use mathlib.Core.Path.{_≡_}
+use mathlib.Core.Path.{_≡_, refl}
 use Prim.Native.Nat.{_-_, _≤_}
 use native.Mathlib.Numerals.{add-one}
 use native.Mathlib.Omega.{arith}
-use Rattle.whole.specs.Bound.{back}
+use mir.Syntax.{w64}
+use mir.Val.{toZ}
+use Rattle.whole.specs.Bound.{bits, Under, back}
+use Rattle.params.specs.Limits.{aLimit, kappaLimit}
 use Rattle.ends.specs.Code.{endsOf}
-use Rattle.series.specs.Series.{kappa}
+use Rattle.series.specs.Series.{kappaIn}
 use Rattle.series.specs.BoundLaws.{kappa-under}
 use Rattle.series.proofs.kappa_at.Statement.{statement}
 use Rattle.series.proofs.kappa_at.Tie as tie
 
 abbrev Inv-loop : tie.InvT-loop
-Inv-loop p n e₀ i₀ e i = (endsOf e ≡ kappa p i) × (i ≤ n)
+Inv-loop a start n e₀ i₀ e i = (endsOf e ≡ kappaIn (toZ w64 a) (toZ w64 start) i) × (i ≤ n)
 
 abbrev μ-loop : tie.MeasureT-loop
-μ-loop p n e₀ i₀ e i = n - i
+μ-loop a start n e₀ i₀ e i = n - i
 
 loop-holds : tie.Need-loop-holds Inv-loop μ-loop
-unfolding kappa
-loop-holds c = (rw (back (c .before .pre .kappa) tt), omega arith)
+unfolding kappaIn
+loop-holds c = (refl, omega arith)
 
 kappa-step-requires : tie.Need-kappa-step-requires Inv-loop μ-loop
 kappa-step-requires c κs =
-    let l = c .before .before in
-    let s = c .before .before .before .before in
-    (rw (back (s .pre .a) tt) (s .pre .a), rw (l .loop .inv .0) (kappa-under _ _ (s .pre)))
+    let l = c .before in
+    let s = l .before in
+    let a : Under (bits (s .args .a)) aLimit = rw (back (s .pre .0) tt) (s .pre .0) in
+    let k : Under (bits (s .args .start)) kappaLimit = rw (back (s .pre .1) tt) (s .pre .1) in
+    (a, rw (l .loop .inv .0) (kappa-under (l .loop .i) a k))
 
 add-i : tie.Need-add-i Inv-loop μ-loop
 add-i c = omega arith
@@ -34,17 +39,17 @@ loop-less : tie.Need-loop-less Inv-loop μ-loop
 loop-less c = omega arith
 
 loop-again : tie.Need-loop-again Inv-loop μ-loop
-unfolding kappa
+unfolding kappaIn
 loop-again c =
-    let l = c .before .before .before in
-    let s = c .before .before .before .before .before in
-    (rw (c .kappa-step .ensures, back (s .pre .a) tt, l .loop .inv .0, add-one (l .loop .i)), omega arith)
+    let l = c .before .before in
+    (rw (c .kappa-step .ensures, l .loop .inv .0, add-one (l .loop .i)), omega arith)
 
 returns : tie.Need-returns Inv-loop μ-loop
 returns c =
     let l = c .before in
-    let e : l .loop .i ≡ l .before .before .args .n = omega arith in
-    rw (← e) (l .loop .inv .0)
+    let s = l .before in
+    let e : l .loop .i ≡ s .args .n = omega arith in
+    rw (back (s .pre .0) tt, back (s .pre .1) tt, e) at (l .loop .inv .0)
 
 pub kappa-at-spec : {M : Type 1} → statement M
 kappa-at-spec =

@@ -10,11 +10,8 @@ use Rattle.sheet_reader.proofs.judged_set.Tie as tie
 
 -- ---- places in the code
 
-abbrev wasBlank : tie.After-refusal-number → tie.After-blank
-wasBlank c = c .before .before .before .before
-
 abbrev wasRead : tie.After-refusal-number → tie.After-set-at
-wasRead c = wasBlank c .before .before
+wasRead c = c .before .before .before .before .before
 
 abbrev given : tie.After-refusal-number → List ℕ
 given c = wasRead c .before .before .args .bytes .now
@@ -30,9 +27,6 @@ decides c =
 set-at-requires : tie.Need-set-at-requires
 set-at-requires c κs = search needs
 
-blank-requires : tie.Need-blank-requires
-blank-requires c κs = search needs
-
 ends-requires : tie.Need-ends-requires
 ends-requires c κs = search needs
 
@@ -45,13 +39,17 @@ refusal-of-requires c κs = search needs
 refusal-number-requires : tie.Need-refusal-number-requires
 refusal-number-requires c κs = search needs
 
+blank-requires : tie.Need-blank-requires
+blank-requires c κs = search needs
+
 returns : tie.Need-returns
 returns c =
-    let n = c .before in
+    let t = c .before in
+    let n = t .before in
     let s = wasRead n .set-at in
     sym
-    (set-refused (given n) (s .result) _ (s .ensures) (decides n) (wasBlank n .blank .ensures)
-    (λ e. c .if1 .taken (n .refusal-number .ensures ∙ e)))
+    (set-refused (given n) (s .result) _ (s .ensures) (decides n) (c .blank .ensures)
+    (λ e. t .if1 .taken (n .refusal-number .ensures ∙ e)))
 
 returns-2 : tie.Need-returns-2
 returns-2 c =
@@ -65,10 +63,10 @@ judged-set-spec =
     tie.close
     (tie.spec
     set-at-requires
-    blank-requires
     ends-requires
     in-limits-requires
     refusal-of-requires
     refusal-number-requires
+    blank-requires
     returns
     returns-2)

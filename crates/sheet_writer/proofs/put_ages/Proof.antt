@@ -1,11 +1,14 @@
 -- `put_ages` meets its contract. The loop's invariant: the lines of the ages passed are written. The measure is how
 -- many ages are left.
-use mathlib.Core.Path.{_≡_, sym}
+use borrow.Author.Needs.{needs}
+use mathlib.Core.Path.{_≡_, sym, ap, subst, _∙_}
 use mathlib.Core.List.{_++_}
 use Prim.Native.Nat.{ℕ, suc, _-_, _≤_, _<_}
 use native.Mathlib.Numerals.{add-one}
 use native.Mathlib.Omega.{arith}
-use Rattle.params.specs.Set.{ages}
+use Rattle.params.specs.declared.Age.{Age}
+use Rattle.params.specs.Set.{ages, ageOf, four-age}
+use Rattle.params.specs.LimitsLaws.{AgeWithin, in-limits-age}
 use Rattle.line_writer.specs.Put.{Room, Put}
 use Rattle.line_writer.specs.PutLaws.{put-none, put-as, room-as, put-length, room-rest, put-join}
 use Rattle.sheet_length.specs.Parts.{ageText, agesText}
@@ -19,29 +22,53 @@ Inv-loop buffer₀ at p place₀ age₀ buffer place age = (age ≤ ages) × Put
 abbrev μ-loop : tie.MeasureT-loop
 μ-loop buffer₀ at p place₀ age₀ buffer place age = ages - age
 
+-- the loop's turn that reads an age, and the start
+abbrev turn : tie.After-age-of-runs Inv-loop μ-loop → tie.At-loop Inv-loop μ-loop
+turn c = c .before .before .before .before .before .before .before
+
+abbrev start : tie.At-loop Inv-loop μ-loop → tie.Start Inv-loop μ-loop
+start c = c .before .before
+
+within : (c : tie.After-age-of-runs Inv-loop μ-loop) → turn c .loop .age < ages
+within c = omega arith
+
+-- what is read is the set's age
+read : (c : tie.After-age-of-runs Inv-loop μ-loop) → let l = turn c in
+    c .age-of-runs .result ≡ ageOf (start l .args .t3) (l .loop .age)
+read c = c .age-of-runs .ensures ∙ four-age _ _
+
+text : (c : tie.After-age-of-runs Inv-loop μ-loop) → let l = turn c in let x = l .loop .age in
+    ageText (c .age-of-runs .result) x ≡ ageText (ageOf (start l .args .t3) x) x
+text c = ap (λ (a : Age). ageText a (turn c .loop .age)) (read c)
+
 -- one age more has room
-room : (s : tie.Start Inv-loop μ-loop) (x : ℕ) → x < ages → let p = s .args .p in
-    Room (s .args .buffer .now) (s .args .at) (agesText p x ++ ageText p x)
+room : (s : tie.Start Inv-loop μ-loop) (x : ℕ) → x < ages → let p = s .args .t3 in
+    Room (s .args .buffer .now) (s .args .at) (agesText p x ++ ageText (ageOf p x) x)
 room s x h =
-    let p = s .args .p in
+    let p = s .args .t3 in
     room-as (ages-more p x) (record { fits = omega (arith, s .pre .1 .fits, ages-grow p (suc x) ages (omega arith)) })
 
 -- after the loop all ages are written
 all : (c : tie.After-loop Inv-loop μ-loop) → let s = c .before .before .before .args in let l = c .before .loop in
-    Put (s .buffer .now) (s .at) (agesText (s .p) ages) (l .buffer) (l .place)
+    Put (s .buffer .now) (s .at) (agesText (s .t3) ages) (l .buffer) (l .place)
 all c = let l = c .before .loop in let e : l .age ≡ ages = omega arith in rw (← e) (l .inv .1)
 
 loop-holds : tie.Need-loop-holds Inv-loop μ-loop
 loop-holds c =
     let s = c .before .args in
-    (omega arith, put-as (sym (ages-none (s .p))) (put-none (s .buffer .now) (s .at)))
+    (omega arith, put-as (sym (ages-none (s .t3))) (put-none (s .buffer .now) (s .at)))
+
+age-of-runs-requires : tie.Need-age-of-runs-requires Inv-loop μ-loop
+age-of-runs-requires c κs = search needs
 
 put-age-requires : tie.Need-put-age-requires Inv-loop μ-loop
 put-age-requires c κs =
-    let s = c .before .before .before .before in
-    let l = c .before .before .loop in
-    let h : l .age < ages = omega arith in
-    (s .pre .0, h, room-rest (l .inv .1) (room s (l .age) h))
+    let l = turn (c .before) in
+    let s = start l in
+    let x = l .loop .age in
+    let h : x < ages = within (c .before) in
+    let w = subst AgeWithin (sym (read (c .before))) (in-limits-age (s .args .t3) (s .pre .0) x h) in
+    (w, h, room-as (sym (text (c .before))) (room-rest (l .loop .inv .1) (room s x h)))
 
 add-age : tie.Need-add-age Inv-loop μ-loop
 add-age c = omega arith
@@ -51,11 +78,13 @@ loop-less c = omega arith
 
 loop-again : tie.Need-loop-again Inv-loop μ-loop
 loop-again c =
-    let s = c .before .before .before .before .before .before .before in
-    let l = c .before .before .before .before .before .loop in
-    let h : l .age < ages = omega arith in
-    let more = put-join (l .inv .1) (c .before .before .put-age .ensures) (room s (l .age) h) in
-    (omega arith, rw (add-one (l .age)) (put-as (sym (ages-more (s .args .p) (l .age))) more))
+    let put = c .before .before in
+    let l = turn (put .before .before) in
+    let s = start l in
+    let x = l .loop .age in
+    let h : x < ages = within (put .before .before) in
+    let more = put-join (l .loop .inv .1) (put-as (text (put .before .before)) (put .put-age .ensures)) (room s x h) in
+    (omega arith, rw (add-one x) (put-as (sym (ages-more (s .args .t3) x)) more))
 
 same-length : tie.Need-same-length Inv-loop μ-loop
 same-length c = put-length (all c) (c .before .before .before .pre .1)
@@ -70,6 +99,7 @@ put-ages-spec =
     Inv-loop
     μ-loop
     loop-holds
+    age-of-runs-requires
     put-age-requires
     add-age
     loop-less

@@ -15,26 +15,17 @@ abbrev μ-loop : tie.MeasureT-loop
 loop-holds : tie.Need-loop-holds Inv-loop μ-loop
 loop-holds c = search needs
 
-level-at-requires : tie.Need-level-at-requires Inv-loop μ-loop
-level-at-requires c κs = search needs
+age-of-runs-requires : tie.Need-age-of-runs-requires Inv-loop μ-loop
+age-of-runs-requires c κs = search needs
 
 print-number-requires : tie.Need-print-number-requires Inv-loop μ-loop
 print-number-requires c κs = search needs
 
-slope-at-requires : tie.Need-slope-at-requires Inv-loop μ-loop
-slope-at-requires c κs = search needs
-
 print-number-requires-2 : tie.Need-print-number-requires-2 Inv-loop μ-loop
 print-number-requires-2 c κs = search needs
 
-alpha-at-requires : tie.Need-alpha-at-requires Inv-loop μ-loop
-alpha-at-requires c κs = search needs
-
 print-number-requires-3 : tie.Need-print-number-requires-3 Inv-loop μ-loop
 print-number-requires-3 c κs = search needs
-
-beta-at-requires : tie.Need-beta-at-requires Inv-loop μ-loop
-beta-at-requires c κs = search needs
 
 print-number-requires-4 : tie.Need-print-number-requires-4 Inv-loop μ-loop
 print-number-requires-4 c κs = search needs
@@ -58,13 +49,10 @@ print-ages-spec =
     Inv-loop
     μ-loop
     loop-holds
-    level-at-requires
+    age-of-runs-requires
     print-number-requires
-    slope-at-requires
     print-number-requires-2
-    alpha-at-requires
     print-number-requires-3
-    beta-at-requires
     print-number-requires-4
     add-x
     loop-less

@@ -1,63 +1,39 @@
--- `ceil_div` meets its contract: above zero its result is one more than a quotient of the distance to 1, else the
--- quotient itself, and nothing overflows.
-use native.Mathlib.Omega.{arith}
-use mir.Facts.{toZ-ofZ}
-use Rattle.whole.specs.Split.{split}
-use Rattle.whole.specs.Bound.{fits-range}
-use Rattle.whole.proofs.Rounding.{sealed, less-true, less-false, sfits-diff, sfits-quot, divisor-bits}
-use Rattle.whole.proofs.Rounding.{ceil-plain, sfits-ceil-outward, ceil-outward}
+-- `ceil_div` meets its contract: above zero it goes one step up from a quotient, else it is the quotient, and nothing overflows.
+use mathlib.Core.Path.{_∙_}
+use lib.IntN.{pos, natAbs}
+use Rattle.whole.specs.Division.{ceilDiv}
+use Rattle.whole.proofs.Rounding.{above-zero, not-above-zero, divisor-bits, ceil-plain, ceil-away, Away, quotient}
+use Rattle.whole.proofs.Rounding.{first-fits, quotient-fits, last-fits, last-is}
 use Rattle.whole.proofs.ceil_div.Statement.{statement}
 use Rattle.whole.proofs.ceil_div.Tie as tie
 
+away : (c : tie.Then1) → let s = c .before in Away (pos 1) (s .args .n) (s .args .d) (ceilDiv (s .args .n) (natAbs (s .args .d)))
+away c = let s = c .before in ceil-away (above-zero (s .fits .n) (c .if1 .taken)) (s .pre) (s .fits .n)
+
 sub-result : tie.Need-sub-result
-sub-result c =
-    let n = toZ-ofZ (c .before .fits .n) in
-    let r = fits-range (c .before .fits .n) in
-    let h = less-true (simp (n, sealed) at (c .if1 .taken)) in
-    simp (n, sealed) (sfits-diff _ _ (omega split) (omega split))
+sub-result c = let s = c .before in first-fits (s .fits .n) (s .fits .d) (s .pre) (away c)
 
 div-result : tie.Need-div-result
 div-result c =
-    let n = toZ-ofZ (c .before .fits .n) in
-    let d = toZ-ofZ (c .before .fits .d) in
-    let f = simp (n, sealed) at (sub-result c) in
-    (divisor-bits (c .before .pre), simp (n, d, toZ-ofZ f, sealed) (sfits-quot _ _ f (c .before .pre)))
+    let s = c .before in
+    (divisor-bits (s .pre), quotient-fits (s .fits .n) (s .fits .d) (s .pre) (away c))
 
-add-result : tie.Need-add-result
-add-result c =
-    let n = toZ-ofZ (c .before .fits .n) in
-    let d = toZ-ofZ (c .before .fits .d) in
-    let f = simp (n, sealed) at (sub-result c) in
-    let g = simp (n, d, toZ-ofZ f, sealed) at (div-result c .1) in
-    let h = less-true (simp (n, sealed) at (c .if1 .taken)) in
-    simp (n, d, toZ-ofZ f, toZ-ofZ g, sealed)
-    (sfits-ceil-outward _ _ _ _ (omega split) (c .before .pre) (omega arith) (c .before .fits .n))
+sub-result-2 : tie.Need-sub-result-2
+sub-result-2 c = let s = c .before in last-fits (s .fits .n) (s .fits .d) (s .pre) (away c)
 
 returns : tie.Need-returns
-returns c =
-    let n = toZ-ofZ (c .before .fits .n) in
-    let d = toZ-ofZ (c .before .fits .d) in
-    let f = simp (n, sealed) at (sub-result c) in
-    let g = simp (n, d, toZ-ofZ f, sealed) at (div-result c .1) in
-    let k = simp (n, d, toZ-ofZ f, toZ-ofZ g, sealed) at (add-result c) in
-    let h = less-true (simp (n, sealed) at (c .if1 .taken)) in
-    simp (n, d, toZ-ofZ f, toZ-ofZ g, toZ-ofZ k, sealed)
-    (ceil-outward _ _ _ _ (omega split) (c .before .pre) (omega arith))
+returns c = let s = c .before in last-is (s .fits .n) (s .fits .d) (s .pre) (away c)
 
 div-result-2 : tie.Need-div-result-2
 div-result-2 c =
-    let n = toZ-ofZ (c .before .fits .n) in
-    let d = toZ-ofZ (c .before .fits .d) in
-    (divisor-bits (c .before .pre), simp (n, d, sealed) (sfits-quot _ _ (c .before .fits .n) (c .before .pre)))
+    let s = c .before in
+    (divisor-bits (s .pre), quotient (s .fits .n) (s .fits .d) (s .pre) .fits)
 
 returns-2 : tie.Need-returns-2
 returns-2 c =
-    let n = toZ-ofZ (c .before .fits .n) in
-    let d = toZ-ofZ (c .before .fits .d) in
-    let f = simp (n, d, sealed) at (div-result-2 c .1) in
-    let h = less-false (simp (n, sealed) at (c .if1 .left)) in
-    simp (n, d, toZ-ofZ f, sealed) (ceil-plain (omega split) (c .before .pre))
+    let s = c .before in
+    quotient (s .fits .n) (s .fits .d) (s .pre) .is ∙ ceil-plain (not-above-zero (s .fits .n) (c .if1 .left)) (s .pre)
 
 pub ceil-div-spec : {M : Type 1} → statement M
 ceil-div-spec =
-    tie.close (tie.spec sub-result div-result add-result returns div-result-2 returns-2)
+    tie.close (tie.spec sub-result div-result sub-result-2 returns div-result-2 returns-2)

@@ -1,0 +1,19 @@
+-- `survival_to_90` meets its contract: the exponential of minus the force.
+use mathlib.Core.Path.{ap, _∙_}
+use borrow.Author.Needs.{needs}
+use Rattle.expo.specs.Billionths.{billionths}
+use Rattle.expo.specs.Exponential.{expBetween}
+use Rattle.force.proofs.survival_to_90.Statement.{statement}
+use Rattle.force.proofs.survival_to_90.Tie as tie
+
+force-to-90-requires : tie.Need-force-to-90-requires
+force-to-90-requires c κs = search needs
+
+exp-between-requires : tie.Need-exp-between-requires
+exp-between-requires c κs = search needs
+
+returns : tie.Need-returns
+returns c = c .exp-between .ensures ∙ ap (expBetween billionths) (c .before .force-to-90 .ensures)
+
+pub survival-to-90-spec : {M : Type 1} → statement M
+survival-to-90-spec = tie.close (tie.spec force-to-90-requires exp-between-requires returns)
