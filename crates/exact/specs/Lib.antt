@@ -1,0 +1,9 @@
+-- definitions
+pub mod Value
+pub mod Figure
+-- the papers' examples
+pub mod Rows
+-- laws
+pub mod ValueLaws
+pub mod FigureLaws
+pub mod Rounding

@@ -1,0 +1,241 @@
+-- `old_factors` meets its contract. The loop's invariant: the first cells are in range and their factors stand in the array,
+-- and the year and its H are those of the next cell; the measure is the cells that are left.
+use mathlib.Core.Path.{_≡_, ap, sym, _∙_}
+use mathlib.Core.List.{List, []}
+use Prim.Native.Nat.{ℕ, _+_, _-_, _≤_}
+use native.Mathlib.Omega.{arith}
+use borrow.Author.Needs.{needs}
+use lib.IntN.{ℤ}
+use lib.ListN.{getD, set}
+use Rattle.whole.specs.Bound.{back}
+use Rattle.expo.specs.declared.Ends as code
+use Rattle.params.specs.declared.Params.{Params}
+use Rattle.params.specs.LimitsLaws.{in-limits-series}
+use Rattle.weights.specs.Weights.{firstClosed, lastClosed, weightRow}
+use Rattle.weights.specs.WeightLaws.{table-row}
+use Rattle.closure.specs.Rows.{row-within}
+use Rattle.folds.specs.Code.{mostFactors}
+use Rattle.mortality.specs.declared.Year.{Year}
+use Rattle.mortality.specs.declared.Fitted.{Fitted}
+use Rattle.mortality.specs.Code.{FittedOf, cellOf}
+use Rattle.mortality.specs.Answers.{old-cell}
+use Rattle.paths.specs.Path.{placeAt}
+use Rattle.factors.specs.declared.Path.{Path}
+use Rattle.factors.specs.Code.{PathWithin, Worked, YearAt}
+use Rattle.factors.proofs.Steps.{along, cellAt, worked-more, worked-out, worked-all, out-all, year-may, year-step}
+use Rattle.factors.proofs.old_factors.Statement.{statement}
+use Rattle.factors.proofs.old_factors.Tie as tie
+
+-- what holds on the way, whichever year the path began in
+record Going (p : Params) (w : ℕ → Path) (done₀ : ℕ) (ends₀ : List code.Ends) (year₀ : Year) (done : ℕ)
+    (ends : List code.Ends) (year : Year) (fitted : Fitted) : Type 0 where
+  so-far : (n : ℕ) → PathWithin p (w n) → Worked p (w n) ends₀ done₀ → YearAt p (w n) done₀ year₀
+      → Worked p (w n) ends done × YearAt p (w n) done year
+  above : firstClosed ≤ w 0 .age + done
+  heights : FittedOf p (year .number) fitted
+
+abbrev Inv-loop : tie.InvT-loop
+Inv-loop p cohort age count table done₀ ends₀ year₀ fitted₀ done ends year fitted =
+    Going p (λ (n : ℕ). along cohort age n count) done₀ ends₀ year₀ done ends year fitted
+
+abbrev μ-loop : tie.MeasureT-loop
+μ-loop p cohort age count table done₀ ends₀ year₀ fitted₀ done ends year fitted = count - done
+
+-- the function's start
+abbrev begun : tie.At-loop Inv-loop μ-loop → tie.Start Inv-loop μ-loop
+begun l = l .before .before .before .before .before
+
+-- the cells so far and the year of the next, of the function's own path
+so-far : (l : tie.At-loop Inv-loop μ-loop) → let s = begun l in
+    Worked (s .args .p) (s .args .path) (l .loop .ends) (l .loop .done) × YearAt (s .args .p) (s .args .path) (l .loop .done) (l .loop .year)
+so-far l =
+    let s = begun l in
+    l .loop .inv .so-far (s .args .path .year) (s .pre .0) (s .pre .1 .worked (s .pre .2)) (s .pre .1 .next (s .pre .2))
+
+short : (s : tie.Start Inv-loop μ-loop) → s .args .path .count ≤ mostFactors
+short s = omega (arith, s .pre .0 .ages)
+
+-- the age is closed, and its row is the table's
+closed : (t : tie.In-loop Inv-loop μ-loop) → let l = t .before in let x = begun l .args .path .age + l .loop .done in
+    (firstClosed ≤ x) × (x ≤ lastClosed)
+closed t =
+    let l = t .before in
+    (l .loop .inv .above, omega (arith, begun l .pre .0 .ages, t .loop-test .taken))
+
+row-is : (t : tie.In-loop Inv-loop μ-loop) → let l = t .before in let x = begun l .args .path .age + l .loop .done in
+    getD (l .before .before .before .before .table .result) (x - firstClosed) [] ≡ weightRow x
+row-is t =
+    let l = t .before in
+    ap (λ (rows : List (List ℤ)). getD rows (begun l .args .path .age + l .loop .done - firstClosed) [])
+    (l .before .before .before .before .table .ensures)
+    ∙ table-row (closed t .0) (closed t .1)
+
+-- the path, had it begun in year n
+abbrev from : tie.At-loop Inv-loop μ-loop → ℕ → Path
+from l n = let w = begun l .args .path in along (w .cohort) (w .age) n (w .count)
+
+-- so the cell is the path's
+cell-read : (c : tie.After-old-cell Inv-loop μ-loop) (n : ℕ) → let l = c .before .before .before in let s = begun l in
+    YearAt (s .args .p) (from l n) (l .loop .done) (l .loop .year)
+    → cellAt (s .args .p) (from l n) (l .loop .done) ≡ c .old-cell .result
+unfolding placeAt
+cell-read c n y =
+    let t = c .before .before in
+    let l = t .before in
+    let s = begun l in
+    let x = s .args .path .age + l .loop .done in
+    ap (cellOf (s .args .p) x) (sym (y .place (t .loop-test .taken)))
+    ∙ sym (rw (row-is t) at (c .old-cell .ensures) ∙ old-cell (l .loop .inv .heights) (closed t .0))
+
+table-requires : tie.Need-table-requires Inv-loop μ-loop
+table-requires c κs = search needs
+
+fitted-in-requires : tie.Need-fitted-in-requires Inv-loop μ-loop
+fitted-in-requires c κs = let s = c .before .before .before in s .pre .1 .next (s .pre .2) .year
+
+loop-holds : tie.Need-loop-holds Inv-loop μ-loop
+loop-holds c =
+    let s = c .before .before .before .before in
+    record {
+      so-far = λ n k a b. (a, b);
+      above = s .pre .1 .old (s .pre .2) (s .pre .3);
+      heights = c .fitted-in .ensures;
+    }
+
+add-row : tie.Need-add-row Inv-loop μ-loop
+add-row c = omega (arith, closed c)
+
+sub-row : tie.Need-sub-row Inv-loop μ-loop
+sub-row c = omega (arith, closed c)
+
+mul-row : tie.Need-mul-row Inv-loop μ-loop
+mul-row c = omega (arith, closed c)
+
+array-copy-out-row : tie.Need-array-copy-out-row Inv-loop μ-loop
+array-copy-out-row c = omega (arith, closed c)
+
+old-cell-requires : tie.Need-old-cell-requires Inv-loop μ-loop
+old-cell-requires c κs =
+    let t = c .before in
+    (rw (row-is t) (row-within (closed t .0) (closed t .1)), t .before .loop .inv .heights .limit)
+
+enum-known-e : tie.Need-enum-known-e Inv-loop μ-loop
+enum-known-e c = search needs
+
+enum-told : tie.Need-enum-told Inv-loop μ-loop
+enum-told c = search needs
+
+returns : tie.Need-returns Inv-loop μ-loop
+returns c =
+    let k = c .before .before in
+    let t = k .before .before in
+    let s = begun (t .before) in
+    out-all (worked-out (s .args .p) (s .args .path) (t .loop-test .taken)
+    (cell-read k (s .args .path .year) (so-far (t .before) .1) ∙ c .enum-told .given .1))
+
+-- the turn after its cell was in range
+abbrev turn : tie.After-known-told Inv-loop μ-loop → tie.In-loop Inv-loop μ-loop
+turn c = c .before .before .before .before .before
+
+mul-ends : tie.Need-mul-ends Inv-loop μ-loop
+mul-ends c = let t = turn c in omega (arith, t .loop-test .taken, short (begun (t .before)))
+
+array-set-from-ends : tie.Need-array-set-from-ends Inv-loop μ-loop
+array-set-from-ends c = let t = turn c in omega (arith, t .loop-test .taken, short (begun (t .before)))
+
+add-done : tie.Need-add-done Inv-loop μ-loop
+add-done c = let t = turn c in omega (arith, t .loop-test .taken, short (begun (t .before)))
+
+goes-on-requires : tie.Need-goes-on-requires Inv-loop μ-loop
+goes-on-requires c κs = search needs
+
+year-after-requires : tie.Need-year-after-requires Inv-loop μ-loop
+year-after-requires c κs =
+    let g = c .before .before in
+    let t = turn (g .before) in
+    let s = begun (t .before) in
+    let i = in-limits-series (s .args .p) (s .pre .0 .limits) in
+    λ on. rw (back (i .a) tt, back (i .index .theta) tt)
+    (year-may (s .pre .0) (so-far (t .before) .1) (t .loop-test .taken) (g .goes-on .ensures) on)
+
+-- one cell more, whichever year the path began in
+further : (c : tie.After-year-after Inv-loop μ-loop) → let g = c .before .before .before in let k = g .before in let t = turn k in
+    let l = t .before in let s = begun l in (n : ℕ) → PathWithin (s .args .p) (from l n)
+    → Worked (s .args .p) (from l n) (s .args .walk .ends) (s .args .walk .done) → YearAt (s .args .p) (from l n) (s .args .walk .done) (s .args .walk .year)
+    → Worked (s .args .p) (from l n) (set (l .loop .ends) (l .loop .done) (k .before .e .given .0 .0)) (l .loop .done + 1)
+    × YearAt (s .args .p) (from l n) (l .loop .done + 1) (c .year-after .result)
+further c n h a b =
+    let g = c .before .before .before in
+    let k = g .before in
+    let t = turn k in
+    let l = t .before in
+    let s = begun l in
+    let v = l .loop .inv .so-far n h a b in
+    let i = in-limits-series (s .args .p) (h .limits) in
+    let y = rw (back (i .a) tt, back (i .index .theta) tt) at (c .year-after .ensures) in (
+      worked-more (v .0) (short s) (t .loop-test .taken) (cell-read (k .before .before .before) n (v .1) ∙ k .before .e .given .1),
+      year-step h (v .1) (t .loop-test .taken) (g .goes-on .result) (g .goes-on .ensures) y,
+    )
+
+fitted-in-requires-2 : tie.Need-fitted-in-requires-2 Inv-loop μ-loop
+fitted-in-requires-2 c κs =
+    let y = c .before in
+    let s = begun (turn (y .before .before .before .before) .before) in
+    further y (s .args .path .year) (s .pre .0) (s .pre .1 .worked (s .pre .2)) (s .pre .1 .next (s .pre .2)) .1 .year
+
+loop-less : tie.Need-loop-less Inv-loop μ-loop
+loop-less c = omega (arith, turn (c .before .before .before .before .before .before) .loop-test .taken)
+
+loop-again : tie.Need-loop-again Inv-loop μ-loop
+loop-again c =
+    let y = c .before .before in
+    let t = turn (y .before .before .before .before) in
+    record { so-far = further y; above = omega (arith, t .before .loop .inv .above); heights = c .fitted-in2 .ensures }
+
+loop-less-2 : tie.Need-loop-less-2 Inv-loop μ-loop
+loop-less-2 c = omega (arith, turn (c .before .before .before .before .before) .loop-test .taken)
+
+loop-again-2 : tie.Need-loop-again-2 Inv-loop μ-loop
+loop-again-2 c =
+    let y = c .before in
+    let t = turn (y .before .before .before .before) in
+    let e : y .year-after .result ≡ t .before .loop .year = y .year-after .ensures .same (rw (c .if1 .left) tt) in
+    record {
+      so-far = further y;
+      above = omega (arith, t .before .loop .inv .above);
+      heights = rw e (t .before .loop .inv .heights);
+    }
+
+returns-2 : tie.Need-returns-2 Inv-loop μ-loop
+returns-2 c =
+    let l = c .before in
+    worked-all (so-far l .0) (omega (arith, so-far l .0 .some, c .loop-test .left))
+
+pub old-factors-spec : {M : Type 1} → statement M
+old-factors-spec =
+    tie.close
+    (tie.spec
+    Inv-loop
+    μ-loop
+    table-requires
+    fitted-in-requires
+    loop-holds
+    add-row
+    sub-row
+    mul-row
+    array-copy-out-row
+    old-cell-requires
+    enum-known-e
+    enum-told
+    returns
+    mul-ends
+    array-set-from-ends
+    add-done
+    goes-on-requires
+    year-after-requires
+    fitted-in-requires-2
+    loop-less
+    loop-again
+    loop-less-2
+    loop-again-2
+    returns-2)

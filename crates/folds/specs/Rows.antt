@@ -1,0 +1,36 @@
+-- Rows that are proved by computing.
+use mathlib.Core.Path.{_≡_, refl}
+use mathlib.Core.List.{List, [], _∷_, _++_}
+use Prim.Native.Nat.{ℕ}
+use lib.ListN.{replicate}
+use Rattle.whole.specs.Division.{ceilDivℕ}
+use Rattle.expo.specs.Grid.{Ends}
+use Rattle.expo.specs.Exponential.{total}
+use Rattle.expo.specs.Billionths.{billionths}
+use Rattle.folds.specs.Folds.{one, half, withFactor, survivalFrom, survivalOver, plus, sumOver, expectancyOver}
+use Rattle.folds.specs.Width.{spread, spreads}
+
+-- two factors with ends about e^(−1/e), as those of the flat sheet: 0.47914 over both years, and 1.67134 years
+factors : List Ends
+factors =
+    (record { lower = 692200612; upper = 692200644 }) ∷ (record { lower = 692200612; upper = 692200644 }) ∷ []
+
+two-years : survivalOver billionths factors ≡ record { lower = 479141687; upper = 479141732 }
+unfolding factors withFactor survivalFrom survivalOver one ceilDivℕ
+two-years = refl
+
+two-years-on-average : expectancyOver billionths factors ≡ record { lower = 1671342299; upper = 1671342376 }
+unfolding factors withFactor survivalFrom survivalOver one ceilDivℕ half plus sumOver expectancyOver
+two-years-on-average = refl
+
+-- the longest path: 91 factors at most 100 units wide and 30 at most 600
+widths : List ℕ
+widths = replicate 91 100 ++ replicate 30 600
+
+longest-survival : spread widths ≡ 27342
+unfolding widths spread
+longest-survival = refl
+
+longest-expectancy : spreads widths ≡ 985362
+unfolding widths spread spreads total
+longest-expectancy = refl

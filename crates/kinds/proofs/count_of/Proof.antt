@@ -1,0 +1,35 @@
+-- `count_of` meets its contract, case by case.
+use borrow.Author.Needs.{needs}
+use mathlib.Core.Path.{sym, ap}
+use Rattle.kinds.specs.declared.Fold.{Fold}
+use Rattle.kinds.specs.Kinds.{countOf}
+use Rattle.kinds.proofs.count_of.Statement.{statement}
+use Rattle.kinds.proofs.count_of.Tie as tie
+
+enum-told : tie.Need-enum-told
+enum-told c = search needs
+
+enum-told-2 : tie.Need-enum-told-2
+enum-told-2 c = search needs
+
+enum-told-3 : tie.Need-enum-told-3
+enum-told-3 c = search needs
+
+sub-result : tie.Need-sub-result
+sub-result c = search needs
+
+returns : tie.Need-returns
+unfolding countOf
+returns c = sym (ap (λ (f : Fold). countOf f (c .before .before .args .age) (c .before .before .args .span)) (c .enum-told .given .1))
+
+returns-2 : tie.Need-returns-2
+unfolding countOf
+returns-2 c = sym (ap (λ (f : Fold). countOf f (c .before .before .args .age) (c .before .before .args .span)) (c .enum-told2 .given .1))
+
+returns-3 : tie.Need-returns-3
+unfolding countOf
+returns-3 c = sym (ap (λ (f : Fold). countOf f (c .before .before .args .age) (c .before .before .args .span)) (c .enum-told3 .given .1))
+
+pub count-of-spec : {M : Type 1} → statement M
+count-of-spec =
+    tie.close (tie.spec enum-told enum-told-2 enum-told-3 sub-result returns returns-2 returns-3)

@@ -1,0 +1,76 @@
+-- `folded` meets its contract, case by case.
+use borrow.Author.Needs.{needs}
+use mathlib.Core.Path.{_≡_, sym, ap, _∙_}
+use lib.Dec.{lit<}
+use lib.ListN.{take}
+use Rattle.expo.specs.Billionths.{billionths}
+use Rattle.expo.specs.Code.{endsOf}
+use Rattle.folds.specs.Code.{listOf, AtMost}
+use Rattle.folds.specs.Bounds.{survival-at-most}
+use Rattle.force.specs.Force.{deathOf}
+use Rattle.paths.specs.Values.{foldOver}
+use Rattle.kinds.specs.declared.Fold.{Fold}
+use Rattle.kinds.specs.Kinds.{foldIs}
+use Rattle.kinds.proofs.folded.Statement.{statement}
+use Rattle.kinds.proofs.folded.Tie as tie
+
+enum-told : tie.Need-enum-told
+enum-told c = search needs
+
+survival-over-requires : tie.Need-survival-over-requires
+survival-over-requires c κs = search needs
+
+death-of-requires : tie.Need-death-of-requires
+death-of-requires c κs =
+    let e = c .before .before .before in
+    let h = survival-at-most billionths (lit< tt) (e .pre .each) in
+    let k : AtMost (billionths .unit) (endsOf (c .survival-over .result)) = rw (c .survival-over .ensures) h in
+    (k .lower, k .upper)
+
+enum-told-2 : tie.Need-enum-told-2
+enum-told-2 c = search needs
+
+survival-over-requires-2 : tie.Need-survival-over-requires-2
+survival-over-requires-2 c κs = search needs
+
+enum-told-3 : tie.Need-enum-told-3
+enum-told-3 c = search needs
+
+expectancy-over-requires : tie.Need-expectancy-over-requires
+expectancy-over-requires c κs = search needs
+
+-- the fold over the factors that the code's enum names
+at : (c : tie.Start) {f : Fold} → c .args .fold ≡ f
+    → foldOver (foldIs f) billionths (take (c .args .count) (listOf (c .args .factors)))
+    ≡ foldOver (foldIs (c .args .fold)) billionths (take (c .args .count) (listOf (c .args .factors)))
+at c e = ap (λ (f : Fold). foldOver (foldIs f) billionths (take (c .args .count) (listOf (c .args .factors)))) (sym e)
+
+returns : tie.Need-returns
+unfolding foldIs foldOver
+returns c =
+    let v = c .before in
+    c .death-of .ensures ∙ ap (deathOf billionths) (v .survival-over .ensures)
+    ∙ at (v .before .before .before) (v .before .enum-told .given .1)
+
+returns-2 : tie.Need-returns-2
+unfolding foldIs foldOver
+returns-2 c = c .survival-over2 .ensures ∙ at (c .before .before .before) (c .before .enum-told2 .given .1)
+
+returns-3 : tie.Need-returns-3
+unfolding foldIs foldOver
+returns-3 c = c .expectancy-over .ensures ∙ at (c .before .before .before) (c .before .enum-told3 .given .1)
+
+pub folded-spec : {M : Type 1} → statement M
+folded-spec =
+    tie.close
+    (tie.spec
+    enum-told
+    survival-over-requires
+    death-of-requires
+    enum-told-2
+    survival-over-requires-2
+    enum-told-3
+    expectancy-over-requires
+    returns
+    returns-2
+    returns-3)

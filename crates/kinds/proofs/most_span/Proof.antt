@@ -1,0 +1,35 @@
+-- `most_span` meets its contract, case by case.
+use borrow.Author.Needs.{needs}
+use mathlib.Core.Path.{sym, ap}
+use Rattle.kinds.specs.declared.Fold.{Fold}
+use Rattle.kinds.specs.Kinds.{mostSpan}
+use Rattle.kinds.proofs.most_span.Statement.{statement}
+use Rattle.kinds.proofs.most_span.Tie as tie
+
+enum-told : tie.Need-enum-told
+enum-told c = search needs
+
+enum-told-2 : tie.Need-enum-told-2
+enum-told-2 c = search needs
+
+sub-result : tie.Need-sub-result
+sub-result c = search needs
+
+enum-told-3 : tie.Need-enum-told-3
+enum-told-3 c = search needs
+
+returns : tie.Need-returns
+unfolding mostSpan
+returns c = sym (ap (λ (f : Fold). mostSpan f (c .before .before .args .age)) (c .enum-told .given .1))
+
+returns-2 : tie.Need-returns-2
+unfolding mostSpan
+returns-2 c = sym (ap (λ (f : Fold). mostSpan f (c .before .before .args .age)) (c .enum-told2 .given .1))
+
+returns-3 : tie.Need-returns-3
+unfolding mostSpan
+returns-3 c = sym (ap (λ (f : Fold). mostSpan f (c .before .before .args .age)) (c .enum-told3 .given .1))
+
+pub most-span-spec : {M : Type 1} → statement M
+most-span-spec =
+    tie.close (tie.spec enum-told enum-told-2 sub-result enum-told-3 returns returns-2 returns-3)

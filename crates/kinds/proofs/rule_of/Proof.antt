@@ -1,0 +1,56 @@
+-- `rule_of` meets its contract, case by case.
+use borrow.Author.Needs.{needs}
+use mathlib.Core.Path.{sym, ap}
+use Rattle.kinds.specs.Kinds.{ruleOf}
+use Rattle.kinds.proofs.rule_of.Statement.{statement}
+use Rattle.kinds.proofs.rule_of.Tie as tie
+
+enum-told : tie.Need-enum-told
+enum-told c = search needs
+
+enum-told-2 : tie.Need-enum-told-2
+enum-told-2 c = search needs
+
+enum-told-3 : tie.Need-enum-told-3
+enum-told-3 c = search needs
+
+enum-told-4 : tie.Need-enum-told-4
+enum-told-4 c = search needs
+
+enum-told-5 : tie.Need-enum-told-5
+enum-told-5 c = search needs
+
+returns : tie.Need-returns
+unfolding ruleOf
+returns c = sym (ap ruleOf (c .enum-told .given .1))
+
+returns-2 : tie.Need-returns-2
+unfolding ruleOf
+returns-2 c = sym (ap ruleOf (c .enum-told2 .given .1))
+
+returns-3 : tie.Need-returns-3
+unfolding ruleOf
+returns-3 c = sym (ap ruleOf (c .enum-told3 .given .1))
+
+returns-4 : tie.Need-returns-4
+unfolding ruleOf
+returns-4 c = sym (ap ruleOf (c .enum-told4 .given .1))
+
+returns-5 : tie.Need-returns-5
+unfolding ruleOf
+returns-5 c = sym (ap ruleOf (c .enum-told5 .given .1))
+
+pub rule-of-spec : {M : Type 1} → statement M
+rule-of-spec =
+    tie.close
+    (tie.spec
+    enum-told
+    enum-told-2
+    enum-told-3
+    enum-told-4
+    enum-told-5
+    returns
+    returns-2
+    returns-3
+    returns-4
+    returns-5)

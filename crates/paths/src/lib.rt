@@ -1,0 +1,1 @@
+// The path of a quote and its values are definitions and laws: see specs/.

@@ -1,0 +1,212 @@
+-- What the proofs of quotes share: tests of signed numbers, the refusal by its tests, and the ends of a path's value.
+use mathlib.Core.Path.{_≡_, refl, ap, sym, _∙_}
+use mathlib.Core.Bool.{Bool, true, false, cond}
+use mathlib.Core.List.{List, [], _∷_, _++_}
+use Prim.Native.Nat.{ℕ, zero, suc, _-_, _^_, _≤_, _<_}
+use native.Mathlib.Omega.{arith}
+use lib.Dec.{T, lit<, lit≤}
+use lib.IntN.{ℤ, pos, negsuc, natAbs, _-ℤ_}
+use lib.Ieee.Bits.{is-true}
+use lib.ListN.{length, take}
+use mir.Syntax.{w64}
+use mir.Val.{Fits, SFits}
+use mir.Facts.{toZ-ofZ}
+use lib.Signed.{_<ℤ_, nonNeg, leZ, ltZ, ltZ-yes, ltZ-no, clashℤ}
+use Rattle.whole.specs.Bound.{bits, Under, under-pos}
+use Rattle.whole.specs.Split.{split, split-sub}
+use Rattle.expo.specs.Grid.{Ends}
+use Rattle.expo.specs.Billionths.{billionths}
+use Rattle.expo.specs.BillionthsFacts.{billionths-sound}
+use Rattle.expo.specs.declared.Ends as code
+use Rattle.expo.specs.Code.{endsOf}
+use Rattle.params.specs.declared.Params.{Params}
+use Rattle.params.specs.declared.Refusal.{Refusal}
+use Rattle.params.specs.declared.Refusal.the-variants.{Accepted, Torn, OffScale, NoSuchAge, NoSuchYear, NoSuchSpan, Steep, Short}
+use Rattle.params.specs.Limits.{inLimits, startYear, lastYears}
+use Rattle.params.specs.Refusals.{refusalNumber}
+use Rattle.exact.specs.declared.Figure.{Figure}
+use Rattle.exact.specs.Figure.{figureOf}
+use Rattle.folds.specs.Code.{mostFactors, Chances, listOf}
+use Rattle.paths.specs.Path.{pathInRange, factors}
+use Rattle.paths.specs.Values.{gridValue}
+use Rattle.paths.specs.Answers.{path-length}
+use Rattle.paths.specs.Width.{factors-chances, value-small}
+use Rattle.factors.specs.declared.Path.{Path}
+use Rattle.factors.specs.Code.{PathWithin, pathIs}
+use Rattle.kinds.specs.declared.Kind.{Kind}
+use Rattle.kinds.specs.declared.Fold.{Fold}
+use Rattle.kinds.specs.declared.Fold.the-variants.{Death, Survival, Expectancy}
+use Rattle.kinds.specs.Kinds.{ruleOf, foldIs, stepOf}
+use Rattle.quote.specs.declared.Quote.{Quote}
+use Rattle.quote.specs.declared.Answer.{Answer}
+use Rattle.quote.specs.declared.Answer.the-variants.{Quoted, Refused}
+use Rattle.quote.specs.Quote.{ageInTable, yearInTable, spanInTable, queryPath, queryEnds, quoteOf, Test, firstFailed, tableTests, refusalOf, answerBy, answerOf}
+use Rattle.quote.specs.Code.{pathAnswer}
+use Rattle.quote.specs.Demand.{Demand3}
+use Rattle.quote.specs.Theorem.{demand-met}
+use Rattle.quote.specs.Tests.{InTable, kind-within}
+
+-- ---- a number below another is not at least it
+
+not-least : (b : Bool) {v low : ℤ} → v <ℤ low → leZ low v ≡ b → b ≡ false
+not-least true {v} {low} h q = absurd (clashℤ {a = v} {b = low} h (record { le = rw q tt }))
+not-least false h q = refl
+
+pub below-not-least : (v low : ℤ) → ltZ v low ≡ true → leZ low v ≡ false
+below-not-least v low e = not-least (leZ low v) {v = v} {low = low} (ltZ-yes (rw e tt)) refl
+
+pub not-below-least : (v low : ℤ) → ltZ v low ≡ false → leZ low v ≡ true
+not-below-least v low e = is-true (leZ low v) (ltZ-no {a = v} {b = low} (rw e tt) .le)
+
+-- ---- the refusal
+
+-- one that has a number is an answer, and the tests before it decide
+pub refused : (r : Refusal) (q : Quote) → (refusalNumber r ≡ 0 → ⊥) → Refused r ≡ answerBy r q
+unfolding answerBy refusalNumber
+refused Accepted q n = absurd (n refl)
+refused Torn q n = refl
+refused OffScale q n = refl
+refused NoSuchAge q n = refl
+refused NoSuchYear q n = refl
+refused NoSuchSpan q n = refl
+refused Steep q n = refl
+refused Short q n = refl
+
+pub accepted : (r : Refusal) → refusalNumber r ≡ 0 → r ≡ Accepted
+unfolding refusalNumber
+accepted Accepted e = refl
+accepted Torn e = absurd (omega arith)
+accepted OffScale e = absurd (omega arith)
+accepted NoSuchAge e = absurd (omega arith)
+accepted NoSuchYear e = absurd (omega arith)
+accepted NoSuchSpan e = absurd (omega arith)
+accepted Steep e = absurd (omega arith)
+accepted Short e = absurd (omega arith)
+
+-- tests after others count where those pass
+append-by : (b : Bool) (r : Refusal) {s t : Refusal} → (cond b s r ≡ Accepted → ⊥) → ((s ≡ Accepted → ⊥) → t ≡ s)
+    → cond b t r ≡ cond b s r
+append-by true r n h = h n
+append-by false r n h = refl
+
+failed-append : (ts us : List Test) → (firstFailed ts ≡ Accepted → ⊥) → firstFailed (ts ++ us) ≡ firstFailed ts
+unfolding firstFailed
+failed-append [] us n = absurd (n refl)
+failed-append (t ∷ ts) us n = append-by (t .passed) (t .refusal) n (failed-append ts us)
+
+first-passed : (t : Test) (ts : List Test) → T (t .passed) → firstFailed (t ∷ ts) ≡ firstFailed ts
+unfolding firstFailed
+first-passed t ts h = rw (is-true (t .passed) h)
+
+module _ (p : Params) (k : Kind) (age year span : ℤ) where
+  -- a set out of its limits
+  off-scale : inLimits p ≡ false → refusalOf p k age year span ≡ OffScale
+  unfolding refusalOf firstFailed
+  off-scale e = rw e
+
+  -- the table refuses
+  pub table-refuses : T (inLimits p) → (firstFailed (tableTests (ruleOf k) age year span) ≡ Accepted → ⊥)
+      → refusalOf p k age year span ≡ firstFailed (tableTests (ruleOf k) age year span)
+  unfolding refusalOf
+  table-refuses t n = first-passed _ _ t ∙ failed-append (tableTests (ruleOf k) age year span) _ n
+
+  -- the table has it, so the cells decide
+  pub cells-decide : T (inLimits p) → InTable (ruleOf k) age year span
+      → refusalOf p k age year span ≡ cond (pathInRange p (queryPath k age year span)) Accepted Steep
+  unfolding refusalOf firstFailed tableTests
+  cells-decide t h =
+      rw (
+        is-true (inLimits p) t,
+        is-true (ageInTable age) (h .age-in),
+        is-true (yearInTable (ruleOf k) year) (h .year-in),
+        is-true (spanInTable (ruleOf k) age span) (h .span-in),
+      )
+
+-- ---- a path's value
+
+-- its factors are chances, for which there is room
+pub first-of : (n : ℕ) (es : List code.Ends) → take n (listOf es) ≡ listOf (take n es)
+first-of zero es = refl
+first-of (suc n) [] = refl
+first-of (suc n) (e ∷ es) = ap (λ (l : List Ends). endsOf e ∷ l) (first-of n es)
+
+pub path-chances : {p : Params} {w : Path} {es : List code.Ends} → PathWithin p w
+    → listOf (take (w .count) es) ≡ factors billionths p (pathIs w) → Chances es (w .count)
+path-chances {p} {w} {es} h e =
+    record {
+      room = omega (arith, h .ages);
+      each = rw (first-of (w .count) es, e) (factors-chances billionths billionths-sound p (pathIs w));
+    }
+
+-- and its ends fit
+pub value-fits : {p : Params} {w : Path} (fold : Fold) → PathWithin p w
+    → let e = gridValue (foldIs fold) billionths p (pathIs w) in (e .lower < 2 ^ 62) × (e .upper < 2 ^ 62)
+value-fits {p} {w} fold h =
+    let l : length (pathIs w) ≤ mostFactors = rw (path-length (w .cohort) (w .age) (w .year) (w .count)) (omega (arith, h .ages)) in
+    let v = value-small billionths billionths-sound p (pathIs w) l (foldIs fold) in
+    (omega (arith, v .lower), omega (arith, v .upper))
+
+-- a step fits
+pub step-small : (f : Fold) → (0 < stepOf f) × (stepOf f ≤ 2 ^ 32)
+unfolding stepOf
+step-small Death = (lit< tt, lit≤ tt)
+step-small Survival = (lit< tt, lit≤ tt)
+step-small Expectancy = (lit< tt, lit≤ tt)
+
+-- a quote of ends that are e, with their figure
+pub quoted : (step : ℕ) {r : code.Ends} {e : Ends} {f : Figure} → endsOf r ≡ e
+    → f ≡ figureOf step (record { lower = r .lower; upper = r .upper })
+    → Quoted (record { lower = r .lower; upper = r .upper; figure = f })
+    ≡ Quoted (record { lower = e .lower; upper = e .upper; figure = figureOf step e })
+quoted step e g = rw (g, ← e)
+
+-- ---- the answer to a query, by that along its path
+
+decided : (b : Bool) (q : Quote) → cond b (Quoted q) (Refused Steep) ≡ answerBy (cond b Accepted Steep) q
+unfolding answerBy
+decided true q = refl
+decided false q = refl
+
+pub along-answer : (p : Params) (k : Kind) (age year span : ℤ) → T (inLimits p) → InTable (ruleOf k) age year span
+    → (w : Path) → pathIs w ≡ queryPath k age year span → pathAnswer p (ruleOf k .fold) w ≡ answerOf p k age year span
+unfolding pathAnswer answerOf quoteOf queryEnds
+along-answer p k age year span t h w e =
+    rw (e, cells-decide p k age year span t h) (decided (pathInRange p (queryPath k age year span)) (quoteOf p k age year span))
+
+-- the years of a kind
+pub years-under : (k : Kind) → Under (ruleOf k .years) lastYears
+years-under k = let w = kind-within k in rw (w .years-are) (under-pos (w .last))
+
+-- a set out of its limits
+pub refused-off-scale : (p : Params) (k : Kind) (age year span : ℤ) → inLimits p ≡ false
+    → Refused OffScale ≡ answerOf p k age year span
+unfolding answerOf answerBy
+refused-off-scale p k age year span e = rw (off-scale p k age year span e)
+
+-- an answer that is the definition's meets demand 3
+pub met : {p : Params} {k : Kind} {age year span : ℤ} {a : Answer} → a ≡ answerOf p k age year span
+    → (a ≡ answerOf p k age year span) × Demand3 p k age year span a
+met {p} {k} {age} {year} {span} e = (e, rw e (demand-met p k age year span))
+
+-- an answer that the table refuses
+number-none : refusalNumber Accepted ≡ 0
+unfolding refusalNumber
+number-none = refl
+
+pub table-answer : (p : Params) (k : Kind) (age year span : ℤ) {r : Refusal} → T (inLimits p)
+    → r ≡ firstFailed (tableTests (ruleOf k) age year span) → (refusalNumber r ≡ 0 → ⊥) → Refused r ≡ answerOf p k age year span
+unfolding answerOf
+table-answer p k age year span {r} t e n =
+    refused r (quoteOf p k age year span) n
+    ∙ ap (λ (s : Refusal). answerBy s (quoteOf p k age year span))
+    (e ∙ sym (table-refuses p k age year span t (λ a. n (ap refusalNumber (e ∙ a) ∙ number-none))))
+
+-- ---- numbers of a query that are at least 0, as the code casts them
+
+pub cast-whole : {z : ℤ} → SFits w64 z → pos (natAbs z) ≡ z → T (nonNeg (bits z)) × Fits w64 (natAbs (bits z))
+cast-whole {z = pos n} f e = rw (toZ-ofZ f) (tt, record { fits = omega (arith, f .sfits) })
+cast-whole {z = negsuc n} f e = absurd (let q : _≡_ {A = ℕ} 0 1 = cc in omega arith)
+
+pub years-from : {z : ℤ} → pos (natAbs z) ≡ z → startYear ≤ natAbs z → z -ℤ pos startYear ≡ pos (natAbs z - startYear)
+years-from {z = pos n} e l = omega (split, split-sub (pos n) (pos startYear))
+years-from {z = negsuc n} e l = absurd (let q : _≡_ {A = ℕ} 0 1 = cc in omega arith)

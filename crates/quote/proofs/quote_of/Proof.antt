@@ -1,0 +1,30 @@
+-- `quote_of` meets its contract: a set out of its limits is refused, any other is quoted, and every answer meets demand 3.
+use mathlib.Core.Path.{sym, _∙_}
+use borrow.Author.Needs.{needs}
+use borrow.Author.Tests.{not-true, not-false}
+use mir.Facts.{toZ-ofZ}
+use Rattle.quote.proofs.Steps.{refused-off-scale, met}
+use Rattle.quote.proofs.quote_of.Statement.{statement}
+use Rattle.quote.proofs.quote_of.Tie as tie
+
+in-limits-requires : tie.Need-in-limits-requires
+in-limits-requires c κs = search needs
+
+returns : tie.Need-returns
+returns c =
+    let s = c .before .before in
+    let e = sym (c .before .in-limits .ensures) ∙ not-true _ (c .if1 .taken) in
+    met (refused-off-scale (s .args .p) (s .args .kind) (s .args .age) (s .args .year) (s .args .span) e)
+
+quote-within-requires : tie.Need-quote-within-requires
+quote-within-requires c κs =
+    let e = sym (c .before .in-limits .ensures) ∙ not-false _ (c .if1 .left) in
+    rw e tt
+
+returns-2 : tie.Need-returns-2
+returns-2 c =
+    let f = c .before .before .before .fits in
+    met (rw (toZ-ofZ (f .age), toZ-ofZ (f .year), toZ-ofZ (f .span)) at (c .quote-within .ensures))
+
+pub quote-of-spec : {M : Type 1} → statement M
+quote-of-spec = tie.close (tie.spec in-limits-requires returns quote-within-requires returns-2)

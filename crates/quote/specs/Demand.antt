@@ -1,0 +1,81 @@
+-- What an answer reports, and what is promised of it (paper 01, "Figures on offer" and "The exact value").
+use mathlib.Core.Path.{_≡_}
+use mathlib.Core.Logic.{_↔_}
+use Prim.Native.Nat.{ℕ, _+_, _≤_}
+use lib.IntN.{ℤ, natAbs}
+use Rattle.expo.specs.Billionths.{billionths}
+use Rattle.expo.specs.BillionthsFacts.{billionths-sound}
+use Rattle.expo.specs.Overlap.{inUnits}
+use Rattle.params.specs.declared.Params.{Params}
+use Rattle.params.specs.Refusals.{refusalNumber}
+use Rattle.exact.specs.declared.Figure.{Figure}
+use Rattle.exact.specs.declared.Figure.the-variants.{Printed, Open}
+use Rattle.exact.specs.Value.{AtLeast, AtMost, RoundsTo, OneStep, Narrows}
+use Rattle.exact.specs.Figure.{halfUp}
+use Rattle.kinds.specs.declared.Kind.{Kind}
+use Rattle.kinds.specs.Kinds.{ruleOf, stepOf, widthOf}
+use Rattle.quote.specs.declared.Answer.{Answer}
+use Rattle.quote.specs.declared.Answer.the-variants.{Quoted, Refused}
+use Rattle.quote.specs.Quote.{queryEnds, exactQuery, refusalOf, answerOf}
+
+-- ---- the number, the ends and the figure of an answer: "A refusal has its number, ends 0 and 0, no figure"
+
+-- the figure that is shown
+pub data Shown : Type 0 where
+  printed : ℕ → Shown
+  markedOpen : Shown
+  noFigure : Shown
+
+unfoldable pub shownOf : Figure → Shown
+shownOf (Printed n) = printed n
+shownOf Open = markedOpen
+
+unfoldable pub numberOf : Answer → ℕ
+numberOf (Quoted q) = 0
+numberOf (Refused r) = refusalNumber r
+
+unfoldable pub lowerOf : Answer → ℕ
+lowerOf (Quoted q) = q .lower
+lowerOf (Refused r) = 0
+
+unfoldable pub upperOf : Answer → ℕ
+upperOf (Quoted q) = q .upper
+upperOf (Refused r) = 0
+
+unfoldable pub figureShown : Answer → Shown
+figureShown (Quoted q) = shownOf (q .figure)
+figureShown (Refused r) = noFigure
+
+-- ---- demand 3
+
+-- units in a step of the kind's figures
+abbrev pub step : Kind → ℕ
+step kind = stepOf (ruleOf kind .fold)
+
+-- the exact value of a query rounds to n steps
+abbrev pub RoundsAt : Params → Kind → ℤ → ℤ → ℤ → ℕ → Type 0
+RoundsAt p kind age year span n = RoundsTo billionths billionths-sound (step kind) n (exactQuery p kind age year span)
+
+-- of an accepted quote: the ends are the grid's; the exact value is at least the lower one and at most the upper one, which
+-- lie no further apart than the kind allows; its brackets narrow past any whole fraction; and the figure is open exactly when
+-- the two ends round half up to different steps
+pub record Kept (p : Params) (kind : Kind) (age year span : ℤ) (a : Answer) : Type 0 where
+  pub of-grid : (lowerOf a ≡ queryEnds p kind age year span .lower) × (upperOf a ≡ queryEnds p kind age year span .upper)
+  pub at-least : AtLeast (exactQuery p kind age year span) (inUnits billionths billionths-sound (lowerOf a))
+  pub at-most : AtMost (exactQuery p kind age year span) (inUnits billionths billionths-sound (upperOf a))
+  pub width : upperOf a ≤ lowerOf a + widthOf (ruleOf kind .fold) (natAbs age)
+  pub narrows : Narrows (exactQuery p kind age year span)
+  pub open-when : (figureShown a ≡ markedOpen) ↔ (halfUp (step kind) (lowerOf a) ≡ halfUp (step kind) (upperOf a) → ⊥)
+
+-- "Demand 3 is one claim over any two accepted quotes of one kind": a has the number of its refusal, and 0 where it is
+-- accepted; refused, it has ends 0 and 0 and no figure; accepted, it is kept; a printed figure is the exact value rounded half
+-- up; and of any second quote of the kind that is printed, whichever its set, age, year and span, the figures are equal
+-- exactly when the two exact values round to one same step
+pub record Demand3 (p : Params) (kind : Kind) (age year span : ℤ) (a : Answer) : Type 0 where
+  pub number : numberOf a ≡ refusalNumber (refusalOf p kind age year span)
+  pub refused : (numberOf a ≡ 0 → ⊥) → (lowerOf a ≡ 0) × (upperOf a ≡ 0) × (figureShown a ≡ noFigure)
+  pub kept : numberOf a ≡ 0 → Kept p kind age year span a
+  pub rounds : (n : ℕ) → figureShown a ≡ printed n → RoundsAt p kind age year span n
+  pub one-step : (n : ℕ) → figureShown a ≡ printed n
+      → (p′ : Params) (age′ year′ span′ : ℤ) (n′ : ℕ) → figureShown (answerOf p′ kind age′ year′ span′) ≡ printed n′
+      → (n ≡ n′) ↔ OneStep billionths billionths-sound (step kind) (exactQuery p kind age year span) (exactQuery p′ kind age′ year′ span′)

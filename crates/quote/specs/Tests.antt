@@ -1,0 +1,144 @@
+-- What a query has that no test refuses: a set in its limits, an age, a year and a span of the table, and a path that is
+-- answered.
+use mathlib.Core.Path.{_≡_, refl}
+use mathlib.Core.Bool.{Bool, true, false, cond}
+use Prim.Native.Nat.{ℕ, suc, _+_, _-_, _≤_, _<_}
+use native.Mathlib.Omega.{arith}
+use lib.Dec.{T, leb→le}
+use lib.IntN.{ℤ, pos, negsuc, natAbs}
+use lib.Signed.{leZ}
+use mir.Facts.{and-yes}
+use Rattle.params.specs.declared.Params.{Params}
+use Rattle.params.specs.declared.Refusal.{Refusal}
+use Rattle.params.specs.declared.Refusal.the-variants.{Accepted}
+use Rattle.params.specs.Limits.{inLimits, startYear, lastYears}
+use Rattle.weights.specs.Weights.{lastClosed}
+use Rattle.paths.specs.Path.{placeAt, pathInRange}
+use Rattle.paths.specs.Answers.{AnsweredPath, path-years, path-answered}
+use Rattle.kinds.specs.declared.Kind.{Kind}
+use Rattle.kinds.specs.declared.Kind.the-variants as kind
+use Rattle.kinds.specs.declared.Rule.{Rule}
+use Rattle.kinds.specs.Kinds.{ruleOf, mostSpan, countOf}
+use Rattle.quote.specs.Quote.{between, ageInTable, yearInTable, spanInTable, queryPath, firstFailed, tableTests, refusalOf}
+
+-- ---- the tests
+
+-- where the first failed is none, the first passed, and so did the others
+passed : (b : Bool) {r s : Refusal} → (r ≡ Accepted → ⊥) → cond b s r ≡ Accepted → T b × (s ≡ Accepted)
+passed true n e = (tt, e)
+passed false n e = absurd (n e)
+
+pub record InTable (rule : Rule) (age year span : ℤ) : Type 0 where
+  pub age-in : T (ageInTable age)
+  pub year-in : T (yearInTable rule year)
+  pub span-in : T (spanInTable rule age span)
+
+pub in-table : (rule : Rule) (age year span : ℤ) → firstFailed (tableTests rule age year span) ≡ Accepted
+    → InTable rule age year span
+unfolding firstFailed tableTests
+in-table rule age year span e =
+    let a = passed (ageInTable age) (λ q. let z : _≡_ {A = ℕ} 0 1 = cc in omega arith) e in
+    let y = passed (yearInTable rule year) (λ q. let z : _≡_ {A = ℕ} 0 1 = cc in omega arith) (a .1) in
+    let s = passed (spanInTable rule age span) (λ q. let z : _≡_ {A = ℕ} 0 1 = cc in omega arith) (y .1) in
+    record { age-in = a .0; year-in = y .0; span-in = s .0 }
+
+pub record Passed (p : Params) (k : Kind) (age year span : ℤ) : Type 0 where
+  pub limits : T (inLimits p)
+  pub table : InTable (ruleOf k) age year span
+  pub range : T (pathInRange p (queryPath k age year span))
+
+pub all-passed : (p : Params) (k : Kind) (age year span : ℤ) → refusalOf p k age year span ≡ Accepted → Passed p k age year span
+unfolding refusalOf firstFailed tableTests
+all-passed p k age year span e =
+    let l = passed (inLimits p) (λ q. let z : _≡_ {A = ℕ} 0 1 = cc in omega arith) e in
+    let a = passed (ageInTable age) (λ q. let z : _≡_ {A = ℕ} 0 1 = cc in omega arith) (l .1) in
+    let y = passed (yearInTable (ruleOf k) year) (λ q. let z : _≡_ {A = ℕ} 0 1 = cc in omega arith) (a .1) in
+    let s = passed (spanInTable (ruleOf k) age span) (λ q. let z : _≡_ {A = ℕ} 0 1 = cc in omega arith) (y .1) in
+    let r = passed (pathInRange p (queryPath k age year span)) (λ q. let z : _≡_ {A = ℕ} 0 1 = cc in omega arith) (s .1) in
+    record { limits = l .0; table = record { age-in = a .0; year-in = y .0; span-in = s .0 }; range = r .0 }
+
+-- ---- the numbers of a query in the table
+
+-- a number between two that are at least 0
+pub within : (a b : ℕ) (z : ℤ) → T (between (pos a) (pos b) z) → (pos (natAbs z) ≡ z) × (a ≤ natAbs z) × (natAbs z ≤ b)
+within a b (pos n) t =
+    let k = and-yes (leZ (pos a) (pos n)) (leZ (pos n) (pos b)) t in
+    (refl, leb→le a n (k .0), leb→le n b (k .1))
+within a b (negsuc n) t = absurd (and-yes (leZ (pos a) (negsuc n)) (leZ (negsuc n) (pos b)) t .0)
+
+-- a kind's last year, and how long its path may be
+pub record KindWithin (k : Kind) : Type 0 where
+  pub years : ℕ
+  pub years-are : ruleOf k .years ≡ pos years
+  pub last : years ≤ lastYears
+  pub ages : (x s : ℕ) → x ≤ lastClosed → s ≤ mostSpan (ruleOf k .fold) x → x + countOf (ruleOf k .fold) x s ≤ suc lastClosed
+  pub cohort : (x s : ℕ) → x ≤ lastClosed → s ≤ mostSpan (ruleOf k .fold) x
+      → years + countOf (ruleOf k .fold) x s ≤ suc lastYears
+
+pub kind-within : (k : Kind) → KindWithin k
+unfolding ruleOf mostSpan countOf
+kind-within kind.Death =
+    record { years = _; years-are = refl; last = omega arith; ages = λ x s h l. omega arith; cohort = λ x s h l. omega arith }
+kind-within kind.CohortSurvival =
+    record { years = _; years-are = refl; last = omega arith; ages = λ x s h l. omega arith; cohort = λ x s h l. omega arith }
+kind-within kind.PeriodSurvival =
+    record { years = _; years-are = refl; last = omega arith; ages = λ x s h l. omega arith; cohort = λ x s h l. omega arith }
+kind-within kind.CohortExpectancy =
+    record { years = _; years-are = refl; last = omega arith; ages = λ x s h l. omega arith; cohort = λ x s h l. omega arith }
+kind-within kind.PeriodExpectancy =
+    record { years = _; years-are = refl; last = omega arith; ages = λ x s h l. omega arith; cohort = λ x s h l. omega arith }
+
+-- the query's numbers as the table counts them
+pub record Counted (k : Kind) (age year span : ℤ) : Type 0 where
+  pub age-is : pos (natAbs age) ≡ age
+  pub age-in : natAbs age ≤ lastClosed
+  pub year-is : pos (natAbs year) ≡ year
+  pub year-from : startYear ≤ natAbs year
+  pub year-to : natAbs year ≤ startYear + kind-within k .years
+  pub span-is : pos (natAbs span) ≡ span
+  pub span-in : natAbs span ≤ mostSpan (ruleOf k .fold) (natAbs age)
+
+pub counted : (k : Kind) {age year span : ℤ} → InTable (ruleOf k) age year span → Counted k age year span
+unfolding ageInTable yearInTable spanInTable
+counted k {age} {year} {span} t =
+    let w = kind-within k in
+    let a = within 0 lastClosed age (t .age-in) in
+    let y = within _ _ year (rw (w .years-are) at (t .year-in)) in
+    let s = within 0 (mostSpan (ruleOf k .fold) (natAbs age)) span (t .span-in) in
+    record {
+      age-is = a .0;
+      age-in = a .2;
+      year-is = y .0;
+      year-from = omega (arith, y .1);
+      year-to = y .2;
+      span-is = s .0;
+      span-in = s .2;
+    }
+
+-- ---- its path
+
+module _ (k : Kind) {age year span : ℤ} (c : Counted k age year span) where
+  abbrev x : ℕ
+  x = natAbs age
+
+  abbrev n : ℕ
+  n = natAbs year - startYear
+
+  abbrev count : ℕ
+  count = countOf (ruleOf k .fold) x (natAbs span)
+
+  pub path-ages : x + count ≤ suc lastClosed
+  path-ages = kind-within k .ages x (natAbs span) (c .age-in) (c .span-in)
+
+  pub path-first : n ≤ lastYears
+  path-first = omega (arith, c .year-to, kind-within k .last)
+
+  pub path-in : (s : ℕ) → s < count → placeAt (ruleOf k .cohort) x n s .year ≤ lastYears
+  path-in = path-years (ruleOf k .cohort) x n count path-first
+      (λ e. omega (arith, c .year-to, kind-within k .cohort x (natAbs span) (c .age-in) (c .span-in)))
+
+pub query-answered : {p : Params} {k : Kind} {age year span : ℤ} → Passed p k age year span → AnsweredPath p (queryPath k age year span)
+unfolding queryPath
+query-answered {p} {k} {age} {year} {span} h =
+    let c = counted k (h .table) in
+    path-answered p (ruleOf k .cohort) (natAbs age) (natAbs year - startYear) _ (h .limits) (path-ages k c) (path-in k c) (h .range)

@@ -1,0 +1,179 @@
+-- Every answer meets demand 3, and the claim over two quotes by itself.
+use mathlib.Core.Path.{_≡_, refl, ap}
+use mathlib.Core.Logic.{_↔_}
+use mathlib.Core.Bool.{Bool}
+use Prim.Native.Nat.{ℕ, suc, _+_, _-_, _≤_, _<_}
+use native.Mathlib.Omega.{arith}
+use lib.Dec.{lit<}
+use lib.IntN.{ℤ, natAbs}
+use Rattle.expo.specs.Billionths.{billionths}
+use Rattle.expo.specs.BillionthsFacts.{billionths-sound}
+use Rattle.params.specs.declared.Params.{Params}
+use Rattle.params.specs.declared.Refusal.{Refusal}
+use Rattle.params.specs.declared.Refusal.the-variants.{Accepted, Torn, OffScale, NoSuchAge, NoSuchYear, NoSuchSpan, Steep, Short}
+use Rattle.params.specs.Limits.{startYear}
+use Rattle.weights.specs.Weights.{lastClosed}
+use Rattle.params.specs.Refusals.{refusalNumber}
+use Rattle.exact.specs.declared.Figure.{Figure}
+use Rattle.exact.specs.declared.Figure.the-variants.{Printed, Open}
+use Rattle.exact.specs.Value.{OneStep}
+use Rattle.exact.specs.ValueLaws.{overlap-at-least, overlap-at-most}
+use Rattle.exact.specs.Figure.{figureOf}
+use Rattle.exact.specs.FigureLaws.{figure-printed, figure-open}
+use Rattle.exact.specs.Rounding.{printed-rounds, same-step}
+use Rattle.paths.specs.Values as path
+use Rattle.paths.specs.Path.{pathOf}
+use Rattle.paths.specs.Answers.{AnsweredPath}
+use Rattle.paths.specs.Holds.{value-holds}
+use Rattle.paths.specs.Narrowing.{value-narrows}
+use Rattle.paths.specs.Width.{death-limit, survival-limit, expectancy-limit}
+use Rattle.kinds.specs.declared.Kind.{Kind}
+use Rattle.kinds.specs.declared.Fold.{Fold}
+use Rattle.kinds.specs.declared.Fold.the-variants.{Death, Survival, Expectancy}
+use Rattle.kinds.specs.Kinds.{ruleOf, foldIs, countOf, stepOf, widthOf}
+use Rattle.quote.specs.declared.Quote.{Quote}
+use Rattle.quote.specs.declared.Answer.{Answer}
+use Rattle.quote.specs.declared.Answer.the-variants.{Quoted, Refused}
+use Rattle.quote.specs.Quote.{queryPath, queryEnds, exactQuery, refusalOf, quoteOf, answerBy, answerOf}
+use Rattle.quote.specs.Demand.{printed, markedOpen, noFigure, shownOf, numberOf, lowerOf, upperOf, figureShown, step, RoundsAt, Kept, Demand3}
+use Rattle.quote.specs.Tests.{Passed, all-passed, counted, path-ages, query-answered}
+
+-- ---- which answers are quotes
+
+-- an answer has the number of its refusal
+answer-number : (r : Refusal) (q : Quote) → numberOf (answerBy r q) ≡ refusalNumber r
+unfolding answerBy numberOf refusalNumber
+answer-number Accepted q = refl
+answer-number Torn q = refl
+answer-number OffScale q = refl
+answer-number NoSuchAge q = refl
+answer-number NoSuchYear q = refl
+answer-number NoSuchSpan q = refl
+answer-number Steep q = refl
+answer-number Short q = refl
+
+-- an answer with a number has ends 0 and 0 and no figure
+refused-empty : (a : Answer) → (numberOf a ≡ 0 → ⊥) → (lowerOf a ≡ 0) × (upperOf a ≡ 0) × (figureShown a ≡ noFigure)
+unfolding numberOf lowerOf upperOf figureShown
+refused-empty (Quoted q) n = absurd (n refl)
+refused-empty (Refused r) n = (refl, refl, refl)
+
+-- an answer with no number is a quote
+no-number : (r : Refusal) (q : Quote) → numberOf (answerBy r q) ≡ 0 → r ≡ Accepted
+unfolding answerBy numberOf refusalNumber
+no-number Accepted q e = refl
+no-number Torn q e = absurd (omega arith)
+no-number OffScale q e = absurd (omega arith)
+no-number NoSuchAge q e = absurd (omega arith)
+no-number NoSuchYear q e = absurd (omega arith)
+no-number NoSuchSpan q e = absurd (omega arith)
+no-number Steep q e = absurd (omega arith)
+no-number Short q e = absurd (omega arith)
+
+-- and so is one with a figure
+no-refusal : {n : ℕ} → noFigure ≡ printed n → ⊥
+no-refusal e = let z : _≡_ {A = ℕ} 0 1 = cc in omega arith
+
+printed-quote : (r : Refusal) (q : Quote) {n : ℕ} → figureShown (answerBy r q) ≡ printed n → (r ≡ Accepted) × (shownOf (q .figure) ≡ printed n)
+unfolding answerBy figureShown
+printed-quote Accepted q e = (refl, e)
+printed-quote Torn q e = absurd (no-refusal e)
+printed-quote OffScale q e = absurd (no-refusal e)
+printed-quote NoSuchAge q e = absurd (no-refusal e)
+printed-quote NoSuchYear q e = absurd (no-refusal e)
+printed-quote NoSuchSpan q e = absurd (no-refusal e)
+printed-quote Steep q e = absurd (no-refusal e)
+printed-quote Short q e = absurd (no-refusal e)
+
+printed-figure : (f : Figure) {n : ℕ} → shownOf f ≡ printed n → f ≡ Printed n
+unfolding shownOf
+printed-figure (Printed m) {n} e = let k : m ≡ n = cc in ap Printed k
+printed-figure Open e = let z : _≡_ {A = ℕ} 0 1 = cc in absurd (omega arith)
+
+open-figure : (f : Figure) → (shownOf f ≡ markedOpen) ↔ (f ≡ Open)
+unfolding shownOf
+open-figure (Printed m) = (λ e. let z : _≡_ {A = ℕ} 0 1 = cc in absurd (omega arith), λ e. let z : _≡_ {A = ℕ} 0 1 = cc in absurd (omega arith))
+open-figure Open = (λ e. refl, λ e. refl)
+
+step-positive : (f : Fold) → 0 < stepOf f
+unfolding stepOf
+step-positive Death = lit< tt
+step-positive Survival = lit< tt
+step-positive Expectancy = lit< tt
+
+-- ---- an accepted query
+
+-- its ends lie no further apart than its fold allows
+fold-width : (f : Fold) {p : Params} (cohort : Bool) (x n span : ℕ) → x + countOf f x span ≤ suc lastClosed
+    → AnsweredPath p (pathOf cohort x n (countOf f x span))
+    → let e = path.gridValue (foldIs f) billionths p (pathOf cohort x n (countOf f x span)) in e .upper ≤ e .lower + widthOf f x
+unfolding foldIs countOf widthOf
+fold-width Death cohort x n span l a = death-limit cohort x n a
+fold-width Survival cohort x n span l a = survival-limit cohort x n span l a
+fold-width Expectancy cohort x n span l a = expectancy-limit cohort x n _ l a
+
+module _ {p : Params} {k : Kind} {age year span : ℤ} (h : Passed p k age year span) where
+  query-width : queryEnds p k age year span .upper ≤ queryEnds p k age year span .lower + widthOf (ruleOf k .fold) (natAbs age)
+  unfolding queryEnds queryPath
+  query-width =
+      fold-width (ruleOf k .fold) (ruleOf k .cohort) (natAbs age) (natAbs year - startYear) (natAbs span)
+      (path-ages k (counted k (h .table))) (query-answered h)
+
+  query-kept : Kept p k age year span (Quoted (quoteOf p k age year span))
+  unfolding lowerOf upperOf figureShown quoteOf queryEnds exactQuery
+  query-kept =
+      let a = query-answered h in
+      let f = foldIs (ruleOf k .fold) in
+      let o = figure-open (step k) (queryEnds p k age year span) in
+      let w = open-figure (figureOf (step k) (queryEnds p k age year span)) in
+      record {
+        of-grid = (refl, refl);
+        at-least = overlap-at-least (λ j l. value-holds a j l f);
+        at-most = overlap-at-most (λ j l. value-holds a j l f);
+        width = query-width;
+        narrows = value-narrows a f;
+        open-when = (λ e. o .0 (w .0 e), λ e. w .1 (o .1 e));
+      }
+
+  -- a printed figure is the exact value rounded half up
+  query-rounds : {n : ℕ} → figureOf (step k) (queryEnds p k age year span) ≡ Printed n → RoundsAt p k age year span n
+  unfolding queryEnds exactQuery
+  query-rounds e =
+      let a = query-answered h in
+      let f = foldIs (ruleOf k .fold) in
+      let g = figure-printed (step k) (queryEnds p k age year span) e in
+      printed-rounds (queryEnds p k age year span) (step-positive (ruleOf k .fold)) (overlap-at-least (λ j l. value-holds a j l f))
+      (overlap-at-most (λ j l. value-holds a j l f)) (value-narrows a f) (g .0) (g .1)
+
+-- ---- the theorems
+
+-- a printed figure of any query is its exact value rounded half up
+pub figure-rounds : (p : Params) (k : Kind) (age year span : ℤ) {n : ℕ} → figureShown (answerOf p k age year span) ≡ printed n
+    → RoundsAt p k age year span n
+unfolding answerOf quoteOf
+figure-rounds p k age year span e =
+    let q = printed-quote (refusalOf p k age year span) (quoteOf p k age year span) e in
+    query-rounds (all-passed p k age year span (q .0)) (printed-figure _ (q .1))
+
+-- two printed figures of one kind, whichever sets, ages, years and spans they come from, are equal exactly when their exact
+-- values round to one same step
+pub same-figure : (k : Kind) (p p′ : Params) (age year span age′ year′ span′ : ℤ) {n n′ : ℕ}
+    → figureShown (answerOf p k age year span) ≡ printed n → figureShown (answerOf p′ k age′ year′ span′) ≡ printed n′
+    → (n ≡ n′) ↔ OneStep billionths billionths-sound (step k) (exactQuery p k age year span) (exactQuery p′ k age′ year′ span′)
+same-figure k p p′ age year span age′ year′ span′ e e′ =
+    same-step (figure-rounds p k age year span e) (figure-rounds p′ k age′ year′ span′ e′)
+
+-- every answer meets demand 3
+pub demand-met : (p : Params) (k : Kind) (age year span : ℤ) → Demand3 p k age year span (answerOf p k age year span)
+unfolding answerOf answerBy
+demand-met p k age year span =
+    record {
+      number = answer-number (refusalOf p k age year span) (quoteOf p k age year span);
+      refused = refused-empty (answerBy (refusalOf p k age year span) (quoteOf p k age year span));
+      kept = λ e. accepted (no-number (refusalOf p k age year span) (quoteOf p k age year span) e);
+      rounds = λ n e. figure-rounds p k age year span e;
+      one-step = λ n e p′ age′ year′ span′ n′ e′. same-figure k p p′ age year span age′ year′ span′ e e′;
+    }
+  where
+    accepted : refusalOf p k age year span ≡ Accepted → Kept p k age year span (answerBy (refusalOf p k age year span) (quoteOf p k age year span))
+    accepted r = rw r (query-kept (all-passed p k age year span r))

@@ -1,0 +1,78 @@
+-- The three answers, from what `quote_of` ensures of two answers to queries of one kind.
+use mathlib.Core.Path.{_≡_, refl, ap, sym, _∙_}
+use mathlib.Core.Logic.{_↔_}
+use Prim.Native.Nat.{ℕ}
+use native.Mathlib.Omega.{arith}
+use lib.IntN.{ℤ}
+use Rattle.params.specs.declared.Params.{Params}
+use Rattle.kinds.specs.declared.Kind.{Kind}
+use Rattle.quote.specs.declared.Answer.{Answer}
+use Rattle.quote.specs.Quote.{answerOf}
+use Rattle.quote.specs.Demand.{Shown, printed, markedOpen, noFigure, figureShown, Demand3}
+use Rattle.two_quotes.specs.declared.Same.the-variants.{NotPrinted, Equal, Different}
+use Rattle.two_quotes.specs.declared.Steps.the-variants.{None, At}
+use Rattle.two_quotes.specs.Claim.{stepsShown, OneStepOf, Settled}
+
+-- ---- the steps of a figure
+
+shown-at : (s : Shown) {n : ℕ} → stepsShown s ≡ At n → s ≡ printed n
+unfolding stepsShown
+shown-at (printed m) e = cc
+shown-at markedOpen e = absurd (let z : _≡_ {A = ℕ} 0 1 = cc in omega arith)
+shown-at noFigure e = absurd (let z : _≡_ {A = ℕ} 0 1 = cc in omega arith)
+
+shown-none : (s : Shown) {n : ℕ} → stepsShown s ≡ None → s ≡ printed n → ⊥
+unfolding stepsShown
+shown-none (printed m) e q = let z : _≡_ {A = ℕ} 0 1 = cc in omega arith
+shown-none markedOpen e q = let z : _≡_ {A = ℕ} 0 1 = cc in omega arith
+shown-none noFigure e q = let z : _≡_ {A = ℕ} 0 1 = cc in omega arith
+
+-- ---- two answers
+
+-- what `quote_of` ensures of its answer
+abbrev pub Promised : Params → Kind → ℤ → ℤ → ℤ → Answer → Type 0
+Promised p kind age year span a = (a ≡ answerOf p kind age year span) × Demand3 p kind age year span a
+
+module _ {kind : Kind} {p : Params} {age year span : ℤ} {a : Answer} (h : Promised p kind age year span a)
+    {p′ : Params} {age′ year′ span′ : ℤ} {a′ : Answer} (h′ : Promised p′ kind age′ year′ span′ a′) where
+  -- one has no printed figure
+  pub first-not-printed : stepsShown (figureShown a) ≡ None → Settled kind p age year span p′ age′ year′ span′ NotPrinted
+  first-not-printed e =
+      record {
+        equal = λ q. absurd (let z : _≡_ {A = ℕ} 0 1 = cc in omega arith);
+        different = λ q. absurd (let z : _≡_ {A = ℕ} 0 1 = cc in omega arith);
+        not-printed = λ q n n′ f f′. shown-none (figureShown a) e (ap figureShown (h .0) ∙ f);
+      }
+
+  pub second-not-printed : stepsShown (figureShown a′) ≡ None → Settled kind p age year span p′ age′ year′ span′ NotPrinted
+  second-not-printed e =
+      record {
+        equal = λ q. absurd (let z : _≡_ {A = ℕ} 0 1 = cc in omega arith);
+        different = λ q. absurd (let z : _≡_ {A = ℕ} 0 1 = cc in omega arith);
+        not-printed = λ q n n′ f f′. shown-none (figureShown a′) e (ap figureShown (h′ .0) ∙ f′);
+      }
+
+  -- both have: the first answer's promise, of the second query
+  same : {n n′ : ℕ} → stepsShown (figureShown a) ≡ At n → stepsShown (figureShown a′) ≡ At n′
+      → (n ≡ n′) ↔ OneStepOf kind p age year span p′ age′ year′ span′
+  same {n} {n′} e e′ =
+      h .1 .one-step n (shown-at (figureShown a) e) p′ age′ year′ span′ n′
+      (ap figureShown (sym (h′ .0)) ∙ shown-at (figureShown a′) e′)
+
+  pub equal-printed : {n n′ : ℕ} → stepsShown (figureShown a) ≡ At n → stepsShown (figureShown a′) ≡ At n′ → n ≡ n′
+      → Settled kind p age year span p′ age′ year′ span′ Equal
+  equal-printed e e′ s =
+      record {
+        equal = λ q. same e e′ .0 s;
+        different = λ q. absurd (let z : _≡_ {A = ℕ} 0 1 = cc in omega arith);
+        not-printed = λ q. absurd (let z : _≡_ {A = ℕ} 0 1 = cc in omega arith);
+      }
+
+  pub different-printed : {n n′ : ℕ} → stepsShown (figureShown a) ≡ At n → stepsShown (figureShown a′) ≡ At n′ → (n ≡ n′ → ⊥)
+      → Settled kind p age year span p′ age′ year′ span′ Different
+  different-printed e e′ d =
+      record {
+        equal = λ q. absurd (let z : _≡_ {A = ℕ} 0 1 = cc in omega arith);
+        different = λ q o. d (same e e′ .1 o);
+        not-printed = λ q. absurd (let z : _≡_ {A = ℕ} 0 1 = cc in omega arith);
+      }
