@@ -95,7 +95,7 @@ static int refused(int no, struct sheet *out) {
     return no;
 }
 
-int read_sheet(const uint8_t *bytes, size_t len, struct sheet *out) {
+int COMPILED(sheet)(const uint8_t *bytes, size_t len, struct sheet *out) {
     struct cursor c = {bytes, bytes + len};
     if (len > 65536 || !take_sheet(&c, out))
         return refused(1, out);

@@ -2,6 +2,8 @@
 #include <stddef.h>
 #include <stdint.h>
 
+#include "compilers.h"
+
 #define AGES 91
 
 struct sheet {
@@ -12,4 +14,5 @@ struct sheet {
 
 /* The refusal's number: 1 torn, 2 off scale, 0 where nothing is refused. A refused reading gives sex M and every number
    0. */
-int read_sheet(const uint8_t *bytes, size_t len, struct sheet *out);
+typedef int sheet_in_c(const uint8_t *bytes, size_t len, struct sheet *out);
+sheet_in_c sheet_by_gcc, sheet_by_clang;

@@ -1,9 +1,9 @@
 /* The time to read 400 different valid sheets, with our reader and with a plain one in C, turn by turn in one run. */
-#include "sheet_reader.h"
-
 #include <stdio.h>
 #include <stdlib.h>
-#include <time.h>
+
+#include "sheet_reader.h"
+#include "timing.h"
 
 #define SHEETS 400
 #define MOST 8483
@@ -50,56 +50,67 @@ static void make_sheet(int i) {
     }
 }
 
-static int plain_no(int i, size_t len) {
+#define READER_ROW(by) NAMED(sheet, by),
+static sheet_in_c *const in_c[] = {EACH_COMPILER(READER_ROW)};
+static const int compilers = sizeof in_c / sizeof in_c[0];
+
+static int plain_no(int which, int i, size_t len) {
     static struct sheet out;
-    return read_sheet(text[i], len, &out);
+    return in_c[which](text[i], len, &out);
 }
 
-static int our_no(int i, size_t len) {
-    return sheet_no(text[i], len);
-}
-
-/* Seconds for all sheets. A refused one ends the run. */
-static double seconds(int (*no)(int, size_t)) {
-    struct timespec from, to;
-    int refused = 0;
-    clock_gettime(CLOCK_MONOTONIC, &from);
-    for (int i = 0; i < SHEETS; i++)
-        refused += no(i, length[i]);
-    clock_gettime(CLOCK_MONOTONIC, &to);
+/* A refused sheet ends the run. */
+static void none_refused(int refused) {
     if (refused) {
         puts("a valid sheet was refused");
         exit(1);
     }
-    return (double)(to.tv_sec - from.tv_sec) + (double)(to.tv_nsec - from.tv_nsec) / 1e9;
 }
 
-/* Both refuse the same damaged sheets with the same number: a digit changed, a byte cut. */
+static void by_library(int which) {
+    int refused = 0;
+    (void)which;
+    for (int i = 0; i < SHEETS; i++)
+        refused += sheet_no(text[i], length[i]);
+    none_refused(refused);
+}
+
+static void by_c(int which) {
+    int refused = 0;
+    for (int i = 0; i < SHEETS; i++)
+        refused += plain_no(which, i, length[i]);
+    none_refused(refused);
+}
+
+/* All refuse the same damaged sheets with the same number: a digit changed, a byte cut. */
 static void compare_damaged(void) {
     for (int i = 0; i < SHEETS; i++) {
         size_t at = (size_t)draw((int64_t)length[i] - 1);
         uint8_t kept = text[i][at];
         text[i][at] = (uint8_t)('0' + draw(9));
-        int same = plain_no(i, length[i]) == our_no(i, length[i]) && plain_no(i, at) == 1 && our_no(i, at) == 1;
+        int ours = sheet_no(text[i], length[i]), same = sheet_no(text[i], at) == 1;
+        for (int which = 0; which < compilers; which++)
+            same = same && plain_no(which, i, length[i]) == ours && plain_no(which, i, at) == 1;
         text[i][at] = kept;
         if (!same) {
-            puts("the two readers differ");
+            puts("the readers differ");
             exit(1);
         }
     }
 }
 
 int main(void) {
-    double ours = 1e9, plain = 1e9;
+#define READER_RUNNER(by) {"plain C, " #by, by_c, 0, 0},
+    runner all[] = {{"proved library", by_library, 0, 0}, EACH_COMPILER(READER_RUNNER)};
     for (int i = 0; i < SHEETS; i++)
         make_sheet(i);
     compare_damaged();
-    for (int turn = 0; turn < TURNS; turn++) {
-        double a = seconds(our_no), b = seconds(plain_no);
-        ours = a < ours ? a : ours;
-        plain = b < plain ? b : plain;
-    }
-    printf("%d sheets, the best of %d turns: ours %.6f s, plain C %.6f s, ratio %.2f\n", SHEETS, TURNS, ours, plain,
-           ours / plain);
+    for (int i = 0; i < compilers; i++)
+        all[1 + i].which = i;
+    take_turns(all, 1 + compilers, TURNS);
+    for (int i = 0; i < 1 + compilers; i++)
+        printf("%-16s %8.2f us a sheet\n", all[i].name, 1e6 * all[i].best / SHEETS);
+    printf("%d sheets, the best of %d turns: library / faster C, ratio %.2f (at most 1.30)\n", SHEETS, TURNS,
+           all[0].best / fastest(all + 1, compilers));
     return 0;
 }

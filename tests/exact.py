@@ -1,26 +1,47 @@
-"""The exact value of a cell's q, to many digits, written from the paper's text: nothing is rounded to the grid."""
+"""The exact value of a cell, to many digits, written from the paper's text: nothing is rounded to the grid."""
 from decimal import Decimal, getcontext
 
 from grid import START, weight
 
 getcontext().prec = 80
 ONE = Decimal(1)
+NANO, RATE = Decimal(10) ** -9, Decimal(10) ** -8
+
+
+def kappa(params, year):
+    n = year - START
+    return params["k"] * NANO * (params["a"] * RATE) ** n if n else params["k"] * NANO
+
+
+def log_force(params, x, year, kappa):
+    period = (params["K"] + (year - START) * params["theta"]) * NANO
+    fixed = (params["A"][x] + params["al"][x]) * NANO
+    return fixed + params["B"][x] * RATE * period + params["be"][x] * RATE * kappa
+
+
+def young_force(m):
+    return m.exp()
+
+
+def inverse_logistic(m, u):
+    return m - (ONE - u).ln()
+
+
+def old_force(x, fitted):
+    g = sum(weight(x, 80 + i) * h for i, h in enumerate(fitted)) / 110
+    return ONE / (ONE + (-g).exp())
+
+
+def survival(force):
+    return (-force).exp()
 
 
 def column(params, year):
-    """q at ages 0 to 120 in a year."""
-    n = year - START
-    nano, rate = Decimal(10) ** -9, Decimal(10) ** -8
-    period = (params["K"] + n * params["theta"]) * nano
-    kappa = params["k"] * nano * (params["a"] * rate) ** n if n else params["k"] * nano
-    ms = [
-        (params["A"][x] + params["al"][x]) * nano + params["B"][x] * rate * period + params["be"][x] * rate * kappa
-        for x in range(91)
-    ]
-    forces = [m.exp() for m in ms]
+    """q at ages 0 to 120 in a year, to age 90 where a force of the closure's ages is not below 1."""
+    now = kappa(params, year)
+    ms = [log_force(params, x, year, now) for x in range(91)]
+    forces = [young_force(m) for m in ms]
     if all(u < 1 for u in forces[80:]):
-        fitted = [m - (ONE - u).ln() for m, u in zip(ms[80:], forces[80:])]
-        for x in range(91, 121):
-            g = sum(weight(x, 80 + i) * h for i, h in enumerate(fitted)) / 110
-            forces.append(ONE / (ONE + (-g).exp()))
-    return [ONE - (-u).exp() for u in forces]
+        fitted = [inverse_logistic(m, u) for m, u in zip(ms[80:], forces[80:])]
+        forces += [old_force(x, fitted) for x in range(91, 121)]
+    return [ONE - survival(u) for u in forces]

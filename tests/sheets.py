@@ -1,20 +1,13 @@
 """Parameter sets and their sheets, for the tests: written from paper 01, "Parameter sheet"."""
-import random
-
 from grid import HIGHEST, LOWEST, RATE, START, flat
+from reader import SIZES, Set, numbers_of, sheet_of
 
 AGES = 91
-LIMITS = {"A": 4 * 10**10, "al": 4 * 10**10, "B": 10**7, "be": 10**7}
-A_LIMIT, THETA_LIMIT, K_LIMIT, KAPPA_LIMIT = 10**8, 10**10, 5 * 10**11, 5 * 10**10
 
 
 def text(params):
     """The one sheet of a set."""
-    lines = ["table=AG2014", f"sex={params['sex']}"]
-    lines += [f"{key}={params[key]}" for key in ("a", "theta", "K", "k")]
-    for x in range(AGES):
-        lines += [f"{key}.{x}={params[key][x]}" for key in ("A", "B", "al", "be")]
-    return ("\n".join(lines) + "\n").encode()
+    return sheet_of(Set(params["sex"], numbers_of(params)))
 
 
 def clamp(value, size):
@@ -25,8 +18,8 @@ def series(draw, a, spread):
     """a, theta, K and k, of a given a, with sizes up to the spread's share of the limits."""
     theta = draw.randrange(-int(spread * 2 * 10**9), int(spread * 2 * 10**9) + 1)
     start = draw.randrange(-int(spread * 10**11), int(spread * 10**11) + 1)
-    start = clamp(start, K_LIMIT - 171 * abs(theta)) if 171 * abs(theta) < K_LIMIT else 0
-    kappa = draw.randrange(-int(spread * KAPPA_LIMIT), int(spread * KAPPA_LIMIT) + 1)
+    start = clamp(start, SIZES["K"] - 171 * abs(theta)) if 171 * abs(theta) < SIZES["K"] else 0
+    kappa = draw.randrange(-int(spread * SIZES["k"]), int(spread * SIZES["k"]) + 1)
     return {"a": a, "theta": theta, "K": start, "k": kappa}
 
 
@@ -42,8 +35,8 @@ def realistic(draw):
     return out
 
 
-def extreme(draw, a, year, spread=1.0):
-    """A set with large parameters whose cells lie in the range in one year, some at its very ends."""
+def extreme(draw, a, year, spread=1.0, margin=40):
+    """A set with large parameters whose cells lie in the range in one year, some within a margin of its very ends."""
     out = {"sex": draw.choice("MF"), **series(draw, a, spread)}
     out["B"] = [draw.randrange(-(10**7), 10**7 + 1) for _ in range(AGES)]
     out["be"] = [draw.randrange(-(10**7), 10**7 + 1) for _ in range(AGES)]
@@ -52,7 +45,7 @@ def extreme(draw, a, year, spread=1.0):
     out["A"], out["al"] = [], []
     for x in range(AGES):
         drift = int((out["B"][x] * period + out["be"][x] * kappa) / RATE)
-        target = draw.choice([LOWEST + 40, HIGHEST - 40, draw.randrange(LOWEST + 100, HIGHEST - 100), -(10**9)])
+        target = draw.choice([LOWEST + margin, HIGHEST - margin, draw.randrange(LOWEST + 100, HIGHEST - 100), -(10**9)])
         base = target - drift
         first = clamp(base, 4 * 10**10)
         out["A"].append(first)

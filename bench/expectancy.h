@@ -1,0 +1,15 @@
+/* Life expectancies worked by C and by Arb, at one age in year n, counted from 2013. */
+#ifndef EXPECTANCY_H
+#define EXPECTANCY_H
+#include "compilers.h"
+#include "params.h"
+
+enum kind { COHORT = 3, PERIOD = 4 };
+
+/* The grid of paper 01 in plain C: the two ends; returns 0 where a needed cell is steep. */
+typedef int expectancy_in_c(const params *p, enum kind kind, int age, unsigned n, uint64_t *ends);
+expectancy_in_c expectancy_by_gcc, expectancy_by_clang;
+
+/* The same by ball arithmetic at 64 bits: the middle, in years. */
+double expectancy_by_arb(const params *p, enum kind kind, int age, unsigned n);
+#endif

@@ -1,0 +1,132 @@
+/* The grid of paper 01 in plain C, for comparison of speed: same terms, same roundings, no proofs. The functions with long sums
+   are not marked inline: gcc's code is slower by a tenth where it inlines them everywhere. */
+#ifndef GRID_H
+#define GRID_H
+#include "params.h"
+
+#define UNIT 1000000000ull
+#define RATE 100000000ll
+
+static const uint64_t whole_parts[21] = {1000000000, 367879441, 135335283, 49787068, 18315638, 6737946, 2478752,
+    911881, 335462, 123409, 45399, 16701, 6144, 2260, 831, 305, 112, 41, 15, 5, 2};
+
+typedef struct { int64_t lower, upper; } pair;
+typedef struct { uint64_t lower, upper; } ends;
+
+static inline uint64_t up(uint64_t n, uint64_t d) { return (n + (d - 1)) / d; }
+
+static inline int64_t floor_div(int64_t n, int64_t d) { return n < 0 ? -1 - (-1 - n) / d : n / d; }
+
+static inline int64_t ceil_div(int64_t n, int64_t d) { return n > 0 ? 1 + (n - 1) / d : n / d; }
+
+static uint64_t exp_lower(uint64_t z) {
+    if (z >= 21 * UNIT) return 0;
+    uint64_t f = z % UNIT, low = UNIT, high = UNIT, evens = UNIT, odds = 0;
+    for (uint64_t k = 1; k < 13; k += 2) {
+        uint64_t odd = up(high * f, k * UNIT);
+        low = low * f / (k * UNIT) * f / ((k + 1) * UNIT);
+        high = up(odd * f, (k + 1) * UNIT);
+        evens += low;
+        odds += odd;
+    }
+    odds += up(high * f, 13 * UNIT);
+    return (evens - odds) * whole_parts[z / UNIT] / UNIT;
+}
+
+static uint64_t exp_upper(uint64_t z) {
+    if (z >= 21 * UNIT) return 1;
+    uint64_t f = z % UNIT, n = z / UNIT, low = UNIT, high = UNIT, evens = UNIT, odds = 0;
+    for (uint64_t k = 1; k < 11; k += 2) {
+        uint64_t odd = low * f / (k * UNIT);
+        low = odd * f / ((k + 1) * UNIT);
+        high = up(up(high * f, k * UNIT) * f, (k + 1) * UNIT);
+        evens += high;
+        odds += odd;
+    }
+    odds += low * f / (11 * UNIT);
+    evens += up(up(high * f, 11 * UNIT) * f, 12 * UNIT);
+    uint64_t sum = evens - odds;
+    if (sum > UNIT) sum = UNIT;
+    return n == 0 ? sum : up(sum * (whole_parts[n] + 1), UNIT);
+}
+
+static inline ends exp_between(ends z) {
+    ends r = {exp_lower(z.upper), exp_upper(z.lower)};
+    return r;
+}
+
+static inline pair log_force(const params *p, int x, int64_t period, pair kappa) {
+    int64_t fixed = p->level[x] + p->alpha[x], trend = p->slope[x] * period, b = p->beta[x];
+    int64_t least = b < 0 ? b * kappa.upper : b * kappa.lower, most = b < 0 ? b * kappa.lower : b * kappa.upper;
+    pair r = {fixed + floor_div(trend + least, RATE), fixed + ceil_div(trend + most, RATE)};
+    return r;
+}
+
+/* -ln(1 - u), both ends in one loop. */
+static ends log_between(ends u) {
+    ends power = {UNIT, UNIT}, sum = {0, 0};
+    for (uint64_t k = 1; k <= 28; k++) {
+        power.lower = u.lower * power.lower / UNIT;
+        power.upper = up(u.upper * power.upper, UNIT);
+        sum.lower += power.lower / k;
+        sum.upper += up(power.upper, k);
+    }
+    sum.upper += up(2 * up(u.upper * power.upper, UNIT), 29);
+    return sum;
+}
+
+static uint64_t logistic_lower(int64_t g) {
+    if (g >= 0) return UNIT * UNIT / (UNIT + exp_upper((uint64_t)g));
+    uint64_t e = exp_lower((uint64_t)-g);
+    return e * UNIT / (UNIT + e);
+}
+
+static uint64_t logistic_upper(int64_t g) {
+    if (g >= 0) return up(UNIT * UNIT, UNIT + exp_lower((uint64_t)g));
+    uint64_t e = exp_upper((uint64_t)-g);
+    return up(e * UNIT, UNIT + e);
+}
+
+/* K in year n. */
+static inline int64_t period_in(const params *p, unsigned n) { return p->period + (int64_t)n * p->theta; }
+
+static inline pair next_kappa(const params *p, pair kappa) {
+    int64_t least = p->a < 0 ? p->a * kappa.upper : p->a * kappa.lower;
+    int64_t most = p->a < 0 ? p->a * kappa.lower : p->a * kappa.upper;
+    pair r = {floor_div(least, RATE), ceil_div(most, RATE)};
+    return r;
+}
+
+static inline pair kappa_in(const params *p, unsigned n) {
+    pair kappa = {p->kappa, p->kappa};
+    for (unsigned i = 0; i < n; i++) kappa = next_kappa(p, kappa);
+    return kappa;
+}
+
+static inline int steep(pair m) { return m.lower < -30000000000ll || m.upper > -700000000ll; }
+
+/* The force at ages to 90, of a log force that is not steep. */
+static inline ends young_force(pair m) {
+    ends z = {(uint64_t)-m.upper, (uint64_t)-m.lower};
+    return exp_between(z);
+}
+
+/* H of the closure. */
+static inline pair fit(pair m, ends u) {
+    ends log = log_between(u);
+    pair r = {m.lower + (int64_t)log.lower, m.upper + (int64_t)log.upper};
+    return r;
+}
+
+/* The force at an age above 90, of the eleven H of its year. */
+static inline ends old_force(const pair *fitted, int x) {
+    int64_t least = 0, most = 0;
+    for (int i = 0; i < CLOSED; i++) {
+        int64_t w = 10 + (int64_t)(i - 5) * (x - 85);
+        least += w < 0 ? w * fitted[i].upper : w * fitted[i].lower;
+        most += w < 0 ? w * fitted[i].lower : w * fitted[i].upper;
+    }
+    ends r = {logistic_lower(floor_div(least, 110)), logistic_upper(ceil_div(most, 110))};
+    return r;
+}
+#endif
