@@ -6,7 +6,7 @@ ghost use lib.IntN.{pos, natAbs};
 ghost use Rattle.tokens.specs.Number.{mostDigits, unsignedText};
 ghost use Rattle.params.specs.Set.{ages};
 ghost use Rattle.sheet.specs.Sheet.{lineText, headText};
-ghost use Rattle.line_writer.specs.Put.{Room, Put};
+ghost use Rattle.printing.specs.Put.{Room, Put};
 ghost use Rattle.line_writer.specs.Value.{valueText};
 use params::Sex;
 

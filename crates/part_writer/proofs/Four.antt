@@ -2,9 +2,9 @@
 use mathlib.Core.Path.{sym}
 use mathlib.Core.List.{List, [], _++_, append-nil}
 use Prim.Native.Nat.{ℕ}
-use Rattle.line_writer.specs.Put.{Room, Put}
-use Rattle.line_writer.specs.PutLaws.{put-as, room-first, room-rest, put-join}
-use Rattle.line_writer.specs.PutLaws.{Three, three-first, three-second, three-third, three-put}
+use Rattle.printing.specs.Put.{Room, Put}
+use Rattle.printing.specs.PutLaws.{put-as, room-first, room-rest, put-join}
+use Rattle.printing.specs.PutLaws.{Three, three-first, three-second, three-third, three-put}
 
 pub record Four (bytes : List ℕ) (at : ℕ) (t₁ t₂ t₃ t₄ : List ℕ) : Type 0 where
   pub room : Room bytes at (t₁ ++ (t₂ ++ (t₃ ++ (t₄ ++ []))))

@@ -7,8 +7,8 @@ use mir.Syntax.{w64}
 use mir.Val.{toZ, ofZ}
 use Rattle.sheet.specs.Sheet.{lineText}
 use Rattle.sheet_length.specs.Held.{Held}
-use Rattle.line_writer.specs.Put.{Room, Put}
-use Rattle.line_writer.specs.PutLaws.{put-as, room-as}
+use Rattle.printing.specs.Put.{Room, Put}
+use Rattle.printing.specs.PutLaws.{put-as, room-as}
 
 module _ (key : List ℕ) {z : ℤ} (h : Held z) {bytes : List ℕ} {at : ℕ} where
   -- what the writer of a line asks

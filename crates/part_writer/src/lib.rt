@@ -5,7 +5,7 @@ ghost use Rattle.params.specs.Set.{ages};
 ghost use Rattle.params.specs.Limits.{inLimits};
 ghost use Rattle.params.specs.LimitsLaws.{AgeWithin};
 ghost use Rattle.sheet_length.specs.Parts.{seriesText, ageText};
-ghost use Rattle.line_writer.specs.Put.{Room, Put};
+ghost use Rattle.printing.specs.Put.{Room, Put};
 use params::Age;
 use params::Params;
 

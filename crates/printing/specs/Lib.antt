@@ -1,3 +1,5 @@
 pub mod NumberLengths
 pub mod Overwritten
 pub mod OverwrittenLaws
+pub mod Put
+pub mod PutLaws

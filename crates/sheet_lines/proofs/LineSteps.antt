@@ -2,9 +2,8 @@
 -- found at its place or leaves the line torn.
 use mathlib.Core.Path.{_≡_, sym, _∙_}
 use Prim.Native.Nat.{ℕ, _+_}
-use mathlib.Core.Bool.{Bool, true, false, not}
+use mathlib.Core.Bool.{true, false}
 use mathlib.Core.List.{List, _++_}
-use borrow.Author.Tests.{not-true, not-false}
 use lib.IntN.{ℤ}
 use lib.ListN.{length, drop}
 use Rattle.tokens.specs.declared.NumberRead.the-variants.{Torn, Number}
@@ -15,17 +14,6 @@ use Rattle.tokens.specs.TextLaws.{text-found, text-missing, takeText-then, take
 use Rattle.tokens.specs.NumberLaws.{number-found, number-torn}
 use Rattle.sheet.specs.Sheet.{readLine}
 use Rattle.tokens.specs.Steps.{goes, stops}
-
--- ---- the code's tests
-
--- a test `!found` that held, and one that failed
-pub lacks : {r b : Bool} → r ≡ b → not r ≡ true → b ≡ false
-lacks {r} e h = sym e ∙ not-true r h
-
-pub has : {r b : Bool} → r ≡ b → not r ≡ false → b ≡ true
-has {r} e h = sym e ∙ not-false r h
-
--- ---- the steps
 
 key-torn : (key bs : List ℕ) → takeText key bs ≡ torn → readLine key bs ≡ torn
 unfolding readLine

@@ -3,7 +3,8 @@ ghost use mathlib.Core.Path.{_≡_};
 ghost use mathlib.Core.List.{_++_};
 ghost use lib.ListN.{drop};
 ghost use Rattle.sheet.specs.Sheet.{readLine, readLines};
-ghost use Rattle.sheet_lines.specs.Lines.{numberRead, fourRead, fourKeys};
+ghost use Rattle.tokens.specs.Places.{numberRead};
+ghost use Rattle.sheet_lines.specs.Lines.{fourRead, fourKeys};
 use tokens::NumberRead;
 
 // The numbers of four lines that were read, after the place that follows the lines.

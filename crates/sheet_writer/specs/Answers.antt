@@ -12,7 +12,7 @@ use Rattle.sheet.specs.declared.Written.{Written}
 use Rattle.params.specs.declared.Refusal.the-variants.{Accepted, OffScale, Short}
 use Rattle.params.specs.Limits.{inLimits}
 use Rattle.sheet.specs.Sheet.{sheetText, writeRefusal, writtenLength, writeAnswer, writtenBuffer}
-use Rattle.line_writer.specs.Put.{Put}
+use Rattle.printing.specs.Put.{Put}
 
 -- the answer, and the buffer after
 abbrev pub Answers : Params → List ℕ → Written → List ℕ → Type 0

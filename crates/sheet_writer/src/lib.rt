@@ -6,7 +6,7 @@ ghost use Rattle.params.specs.Set.{ages};
 ghost use Rattle.params.specs.Limits.{inLimits};
 ghost use Rattle.sheet.specs.Sheet.{sheetText, writeAnswer, writtenBuffer};
 ghost use Rattle.sheet_length.specs.Parts.{agesText};
-ghost use Rattle.line_writer.specs.Put.{Room, Put};
+ghost use Rattle.printing.specs.Put.{Room, Put};
 use params::AGES;
 use params::Params;
 use params::Refusal;

@@ -11,3 +11,4 @@ pub mod TextLaws
 pub mod DigitLaws
 pub mod DecimalLaws
 pub mod NumberLaws
+pub mod ReadLaws

@@ -25,3 +25,8 @@ placed n (taken v rest) = Number v (n - length rest)
 -- the number at a place
 unfoldable pub numberAt : List ℕ → ℕ → NumberRead
 numberAt bytes at = placed (length bytes) (readNumber (drop at bytes))
+
+-- what a result of the code says was read: the number, and the bytes from the place after it on
+abbrev pub numberRead : List ℕ → NumberRead → Parse ℤ
+numberRead bytes Torn = torn
+numberRead bytes (Number v next) = taken v (drop next bytes)

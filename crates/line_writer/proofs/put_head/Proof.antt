@@ -6,7 +6,7 @@ use native.Mathlib.Omega.{arith}
 use lib.ListN.{length}
 use Rattle.tokens.specs.Text.{bytesOf}
 use Rattle.sheet.specs.Sheet.{headBytes, headText}
-use Rattle.line_writer.specs.PutLaws.{put-of, put-as}
+use Rattle.printing.specs.PutLaws.{put-of, put-as}
 use Rattle.sheet.specs.SheetTrip.{head-length}
 use Rattle.line_writer.proofs.put_head.Statement.{statement}
 use Rattle.line_writer.proofs.put_head.Tie as tie

@@ -6,8 +6,8 @@ use mir.Syntax.{w64}
 use mir.Val.{toZ, ofZ}
 use mir.Facts.{toZ-ofZ}
 use Rattle.sheet.specs.Sheet.{lineText}
-use Rattle.line_writer.specs.Put.{Room, Put}
-use Rattle.line_writer.specs.PutLaws.{put-of, put-as, room-as, room-first, room-rest, put-join}
+use Rattle.printing.specs.Put.{Room, Put}
+use Rattle.printing.specs.PutLaws.{put-of, put-as, room-as, room-first, room-rest, put-join}
 use Rattle.line_writer.specs.Value.{valueText}
 use Rattle.line_writer.proofs.Small.{small-as}
 use Rattle.line_writer.proofs.put_line.Statement.{statement}

@@ -5,7 +5,7 @@ use Prim.Native.Nat.{ℕ}
 use Rattle.tokens.specs.Text.{bytesOf}
 use Rattle.tokens.specs.Number.{unsignedText}
 use Rattle.sheet.specs.Sheet.{ageKeys, lineText, linesText}
-use Rattle.line_writer.specs.Put.{Put}
+use Rattle.printing.specs.Put.{Put}
 use Rattle.part_writer.proofs.Four.{Four, room-one, room-two, room-three, room-four, put-four}
 use Rattle.sheet_length.specs.Parts.{ageText}
 use Rattle.sheet_length.specs.Held.{AgeHeld, age-held}

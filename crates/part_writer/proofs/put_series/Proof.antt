@@ -2,8 +2,8 @@
 use borrow.Author.Needs.{needs}
 use Rattle.tokens.specs.Text.{bytesOf}
 use Rattle.sheet.specs.Sheet.{lineText, linesText}
-use Rattle.line_writer.specs.Put.{Put}
-use Rattle.line_writer.specs.PutLaws.{put-length}
+use Rattle.printing.specs.Put.{Put}
+use Rattle.printing.specs.PutLaws.{put-length}
 use Rattle.part_writer.proofs.Four.{Four, room-one, room-two, room-three, room-four, put-four}
 use Rattle.sheet_length.specs.Parts.{seriesText}
 use Rattle.sheet_length.specs.Held.{SeriesHeld, series-held}

@@ -8,7 +8,8 @@ use native.Mathlib.Numerals.{add-one}
 use lib.ListN.{drop}
 use Rattle.params.specs.Set.{ages}
 use Rattle.sheet_ages.specs.RunLaws.{Filled, fill-start, fill-next, fill-torn, fill-end}
-use Rattle.sheet_lines.specs.ResultLaws.{held, four-torn, four-taken}
+use Rattle.tokens.specs.ReadLaws.{held}
+use Rattle.sheet_lines.specs.ResultLaws.{four-torn, four-taken}
 use Rattle.sheet_ages.proofs.ages_at.Statement.{statement}
 use Rattle.sheet_ages.proofs.ages_at.Tie as tie
 

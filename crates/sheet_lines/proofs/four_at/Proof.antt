@@ -1,7 +1,7 @@
 -- `four_at` meets its contract: the four lines one after another, each read or torn.
 use mathlib.Core.Path.{sym}
 use Rattle.sheet_lines.specs.FourLaws.{four-torn₀, four-torn₁, four-torn₂, four-torn₃, four-taken}
-use Rattle.sheet_lines.specs.ResultLaws.{held, number-torn, number-taken}
+use Rattle.tokens.specs.ReadLaws.{held, read-torn, read-taken}
 use borrow.Author.Needs.{needs}
 use Rattle.sheet_lines.proofs.four_at.Statement.{statement}
 use Rattle.sheet_lines.proofs.four_at.Tie as tie
@@ -18,7 +18,7 @@ enum-told c = search needs
 returns : tie.Need-returns
 returns c =
     let l₀ = c .before .before in
-    sym (four-torn₀ _ _ _ _ _ (number-torn _ (l₀ .line-at .ensures) (c .enum-told .given .1)))
+    sym (four-torn₀ _ _ _ _ _ (read-torn _ (l₀ .line-at .ensures) (c .enum-told .given .1)))
 
 line-at-requires-2 : tie.Need-line-at-requires-2
 line-at-requires-2 c κs = search needs
@@ -35,8 +35,8 @@ returns-2 c =
     let r₀ = l₁ .before .before in
     let l₀ = r₀ .before .before in
     sym
-    (four-torn₁ _ _ _ _ _ (number-taken _ (l₀ .line-at .ensures) (r₀ .v0 .given .1))
-    (number-torn _ (l₁ .line-at2 .ensures) (c .enum-told2 .given .1)))
+    (four-torn₁ _ _ _ _ _ (read-taken _ (l₀ .line-at .ensures) (r₀ .v0 .given .1))
+    (read-torn _ (l₁ .line-at2 .ensures) (c .enum-told2 .given .1)))
 
 line-at-requires-3 : tie.Need-line-at-requires-3
 line-at-requires-3 c κs = search needs
@@ -55,9 +55,9 @@ returns-3 c =
     let r₀ = l₁ .before .before in
     let l₀ = r₀ .before .before in
     sym
-    (four-torn₂ _ _ _ _ _ (number-taken _ (l₀ .line-at .ensures) (r₀ .v0 .given .1))
-    (number-taken _ (l₁ .line-at2 .ensures) (r₁ .v1 .given .1))
-    (number-torn _ (l₂ .line-at3 .ensures) (c .enum-told3 .given .1)))
+    (four-torn₂ _ _ _ _ _ (read-taken _ (l₀ .line-at .ensures) (r₀ .v0 .given .1))
+    (read-taken _ (l₁ .line-at2 .ensures) (r₁ .v1 .given .1))
+    (read-torn _ (l₂ .line-at3 .ensures) (c .enum-told3 .given .1)))
 
 line-at-requires-4 : tie.Need-line-at-requires-4
 line-at-requires-4 c κs = search needs
@@ -78,10 +78,10 @@ returns-4 c =
     let r₀ = l₁ .before .before in
     let l₀ = r₀ .before .before in
     sym
-    (four-torn₃ _ _ _ _ _ (number-taken _ (l₀ .line-at .ensures) (r₀ .v0 .given .1))
-    (number-taken _ (l₁ .line-at2 .ensures) (r₁ .v1 .given .1))
-    (number-taken _ (l₂ .line-at3 .ensures) (r₂ .v2 .given .1))
-    (number-torn _ (l₃ .line-at4 .ensures) (c .enum-told4 .given .1)))
+    (four-torn₃ _ _ _ _ _ (read-taken _ (l₀ .line-at .ensures) (r₀ .v0 .given .1))
+    (read-taken _ (l₁ .line-at2 .ensures) (r₁ .v1 .given .1))
+    (read-taken _ (l₂ .line-at3 .ensures) (r₂ .v2 .given .1))
+    (read-torn _ (l₃ .line-at4 .ensures) (c .enum-told4 .given .1)))
 
 returns-5 : tie.Need-returns-5
 returns-5 c =
@@ -100,10 +100,10 @@ returns-5 c =
       held (r₃ .v3 .given .0 .0) (c .known-told4 .given .0 .1),
     )
     (sym
-    (four-taken _ _ _ _ _ (number-taken _ (l₀ .line-at .ensures) (r₀ .v0 .given .1))
-    (number-taken _ (l₁ .line-at2 .ensures) (r₁ .v1 .given .1))
-    (number-taken _ (l₂ .line-at3 .ensures) (r₂ .v2 .given .1))
-    (number-taken _ (l₃ .line-at4 .ensures) (r₃ .v3 .given .1))))
+    (four-taken _ _ _ _ _ (read-taken _ (l₀ .line-at .ensures) (r₀ .v0 .given .1))
+    (read-taken _ (l₁ .line-at2 .ensures) (r₁ .v1 .given .1))
+    (read-taken _ (l₂ .line-at3 .ensures) (r₂ .v2 .given .1))
+    (read-taken _ (l₃ .line-at4 .ensures) (r₃ .v3 .given .1))))
 
 pub four-at-spec : {M : Type 1} → statement M
 four-at-spec =

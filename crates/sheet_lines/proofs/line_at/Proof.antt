@@ -3,8 +3,8 @@ use mathlib.Core.Path.{sym, _∙_}
 use native.Mathlib.Omega.{arith}
 use Rattle.tokens.specs.Text.{bytesOf}
 use Rattle.tokens.specs.TextLaws.{text-room}
-use Rattle.sheet_lines.specs.ResultLaws.{held}
-use Rattle.sheet_lines.proofs.LineSteps.{lacks, has, name-torn, age-torn, sign-torn}
+use Rattle.tokens.specs.ReadLaws.{lacks, has, held}
+use Rattle.sheet_lines.proofs.LineSteps.{name-torn, age-torn, sign-torn}
 use Rattle.sheet_lines.proofs.LineSteps.{no-number, feed-torn, line-taken}
 use borrow.Author.Needs.{needs}
 use Rattle.sheet_lines.proofs.line_at.Statement.{statement}

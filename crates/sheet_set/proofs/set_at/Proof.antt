@@ -2,7 +2,8 @@
 use mathlib.Core.Path.{sym, _∙_}
 use Rattle.tokens.specs.Text.{bytesOf}
 use Rattle.sheet_set.specs.SetLaws.{series-torn, series-read}
-use Rattle.sheet_lines.specs.ResultLaws.{held, four-torn, four-taken}
+use Rattle.tokens.specs.ReadLaws.{held}
+use Rattle.sheet_lines.specs.ResultLaws.{four-torn, four-taken}
 use borrow.Author.Needs.{needs}
 use Rattle.sheet_set.proofs.set_at.Statement.{statement}
 use Rattle.sheet_set.proofs.set_at.Tie as tie

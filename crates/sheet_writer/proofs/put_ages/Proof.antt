@@ -9,8 +9,8 @@ use native.Mathlib.Omega.{arith}
 use Rattle.params.specs.declared.Age.{Age}
 use Rattle.params.specs.Set.{ages, ageOf, four-age}
 use Rattle.params.specs.LimitsLaws.{AgeWithin, in-limits-age}
-use Rattle.line_writer.specs.Put.{Room, Put}
-use Rattle.line_writer.specs.PutLaws.{put-none, put-as, room-as, put-length, room-rest, put-join}
+use Rattle.printing.specs.Put.{Room, Put}
+use Rattle.printing.specs.PutLaws.{put-none, put-as, room-as, put-length, room-rest, put-join}
 use Rattle.sheet_length.specs.Parts.{ageText, agesText}
 use Rattle.sheet_length.specs.PartsLaws.{ages-none, ages-more, ages-grow}
 use Rattle.sheet_writer.proofs.put_ages.Statement.{statement}

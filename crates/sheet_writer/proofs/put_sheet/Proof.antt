@@ -3,8 +3,8 @@ use borrow.Author.Needs.{needs}
 use mathlib.Core.Path.{sym}
 use Rattle.params.specs.Set.{ages}
 use Rattle.sheet.specs.Sheet.{headText}
-use Rattle.line_writer.specs.Put.{Put}
-use Rattle.line_writer.specs.PutLaws.{put-as, room-as, Three, three-first, three-second, three-third, three-put}
+use Rattle.printing.specs.Put.{Put}
+use Rattle.printing.specs.PutLaws.{put-as, room-as, Three, three-first, three-second, three-third, three-put}
 use Rattle.sheet_length.specs.Parts.{seriesText, agesText}
 use Rattle.sheet_length.specs.PartsLaws.{sheet-parts}
 use Rattle.sheet_writer.proofs.put_sheet.Statement.{statement}

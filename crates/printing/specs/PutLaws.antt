@@ -4,9 +4,9 @@ use mathlib.Core.List.{List, [], _++_}
 use Prim.Native.Nat.{ℕ, _+_}
 use native.Mathlib.Omega.{arith}
 use lib.ListN.{length, length-append}
 use Rattle.printing.specs.Overwritten.{overwritten}
 use Rattle.printing.specs.OverwrittenLaws.{overwritten-length, overwritten-none, overwritten-after}
-use Rattle.line_writer.specs.Put.{Room, Put}
+use Rattle.printing.specs.Put.{Room, Put}
 
 -- no text, written anywhere
 pub put-none : (bytes : List ℕ) (at : ℕ) → Put bytes at [] bytes at
