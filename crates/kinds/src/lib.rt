@@ -9,7 +9,7 @@ ghost use Rattle.expo.specs.Code.{endsOf};
 ghost use Rattle.weights.specs.Weights.{lastClosed};
 ghost use Rattle.folds.specs.Code.{listOf, Chances};
 ghost use Rattle.paths.specs.Values.{foldOver};
-ghost use Rattle.kinds.specs.Kinds.{ruleOf, foldIs, mostSpan, countOf, stepOf};
+ghost use Rattle.kinds.specs.Kinds.{ruleOf, foldIs, mostSpan, countOf, stepOf, decimalsOf};
 use exact::EXPECTANCY_STEP;
 use exact::PROBABILITY_STEP;
 use expo::Ends;
@@ -105,6 +105,17 @@ pub fn step_of(fold: Fold) -> u64
         Fold::Death => PROBABILITY_STEP,
         Fold::Survival => PROBABILITY_STEP,
         Fold::Expectancy => EXPECTANCY_STEP,
+    }
+}
+
+// The decimals that a figure prints.
+pub fn decimals_of(fold: Fold) -> usize
+    ensures { λ r. ⌜ r ≡ decimalsOf fold ⌝ }
+{
+    match fold {
+        Fold::Death => 5,
+        Fold::Survival => 5,
+        Fold::Expectancy => 1,
     }
 }
 

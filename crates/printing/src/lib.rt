@@ -59,7 +59,7 @@ pub fn put_text(buffer: &mut [u8], at: usize, text: &[u8]) -> usize
 }
 
 // Writes the decimal digits of a number from a place on, the last digit first; the place after them.
-fn put_digits(buffer: &mut [u8], at: usize, n: u64) -> usize
+pub fn put_digits(buffer: &mut [u8], at: usize, n: u64) -> usize
     requires { ⌜ (n < 10 ^ mostDigits) × (at + length (unsignedText n) ≤ length (now buffer)) ⌝ }
     ensures { λ r. ⌜ (r ≡ at + length (unsignedText n)) × (now (buffer .exit) ≡ overwritten (now (buffer .entry)) at (unsignedText n)) ⌝ }
 {

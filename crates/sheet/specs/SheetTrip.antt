@@ -41,7 +41,7 @@ AllSmall (v ∷ vs) = (natAbs v < 10 ^ 15) × AllSmall vs
 
 -- ---- one reading after another
 
-then-taken : {A B X : Type 0} (q : Parse A) (f : A → List ℕ → Parse B) {b : B} {rest : List ℕ}
+pub then-taken : {A B X : Type 0} (q : Parse A) (f : A → List ℕ → Parse B) {b : B} {rest : List ℕ}
     → andThen q f ≡ taken b rest → ((a : A) (after : List ℕ) → q ≡ taken a after → f a after ≡ taken b rest → X) → X
 then-taken torn f e g = torn-not-taken e
 then-taken (taken a after) f e g = g a after refl e

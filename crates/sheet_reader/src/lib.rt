@@ -10,7 +10,7 @@ use params::Sex;
 use sheet::Reading;
 
 // The longest input that is read.
-const MOST_BYTES: usize = 65_536;
+pub const MOST_BYTES: usize = 65_536;
 
 // The place of the sex.
 const SEX: usize = 17;

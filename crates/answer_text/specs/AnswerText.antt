@@ -1,0 +1,35 @@
+-- What is printed after a query: ` fig=` and a figure or `open`, with the two ends before it where they are shown, or ` no=`
+-- and a refusal.
+use mathlib.Core.Bool.{Bool, cond}
+use mathlib.Core.List.{List, [], _++_}
+use Prim.Native.Nat.{ℕ}
+use Rattle.tokens.specs.Text.{bytesOf}
+use Rattle.tokens.specs.Number.{unsignedText}
+use Rattle.params.specs.declared.Refusal.{Refusal}
+use Rattle.params.specs.Refusals.{refusalNumber}
+use Rattle.exact.specs.declared.Figure.{Figure}
+use Rattle.figure_text.specs.FigureText.{figureText}
+use Rattle.quote.specs.declared.Quote.{Quote}
+use Rattle.quote.specs.declared.Answer.{Answer}
+use Rattle.quote.specs.declared.Answer.the-variants.{Quoted, Refused}
+
+-- `no=` and a refusal's number, as a line
+unfoldable pub refusalLine : Refusal → List ℕ
+refusalLine r = (bytesOf "no=" ++ unsignedText (refusalNumber r)) ++ bytesOf "\n"
+
+-- the two ends, in whole units
+unfoldable pub endsText : ℕ → ℕ → List ℕ
+endsText lower upper = (bytesOf " lo=" ++ unsignedText lower) ++ (bytesOf " hi=" ++ unsignedText upper)
+
+-- a figure, with so many decimals
+unfoldable pub shownText : ℕ → Figure → List ℕ
+shownText d figure = bytesOf " fig=" ++ (figureText d figure ++ bytesOf "\n")
+
+-- a quote, with its ends where they are asked for
+unfoldable pub quoteText : Bool → ℕ → Quote → List ℕ
+quoteText ends d a = cond ends (endsText (a .lower) (a .upper)) [] ++ shownText d (a .figure)
+
+-- an answer
+unfoldable pub answerText : Bool → ℕ → Answer → List ℕ
+answerText ends d (Quoted a) = quoteText ends d a
+answerText ends d (Refused r) = bytesOf " " ++ refusalLine r

@@ -1,0 +1,5 @@
+-- definitions
+pub mod AnswerText
+-- laws
+pub mod Sizes
+pub mod Lengths

@@ -1,0 +1,84 @@
+// What is printed after a query, written into a buffer that the caller lends.
+ghost use mathlib.Core.Path.{_≡_};
+ghost use mathlib.Core.List.{_++_};
+ghost use Prim.Native.Nat.{_^_, _<_};
+ghost use Rattle.tokens.specs.Number.{mostDigits, unsignedText};
+ghost use Rattle.printing.specs.Put.{Room, Put};
+ghost use Rattle.figure_text.specs.FigureText.{Printable};
+ghost use Rattle.answer_text.specs.AnswerText.{refusalLine, endsText, shownText, quoteText, answerText};
+ghost use Rattle.answer_text.specs.Sizes.{Sized, SizedAnswer};
+use exact::Figure;
+use params::Refusal;
+use quote::Answer;
+use quote::Quote;
+
+// Writes a name and a number; the place after them.
+fn put_field(buffer: &mut [u8], at: usize, name: &[u8], n: u64) -> usize
+    requires { ⌜ (n < 10 ^ mostDigits) × Room (now buffer) at (now name ++ unsignedText n) ⌝ }
+    ensures { λ r. ⌜ Put (now (buffer .entry)) at (now (name .entry) ++ unsignedText n) (now (buffer .exit)) r ⌝ }
+{
+    let place = printing::put_text(buffer, at, name);
+    printing::put_digits(buffer, place, n)
+}
+
+// Writes `no=` and a refusal's number, as a line; the place after it.
+pub fn put_refusal(buffer: &mut [u8], at: usize, refusal: Refusal) -> usize
+    requires { ⌜ Room (now buffer) at (refusalLine refusal) ⌝ }
+    ensures { λ r. ⌜ Put (now (buffer .entry)) at (refusalLine refusal) (now (buffer .exit)) r ⌝ }
+{
+    let number = params::refusal_number(refusal) as u64;
+    let end = put_field(buffer, at, b"no=", number);
+    printing::put_text(buffer, end, b"\n")
+}
+
+// Writes the two ends; the place after them.
+fn put_ends(buffer: &mut [u8], at: usize, lower: u64, upper: u64) -> usize
+    requires { ⌜ (lower < 10 ^ mostDigits) × (upper < 10 ^ mostDigits) × Room (now buffer) at (endsText lower upper) ⌝ }
+    ensures { λ r. ⌜ Put (now (buffer .entry)) at (endsText lower upper) (now (buffer .exit)) r ⌝ }
+{
+    let place = put_field(buffer, at, b" lo=", lower);
+    put_field(buffer, place, b" hi=", upper)
+}
+
+// Writes ` fig=`, a figure with so many decimals, and the line feed; the place after it.
+fn put_shown(buffer: &mut [u8], at: usize, decimals: usize, figure: Figure) -> usize
+    requires { ⌜ Printable figure × Room (now buffer) at (shownText decimals figure) ⌝ }
+    ensures { λ r. ⌜ Put (now (buffer .entry)) at (shownText decimals figure) (now (buffer .exit)) r ⌝ }
+{
+    let place = printing::put_text(buffer, at, b" fig=");
+    let end = figure_text::put_figure(buffer, place, decimals, figure);
+    printing::put_text(buffer, end, b"\n")
+}
+
+// Writes what follows a query that is quoted, with the ends where they are shown; the place after it.
+fn put_quote(buffer: &mut [u8], at: usize, ends: bool, decimals: usize, quote: Quote) -> usize
+    requires { ⌜ Sized quote × Room (now buffer) at (quoteText ends decimals quote) ⌝ }
+    ensures { λ r. ⌜ Put (now (buffer .entry)) at (quoteText ends decimals quote) (now (buffer .exit)) r ⌝ }
+{
+    let figure = quote.figure;
+    if !ends {
+        return put_shown(buffer, at, decimals, figure);
+    }
+    let place = put_ends(buffer, at, quote.lower, quote.upper);
+    put_shown(buffer, place, decimals, figure)
+}
+
+// Writes what follows a query; the place after it.
+pub fn put_answer(
+    buffer: &mut [u8],
+    at: usize,
+    ends: bool,
+    decimals: usize,
+    answer: Answer,
+) -> usize
+    requires { ⌜ SizedAnswer answer × Room (now buffer) at (answerText ends decimals answer) ⌝ }
+    ensures { λ r. ⌜ Put (now (buffer .entry)) at (answerText ends decimals answer) (now (buffer .exit)) r ⌝ }
+{
+    match answer {
+        Answer::Quoted(quote) => put_quote(buffer, at, ends, decimals, quote),
+        Answer::Refused(refusal) => {
+            let place = printing::put_text(buffer, at, b" ");
+            put_refusal(buffer, place, refusal)
+        }
+    }
+}

@@ -1,0 +1,5 @@
+-- definitions
+pub mod Line
+pub mod Into
+-- laws
+pub mod LineLaws

@@ -1,0 +1,26 @@
+-- "A probability prints five decimals, an expectancy one": a figure as text.
+use mathlib.Core.List.{List, [], _∷_, _++_}
+use Prim.Native.Nat.{ℕ, zero, suc, _+_, _/_, _%_, _^_, _<_}
+use Rattle.tokens.specs.Text.{bytesOf}
+use Rattle.tokens.specs.Number.{zeroDigit, mostDigits, unsignedText}
+use Rattle.exact.specs.declared.Figure.{Figure}
+use Rattle.exact.specs.declared.Figure.the-variants.{Printed, Open}
+
+-- the last digits of n, so many
+unfoldable pub lastDigits : ℕ → ℕ → List ℕ
+lastDigits zero n = []
+lastDigits (suc d) n = lastDigits d (n / 10) ++ ((zeroDigit + n % 10) ∷ [])
+
+-- n steps of 1/10ᵈ: the whole part, the point and d decimals
+unfoldable pub stepsText : ℕ → ℕ → List ℕ
+stepsText d n = unsignedText (n / 10 ^ d) ++ (bytesOf "." ++ lastDigits d n)
+
+-- a figure's number of steps, or `open`
+unfoldable pub figureText : ℕ → Figure → List ℕ
+figureText d (Printed n) = stepsText d n
+figureText d Open = bytesOf "open"
+
+-- steps of at most 15 digits
+unfoldable pub Printable : Figure → Type 0
+Printable (Printed n) = n < 10 ^ mostDigits
+Printable Open = Unit

@@ -1,0 +1,6 @@
+-- definitions
+pub mod FigureText
+-- examples
+pub mod Rows
+-- laws
+pub mod FigureTextLaws

@@ -1,0 +1,48 @@
+// A figure as text: its steps with so many decimals, or `open`.
+ghost use mathlib.Core.Path.{_≡_};
+ghost use Prim.Native.Nat.{_/_, _^_};
+ghost use Rattle.printing.specs.Put.{Room, Put};
+ghost use Rattle.figure_text.specs.FigureText.{lastDigits, figureText, Printable};
+use exact::Figure;
+
+// A number without its last digits.
+fn without_last(n: u64, decimals: usize) -> u64
+    ensures { λ r. ⌜ r ≡ n / 10 ^ decimals ⌝ }
+{
+    let mut rest = n;
+    let mut left = decimals;
+    while 0 < left {
+        rest = rest / 10;
+        left -= 1;
+    }
+    rest
+}
+
+// Writes a number's last digits from a place on, the last one first; the place after them.
+fn put_last_digits(buffer: &mut [u8], at: usize, decimals: usize, n: u64) -> usize
+    requires { ⌜ Room (now buffer) at (lastDigits decimals n) ⌝ }
+    ensures { λ r. ⌜ Put (now (buffer .entry)) at (lastDigits decimals n) (now (buffer .exit)) r ⌝ }
+{
+    let mut rest = n;
+    let mut left = decimals;
+    while 0 < left {
+        left -= 1;
+        buffer[at + left] = b'0' + (rest % 10) as u8;
+        rest = rest / 10;
+    }
+    at + decimals
+}
+
+// Writes a figure from a place on; the place after it.
+pub fn put_figure(buffer: &mut [u8], at: usize, decimals: usize, figure: Figure) -> usize
+    requires { ⌜ Printable figure × Room (now buffer) at (figureText decimals figure) ⌝ }
+    ensures { λ r. ⌜ Put (now (buffer .entry)) at (figureText decimals figure) (now (buffer .exit)) r ⌝ }
+{
+    let Figure::Printed(steps) = figure else {
+        return printing::put_text(buffer, at, b"open");
+    };
+    let whole = without_last(steps, decimals) as i64;
+    let point = printing::put_number(buffer, at, whole);
+    let first = printing::put_text(buffer, point, b".");
+    put_last_digits(buffer, first, decimals, steps)
+}

@@ -1,0 +1,30 @@
+-- `decimals_of` meets its contract, case by case.
+use borrow.Author.Needs.{needs}
+use mathlib.Core.Path.{sym, ap}
+use Rattle.kinds.specs.Kinds.{decimalsOf}
+use Rattle.kinds.proofs.decimals_of.Statement.{statement}
+use Rattle.kinds.proofs.decimals_of.Tie as tie
+
+enum-told : tie.Need-enum-told
+enum-told c = search needs
+
+enum-told-2 : tie.Need-enum-told-2
+enum-told-2 c = search needs
+
+enum-told-3 : tie.Need-enum-told-3
+enum-told-3 c = search needs
+
+returns : tie.Need-returns
+unfolding decimalsOf
+returns c = sym (ap decimalsOf (c .enum-told .given .1))
+
+returns-2 : tie.Need-returns-2
+unfolding decimalsOf
+returns-2 c = sym (ap decimalsOf (c .enum-told2 .given .1))
+
+returns-3 : tie.Need-returns-3
+unfolding decimalsOf
+returns-3 c = sym (ap decimalsOf (c .enum-told3 .given .1))
+
+pub decimals-of-spec : {M : Type 1} → statement M
+decimals-of-spec = tie.close (tie.spec enum-told enum-told-2 enum-told-3 returns returns-2 returns-3)

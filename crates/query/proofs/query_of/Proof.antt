@@ -1,0 +1,248 @@
+-- `query_of` meets its contract: each part of the line is found at its place and leaves the others to be read, or the
+-- line is torn.
+use borrow.Author.Needs.{needs}
+use mathlib.Core.Path.{_≡_, sym, _∙_}
+use Prim.Native.Nat.{ℕ, _+_}
+use native.Mathlib.Omega.{arith}
+use mathlib.Core.List.{List}
+use lib.ListN.{drop}
+use Rattle.tokens.specs.Text.{bytesOf}
+use Rattle.tokens.specs.TextLaws.{text-found, text-missing, text-room}
+use Rattle.tokens.specs.ReadLaws.{lacks, has, held, read-torn, read-taken}
+use Rattle.tokens.specs.Steps.{goes, stops}
+use Rattle.query.specs.declared.Query.{Query}
+use Rattle.query.specs.Query.{alone, readQuery}
+use Rattle.query.proofs.QuerySteps.{lineEnd, fromSpan, fromYear, fromAge, fromKind}
+use Rattle.query.proofs.QuerySteps.{start-torn, start-taken, followed, at-end, kind-torn, kind-taken}
+use Rattle.query.proofs.query_of.Statement.{statement}
+use Rattle.query.proofs.query_of.Tie as tie
+
+-- ---- the places where a part is read, seen from the next
+
+abbrev entry : tie.Else1 → tie.Start
+entry c = c .before .before .before .before
+
+abbrev line : tie.Else1 → List ℕ
+line c = entry c .args .line .now
+
+abbrev start : tie.After-known-told → tie.Else1
+start c = c .before .before .before .before
+
+abbrev told : tie.After-known-told2 → tie.After-known-told
+told c = c .before .before .before .before .before
+
+abbrev told₂ : tie.After-known-told3 → tie.After-known-told2
+told₂ c = c .before .before .before .before .before
+
+abbrev told₃ : tie.After-known-told4 → tie.After-known-told3
+told₃ c = c .before .before .before .before .before
+
+abbrev told₄ : tie.After-text-at2 → tie.After-known-told4
+told₄ c = c .before .before
+
+-- the start and the end of the line, seen from its end
+abbrev first : tie.Else2 → tie.Else1
+first c = start (told (told₂ (told₃ (told₄ (c .before)))))
+
+abbrev end : tie.Else2 → ℕ
+end c = told₄ (c .before) .before .span .given .0 .1 .0 + 1
+
+-- the query that was read
+asked : tie.After-known-told4 → Query
+asked c =
+    let c₃ = told₃ c in
+    let c₂ = told₂ c₃ in
+    record {
+      kind = told c₂ .before .kind .given .0 .0;
+      age = c₂ .before .age .given .0 .0;
+      year = c₃ .before .year .given .0 .0;
+      span = c .before .span .given .0 .0;
+    }
+
+-- ---- what each part leaves to be read
+
+after-start : (c : tie.Else1) → let l = line c in readQuery l ≡ fromKind (drop 5 l)
+unfolding bytesOf
+after-start c = start-taken _ (text-found _ 0 (bytesOf "kind=") (has (c .before .text-at .ensures) (c .if1 .left)))
+
+after-kind : (c : tie.After-known-told) → let l = line (start c) in let g = c .before .kind .given .0 in
+    readQuery l ≡ fromAge (g .0) (drop (g .1 .0) l)
+after-kind c =
+    after-start (start c)
+    ∙ goes _ (kind-taken _ (c .before .before .before .kind-at .ensures) (c .before .kind .given .1))
+
+after-age : (c : tie.After-known-told2) → let c₁ = told c in let l = line (start c₁) in
+    let g = c .before .age .given .0 in
+    readQuery l ≡ fromYear (c₁ .before .kind .given .0 .0) (g .0) (drop (g .1 .0) l)
+unfolding bytesOf
+after-age c =
+    after-kind (told c)
+    ∙ goes _ (read-taken _ (c .before .before .before .field-at .ensures) (c .before .age .given .1))
+
+after-year : (c : tie.After-known-told3) → let c₂ = told₂ c in let c₁ = told c₂ in let l = line (start c₁) in
+    let g = c .before .year .given .0 in
+    readQuery l ≡ fromSpan (c₁ .before .kind .given .0 .0) (c₂ .before .age .given .0 .0) (g .0) (drop (g .1 .0) l)
+unfolding bytesOf
+after-year c =
+    after-age (told₂ c)
+    ∙ goes _ (read-taken _ (c .before .before .before .field-at2 .ensures) (c .before .year .given .1))
+
+after-span : (c : tie.After-known-told4) → let l = line (start (told (told₂ (told₃ c)))) in
+    readQuery l ≡ lineEnd (asked c) (drop (c .before .span .given .0 .1 .0) l)
+unfolding asked bytesOf
+after-span c =
+    after-year (told₃ c)
+    ∙ goes _ (read-taken _ (c .before .before .before .field-at3 .ensures) (c .before .span .given .1))
+
+after-end : (c : tie.Else2)
+    → readQuery (line (first c)) ≡ alone (asked (told₄ (c .before))) (drop (end c) (line (first c)))
+unfolding bytesOf
+after-end c =
+    after-span (told₄ (c .before))
+    ∙ goes _ (text-found _ _ (bytesOf "\n") (has (c .before .text-at2 .ensures) (c .if2 .left)))
+
+-- ---- the needs
+
+slice-aggregate-text-at : tie.Need-slice-aggregate-text-at
+slice-aggregate-text-at c = search needs
+
+text-at-requires : tie.Need-text-at-requires
+text-at-requires c κs = search needs
+
+returns : tie.Need-returns
+unfolding bytesOf
+returns c = sym (start-torn _ (text-missing _ 0 (bytesOf "kind=") (lacks (c .before .text-at .ensures) (c .if1 .taken))))
+
+kind-at-requires : tie.Need-kind-at-requires
+kind-at-requires c κs = search needs
+
+enum-known-kind : tie.Need-enum-known-kind
+enum-known-kind c = search needs
+
+enum-told : tie.Need-enum-told
+enum-told c = search needs
+
+returns-2 : tie.Need-returns-2
+returns-2 c =
+    let k = c .before .before in
+    sym (after-start (k .before) ∙ stops _ (kind-torn _ (k .kind-at .ensures) (c .enum-told .given .1)))
+
+slice-aggregate-field-at : tie.Need-slice-aggregate-field-at
+slice-aggregate-field-at c = search needs
+
+field-at-requires : tie.Need-field-at-requires
+field-at-requires c κs = search needs
+
+enum-known-age : tie.Need-enum-known-age
+enum-known-age c = search needs
+
+enum-told-2 : tie.Need-enum-told-2
+enum-told-2 c = search needs
+
+returns-3 : tie.Need-returns-3
+unfolding bytesOf
+returns-3 c =
+    let f = c .before .before in
+    sym (after-kind (f .before .before) ∙ stops _ (read-torn _ (f .field-at .ensures) (c .enum-told2 .given .1)))
+
+slice-aggregate-field-at-2 : tie.Need-slice-aggregate-field-at-2
+slice-aggregate-field-at-2 c = search needs
+
+field-at-requires-2 : tie.Need-field-at-requires-2
+field-at-requires-2 c κs = search needs
+
+enum-known-year : tie.Need-enum-known-year
+enum-known-year c = search needs
+
+enum-told-3 : tie.Need-enum-told-3
+enum-told-3 c = search needs
+
+returns-4 : tie.Need-returns-4
+unfolding bytesOf
+returns-4 c =
+    let f = c .before .before in
+    sym (after-age (f .before .before) ∙ stops _ (read-torn _ (f .field-at2 .ensures) (c .enum-told3 .given .1)))
+
+slice-aggregate-field-at-3 : tie.Need-slice-aggregate-field-at-3
+slice-aggregate-field-at-3 c = search needs
+
+field-at-requires-3 : tie.Need-field-at-requires-3
+field-at-requires-3 c κs = search needs
+
+enum-known-span : tie.Need-enum-known-span
+enum-known-span c = search needs
+
+enum-told-4 : tie.Need-enum-told-4
+enum-told-4 c = search needs
+
+returns-5 : tie.Need-returns-5
+unfolding bytesOf
+returns-5 c =
+    let f = c .before .before in
+    sym (after-year (f .before .before) ∙ stops _ (read-torn _ (f .field-at3 .ensures) (c .enum-told4 .given .1)))
+
+slice-aggregate-text-at-2 : tie.Need-slice-aggregate-text-at-2
+slice-aggregate-text-at-2 c = search needs
+
+text-at-requires-2 : tie.Need-text-at-requires-2
+text-at-requires-2 c κs = search needs
+
+returns-6 : tie.Need-returns-6
+unfolding bytesOf
+returns-6 c =
+    sym
+    (after-span (told₄ (c .before))
+    ∙ stops _ (text-missing _ _ (bytesOf "\n") (lacks (c .before .text-at2 .ensures) (c .if2 .taken))))
+
+add-if3 : tie.Need-add-if3
+add-if3 c =
+    omega (arith, entry (first c) .good .0, text-room _ _ _ (has (c .before .text-at2 .ensures) (c .if2 .left)))
+
+returns-7 : tie.Need-returns-7
+returns-7 c = sym (after-end (c .before) ∙ followed _ (line (first (c .before))) (end (c .before)) (omega arith))
+
+returns-8 : tie.Need-returns-8
+unfolding asked
+returns-8 c =
+    let c₄ = told₄ (c .before .before) in
+    let c₃ = told₃ c₄ in
+    let c₂ = told₂ c₃ in
+    rw (
+      held (c₂ .before .age .given .0 .0) (c₂ .known-told2 .given .0 .1),
+      held (c₃ .before .year .given .0 .0) (c₃ .known-told3 .given .0 .1),
+      held (c₄ .before .span .given .0 .0) (c₄ .known-told4 .given .0 .1),
+    )
+    (sym (after-end (c .before) ∙ at-end _ (line (first (c .before))) (end (c .before)) (omega arith)))
+
+pub query-of-spec : {M : Type 1} → statement M
+query-of-spec =
+    tie.close
+    (tie.spec
+    slice-aggregate-text-at
+    text-at-requires
+    returns
+    kind-at-requires
+    enum-known-kind
+    enum-told
+    returns-2
+    slice-aggregate-field-at
+    field-at-requires
+    enum-known-age
+    enum-told-2
+    returns-3
+    slice-aggregate-field-at-2
+    field-at-requires-2
+    enum-known-year
+    enum-told-3
+    returns-4
+    slice-aggregate-field-at-3
+    field-at-requires-3
+    enum-known-span
+    enum-told-4
+    returns-5
+    slice-aggregate-text-at-2
+    text-at-requires-2
+    returns-6
+    add-if3
+    returns-7
+    returns-8)

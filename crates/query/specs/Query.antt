@@ -1,0 +1,59 @@
+-- "A query line has the form shown below without its `fig=` part, numbers formed as in a sheet, and ends in a line feed":
+-- `kind=q age=65 year=2020 span=0`. What a line asks, and the text of what is asked.
+use Prim.Native.Nat.{ℕ}
+use mathlib.Core.List.{List, [], _∷_, _++_}
+use lib.IntN.{ℤ}
+use Rattle.tokens.specs.Text.{bytesOf, Parse, torn, taken, takeText}
+use Rattle.tokens.specs.Number.{readNumber, numberText}
+use Rattle.tokens.specs.Steps.{andThen}
+use Rattle.kinds.specs.declared.Kind.{Kind}
+use Rattle.kinds.specs.declared.Kind.the-variants.{Death, CohortSurvival, PeriodSurvival, CohortExpectancy, PeriodExpectancy}
+use Rattle.query.specs.declared.Query.{Query}
+
+-- ---- the kinds' words
+
+-- each kind's word
+unfoldable pub wordOf : Kind → List ℕ
+wordOf Death = bytesOf "q"
+wordOf CohortSurvival = bytesOf "coh"
+wordOf PeriodSurvival = bytesOf "per"
+wordOf CohortExpectancy = bytesOf "ecoh"
+wordOf PeriodExpectancy = bytesOf "eper"
+
+-- every kind: no kind's word begins with another's, so the order decides nothing
+unfoldable pub onOffer : List Kind
+onOffer = Death ∷ CohortSurvival ∷ PeriodSurvival ∷ CohortExpectancy ∷ PeriodExpectancy ∷ []
+
+-- ---- a query's text
+
+unfoldable pub queryText : Query → List ℕ
+queryText q =
+    bytesOf "kind=" ++ (wordOf (q .kind) ++ (bytesOf " age=" ++ (numberText (q .age)
+    ++ (bytesOf " year=" ++ (numberText (q .year) ++ (bytesOf " span=" ++ numberText (q .span)))))))
+
+-- ---- reading
+
+-- the kind whose word stands at the front
+unfoldable pub readWord : List Kind → List ℕ → Parse Kind
+readWord [] bs = torn
+readWord (k ∷ ks) bs = elim (takeText (wordOf k) bs) [ torn ↦ readWord ks bs | taken u rest ↦ taken k rest ]
+
+-- a name, and the number behind it
+unfoldable pub readField : List ℕ → List ℕ → Parse ℤ
+readField name bs = andThen (takeText name bs) (λ u rest. readNumber rest)
+
+-- a value that nothing follows
+unfoldable pub alone : {A : Type 0} → A → List ℕ → Parse A
+alone a [] = taken a []
+alone a (b ∷ bs) = torn
+
+-- the query of a whole line
+unfoldable pub readQuery : List ℕ → Parse Query
+readQuery line =
+    andThen (takeText (bytesOf "kind=") line) (λ u after₀.
+    andThen (readWord onOffer after₀) (λ kind after₁.
+    andThen (readField (bytesOf " age=") after₁) (λ age after₂.
+    andThen (readField (bytesOf " year=") after₂) (λ year after₃.
+    andThen (readField (bytesOf " span=") after₃) (λ span after₄.
+    andThen (takeText (bytesOf "\n") after₄) (λ v after₅.
+    alone (record { kind = kind; age = age; year = year; span = span }) after₅))))))

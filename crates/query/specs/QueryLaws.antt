@@ -1,0 +1,171 @@
+-- A query and its line: the line of a query reads as the query, and what reads as a query is its line. So each query has
+-- one line, and each line one query. And how long a query's text is.
+use mathlib.Core.Path.{_≡_, refl, _∙_}
+use Prim.Native.Nat.{ℕ, _+_, _^_, _≤_, _<_}
+use native.Mathlib.Omega.{arith}
+use mathlib.Core.List.{List, [], _∷_, _++_, append-assoc, append-nil}
+use lib.Dec.{T}
+use lib.IntN.{ℤ, natAbs}
+use lib.ListN.{length, length-append}
+use Rattle.tokens.specs.Text.{bytesOf, Parse, torn, taken, takeText}
+use Rattle.tokens.specs.Number.{mostDigits, isDigit, numberText}
+use Rattle.tokens.specs.TextLaws.{takeText-split, takeText-whole}
+use Rattle.tokens.specs.DecimalLaws.{number-length}
+use Rattle.tokens.specs.Steps.{goes}
+use Rattle.sheet.specs.NumberTrip.{noDigitFirst, torn-not-taken, number-reads, number-read}
+use Rattle.sheet.specs.SheetTrip.{then-taken}
+use Rattle.kinds.specs.declared.Kind.{Kind}
+use Rattle.kinds.specs.declared.Kind.the-variants.{Death, CohortSurvival, PeriodSurvival, CohortExpectancy, PeriodExpectancy}
+use Rattle.query.specs.declared.Query.{Query}
+use Rattle.query.specs.Query.{wordOf, onOffer, queryText, readWord, readField, alone, readQuery}
+
+-- ---- a word
+
+word-reads : (k : Kind) (rest : List ℕ) → readWord onOffer (wordOf k ++ rest) ≡ taken k rest
+unfolding readWord onOffer wordOf bytesOf takeText
+word-reads Death rest = refl
+word-reads CohortSurvival rest = refl
+word-reads PeriodSurvival rest = refl
+word-reads CohortExpectancy rest = refl
+word-reads PeriodExpectancy rest = refl
+
+word-read : (ks : List Kind) (bs : List ℕ) {k : Kind} {rest : List ℕ} → readWord ks bs ≡ taken k rest → bs ≡ wordOf k ++ rest
+unfolding readWord
+word-read [] bs e = torn-not-taken e
+word-read (k′ ∷ ks) bs {k} {rest} e = go (λ q. word-read ks bs q) (takeText (wordOf k′) bs) refl e
+  where
+    go : (readWord ks bs ≡ taken k rest → bs ≡ wordOf k ++ rest) → (p : Parse Unit) → takeText (wordOf k′) bs ≡ p
+        → _≡_ {A = Parse Kind} (elim p [ torn ↦ readWord ks bs | taken u after ↦ taken k′ after ]) (taken k rest)
+        → bs ≡ wordOf k ++ rest
+    go ih torn t q = ih q
+    go ih (taken u after) t q =
+        let x : k′ ≡ k = cc in
+        let y : after ≡ rest = cc in
+        rw (← x, ← y) (takeText-whole (wordOf k′) bs t)
+
+word-length : (k : Kind) → (1 ≤ length (wordOf k)) × (length (wordOf k) ≤ 4)
+unfolding wordOf bytesOf
+word-length Death = omega arith
+word-length CohortSurvival = omega arith
+word-length PeriodSurvival = omega arith
+word-length CohortExpectancy = omega arith
+word-length PeriodExpectancy = omega arith
+
+-- ---- a field
+
+field-reads : (name : List ℕ) (v : ℤ) (rest : List ℕ) → natAbs v < 10 ^ mostDigits → T (noDigitFirst rest)
+    → readField name (name ++ (numberText v ++ rest)) ≡ taken v rest
+unfolding readField
+field-reads name v rest h t = goes _ (takeText-split name (numberText v ++ rest)) ∙ number-reads v rest h t
+
+-- the bytes are the name, the number's text and the rest
+record FieldOf (name : List ℕ) (v : ℤ) (bs rest : List ℕ) : Type 0 where
+  is : bs ≡ name ++ (numberText v ++ rest)
+  small : natAbs v < 10 ^ mostDigits
+
+field-read : (name bs : List ℕ) {v : ℤ} {rest : List ℕ} → readField name bs ≡ taken v rest → FieldOf name v bs rest
+unfolding readField
+field-read name bs {v} {rest} e =
+    then-taken (takeText name bs) _ e λ u after q r.
+    let n = number-read after v rest r in
+    record { is = rw (takeText-whole name bs q, n .is); small = n .small }
+
+-- ---- a query
+
+-- the query's numbers have at most 15 digits
+pub record Small (q : Query) : Type 0 where
+  pub age : natAbs (q .age) < 10 ^ mostDigits
+  pub year : natAbs (q .year) < 10 ^ mostDigits
+  pub span : natAbs (q .span) < 10 ^ mostDigits
+
+-- the bytes are the query's line
+record LineOf (q : Query) (line : List ℕ) : Type 0 where
+  is : line ≡ queryText q ++ bytesOf "\n"
+  small : Small q
+
+-- the text, part by part, with what follows it
+query-apart : (q : Query) (rest : List ℕ)
+    → queryText q ++ rest
+    ≡ bytesOf "kind=" ++ (wordOf (q .kind) ++ (bytesOf " age=" ++ (numberText (q .age)
+    ++ (bytesOf " year=" ++ (numberText (q .year) ++ (bytesOf " span=" ++ (numberText (q .span) ++ rest)))))))
+unfolding queryText
+query-apart q rest = simp append-assoc
+
+alone-taken : {A : Type 0} (a : A) (bs : List ℕ) {b : A} {rest : List ℕ} → alone a bs ≡ taken b rest → (bs ≡ []) × (a ≡ b)
+unfolding alone
+alone-taken a [] e = (refl, cc)
+alone-taken a (c ∷ bs) e = torn-not-taken e
+
+line-read : (line : List ℕ) {q : Query} {rest : List ℕ} → readQuery line ≡ taken q rest → LineOf q line
+unfolding readQuery
+line-read line {q} e =
+    then-taken (takeText (bytesOf "kind=") line) _ e λ u b₀ e₀ f₀.
+    then-taken (readWord onOffer b₀) _ f₀ λ kind b₁ e₁ f₁.
+    then-taken (readField (bytesOf " age=") b₁) _ f₁ λ age b₂ e₂ f₂.
+    then-taken (readField (bytesOf " year=") b₂) _ f₂ λ year b₃ e₃ f₃.
+    then-taken (readField (bytesOf " span=") b₃) _ f₃ λ span b₄ e₄ f₄.
+    then-taken (takeText (bytesOf "\n") b₄) _ f₄ λ v b₅ e₅ f₅.
+    let r : Query = record { kind = kind; age = age; year = year; span = span } in
+    let (none, same) = alone-taken r b₅ f₅ in
+    let a = field-read (bytesOf " age=") b₁ e₂ in
+    let y = field-read (bytesOf " year=") b₂ e₃ in
+    let s = field-read (bytesOf " span=") b₃ e₄ in
+    let l : b₄ ≡ bytesOf "\n" = takeText-whole (bytesOf "\n") b₄ e₅ ∙ rw (none, append-nil) in
+    rw (← same)
+    (record {
+      is = takeText-whole (bytesOf "kind=") line e₀
+          ∙ rw (word-read onOffer b₀ e₁, a .is, y .is, s .is, l, query-apart r (bytesOf "\n"));
+      small = record { age = a .small; year = y .small; span = s .small };
+    })
+
+-- what reads as a query is its text and a line feed
+pub query-text : (line : List ℕ) {q : Query} {rest : List ℕ} → readQuery line ≡ taken q rest
+    → line ≡ queryText q ++ bytesOf "\n"
+query-text line e = line-read line e .is
+
+-- and its numbers have at most 15 digits
+pub query-small : (line : List ℕ) {q : Query} {rest : List ℕ} → readQuery line ≡ taken q rest → Small q
+query-small line e = line-read line e .small
+
+-- the line of such a query reads as the query
+pub query-reads : (q : Query) → Small q → readQuery (queryText q ++ bytesOf "\n") ≡ taken q []
+unfolding readQuery alone bytesOf isDigit
+query-reads q h =
+    let s = bytesOf " span=" ++ (numberText (q .span) ++ bytesOf "\n") in
+    let y = bytesOf " year=" ++ (numberText (q .year) ++ s) in
+    let a = bytesOf " age=" ++ (numberText (q .age) ++ y) in
+    rw (query-apart q (bytesOf "\n"))
+    (goes _ (takeText-split (bytesOf "kind=") (wordOf (q .kind) ++ a))
+    ∙ goes _ (word-reads (q .kind) a)
+    ∙ goes _ (field-reads (bytesOf " age=") (q .age) y (h .age) tt)
+    ∙ goes _ (field-reads (bytesOf " year=") (q .year) s (h .year) tt)
+    ∙ goes _ (field-reads (bytesOf " span=") (q .span) (bytesOf "\n") (h .span) tt)
+    ∙ goes _ (takeText-split (bytesOf "\n") []))
+
+-- ---- lengths
+
+-- 22 bytes besides the word and the numbers
+query-length : (q : Query)
+    → length (queryText q)
+    ≡ 22 + length (wordOf (q .kind)) + length (numberText (q .age)) + length (numberText (q .year))
+    + length (numberText (q .span))
+unfolding queryText bytesOf
+query-length q = simp length-append (omega arith)
+
+query-between : (q : Query) → (26 ≤ length (queryText q)) × (length (queryText q) ≤ 74)
+query-between q =
+    omega (
+      arith,
+      query-length q,
+      word-length (q .kind),
+      number-length (q .age),
+      number-length (q .year),
+      number-length (q .span),
+    )
+
+-- at least 26 bytes, and at most 74
+pub query-least : (q : Query) → 26 ≤ length (queryText q)
+query-least q = query-between q .0
+
+pub query-most : (q : Query) → length (queryText q) ≤ 74
+query-most q = query-between q .1

@@ -1,0 +1,94 @@
+// A query line, `kind=… age=… year=… span=…` and a line feed, read from its bytes.
+ghost use mathlib.Core.Path.{_≡_};
+ghost use lib.ListN.{drop};
+ghost use Rattle.tokens.specs.Places.{numberRead};
+ghost use Rattle.query.specs.Query.{onOffer, readWord, readField, readQuery};
+ghost use Rattle.query.specs.Code.{kindRead, queryRead};
+use kinds::Kind;
+use tokens::NumberRead;
+
+// What is asked of a life.
+pub struct Query {
+    pub kind: Kind,
+    pub age: i64,
+    pub year: i64,
+    pub span: i64,
+}
+
+// A kind whose word was read, with the place after it.
+pub enum KindRead {
+    Torn,
+    Of(Kind, usize),
+}
+
+// A query that was read.
+pub enum QueryRead {
+    Torn,
+    Of(Query),
+}
+
+// The kind whose word stands at a place.
+pub fn kind_at(bytes: &[u8], at: usize) -> KindRead
+    ensures { λ r. ⌜ kindRead (now (bytes .entry)) r ≡ readWord onOffer (drop at (now (bytes .entry))) ⌝ }
+{
+    if tokens::text_at(bytes, at, b"q") {
+        return KindRead::Of(Kind::Death, at + 1);
+    }
+    if tokens::text_at(bytes, at, b"coh") {
+        return KindRead::Of(Kind::CohortSurvival, at + 3);
+    }
+    if tokens::text_at(bytes, at, b"per") {
+        return KindRead::Of(Kind::PeriodSurvival, at + 3);
+    }
+    if tokens::text_at(bytes, at, b"ecoh") {
+        return KindRead::Of(Kind::CohortExpectancy, at + 4);
+    }
+    if tokens::text_at(bytes, at, b"eper") {
+        return KindRead::Of(Kind::PeriodExpectancy, at + 4);
+    }
+    KindRead::Torn
+}
+
+// The number behind a name at a place.
+fn field_at(bytes: &[u8], at: usize, name: &[u8]) -> NumberRead
+    ensures { λ r. ⌜ numberRead (now (bytes .entry)) r
+        ≡ readField (now (name .entry)) (drop at (now (bytes .entry))) ⌝ }
+{
+    if !tokens::text_at(bytes, at, name) {
+        return NumberRead::Torn;
+    }
+    tokens::number_at(bytes, at + name.len())
+}
+
+// The query of a line.
+pub fn query_of(line: &[u8]) -> QueryRead
+    ensures { λ r. ⌜ queryRead r ≡ readQuery (now (line .entry)) ⌝ }
+{
+    if !tokens::text_at(line, 0, b"kind=") {
+        return QueryRead::Torn;
+    }
+    let KindRead::Of(kind, after_kind) = kind_at(line, 5) else {
+        return QueryRead::Torn;
+    };
+    let NumberRead::Number(age, after_age) = field_at(line, after_kind, b" age=") else {
+        return QueryRead::Torn;
+    };
+    let NumberRead::Number(year, after_year) = field_at(line, after_age, b" year=") else {
+        return QueryRead::Torn;
+    };
+    let NumberRead::Number(span, after_span) = field_at(line, after_year, b" span=") else {
+        return QueryRead::Torn;
+    };
+    if !tokens::text_at(line, after_span, b"\n") {
+        return QueryRead::Torn;
+    }
+    if after_span + 1 < line.len() {
+        return QueryRead::Torn;
+    }
+    QueryRead::Of(Query {
+        kind,
+        age,
+        year,
+        span,
+    })
+}
