@@ -1,0 +1,71 @@
+-- `kulfizan_write` meets its contract: torn where the numbers are no set's, else what the writer answers.
+use mathlib.Core.Path.{_≡_, sym, _∙_}
+use mathlib.Core.Bool.{true}
+use borrow.Author.Tests.{not-true, not-false}
+use Rattle.kulfizan.specs.Face.{areSet}
+use Rattle.kulfizan.specs.AnswerLaws.{as-many, write-torn, write-refused, write-accepted}
+use borrow.Author.Needs.{needs}
+use Rattle.kulfizan.proofs.kulfizan_write.Statement.{statement}
+use Rattle.kulfizan.proofs.kulfizan_write.Tie as tie
+
+-- past the first test
+a-set : (c : tie.Else1) → areSet (c .before .before .before .args .values .now) ≡ true
+a-set c = let t = c .before .are-set in sym (t .ensures) ∙ not-false (t .result) (c .if1 .left)
+
+are-set-requires : tie.Need-are-set-requires
+are-set-requires c κs = search needs
+
+refusal-number-requires : tie.Need-refusal-number-requires
+refusal-number-requires c κs = search needs
+
+returns : tie.Need-returns
+returns c =
+    let t = c .before in
+    let a = t .before .are-set in
+    write-torn _ _ _ (sym (a .ensures) ∙ not-true (a .result) (t .if1 .taken)) (c .refusal-number .ensures)
+
+set-of-requires : tie.Need-set-of-requires
+set-of-requires c κs = as-many _ (a-set c)
+
+write-requires : tie.Need-write-requires
+write-requires c κs = search needs
+
+refusal-number-requires-2 : tie.Need-refusal-number-requires-2
+refusal-number-requires-2 c κs = search needs
+
+same-length : tie.Need-same-length
+same-length c = search needs
+
+returns-2 : tie.Need-returns-2
+returns-2 c =
+    let n = c .before in
+    let w = n .before .before .before in
+    let s = w .before .before in
+    write-accepted _ _ _ (a-set (s .before)) (s .set-of .ensures) (w .write .ensures) (n .refusal-number2 .ensures)
+    (c .if2 .taken)
+
+same-length-2 : tie.Need-same-length-2
+same-length-2 c = search needs
+
+returns-3 : tie.Need-returns-3
+returns-3 c =
+    let n = c .before in
+    let w = n .before .before .before in
+    let s = w .before .before in
+    write-refused _ _ _ (a-set (s .before)) (s .set-of .ensures) (w .write .ensures) (n .refusal-number2 .ensures)
+    (c .if2 .left)
+
+pub kulfizan-write-spec : {M : Type 1} → statement M
+kulfizan-write-spec =
+    tie.close
+    (tie.spec
+    are-set-requires
+    refusal-number-requires
+    returns
+    set-of-requires
+    write-requires
+    refusal-number-requires-2
+    same-length
+    returns-2
+    same-length-2
+    returns-3)

@@ -1,0 +1,151 @@
+-- What the calls answer, and what they leave in what they are lent, in each of their cases; and the sex of a number that is
+-- held in 64 bits.
+use mathlib.Core.Path.{_≡_, refl, sym, ap, _∙_}
+use Prim.Native.Nat.{ℕ, zero, suc, _≤_, _<_}
+use native.Mathlib.Omega.{arith}
+use mathlib.Core.Bool.{Bool, true, false, _&&_, cond}
+use mathlib.Core.List.{List}
+use borrow.Author.Tests.{le-leb, lt-leb, eq-eqb, ne-eqb, eqb-true}
+use lib.Dec.{eqb, leb}
+use lib.IntN.{ℤ, pos, negsuc}
+use lib.ListN.{length, getD}
+use mir.Syntax.{w64}
+use mir.Val.{SFits, ofZ}
+use Rattle.params.specs.declared.Params.{Params}
+use Rattle.params.specs.declared.Sex.the-variants.{M, F}
+use Rattle.params.specs.declared.Refusal.{Refusal}
+use Rattle.params.specs.declared.Refusal.the-variants.{Accepted, Torn, OffScale, Short}
+use Rattle.params.specs.Refusals.{refusalNumber}
+use Rattle.params.specs.Limits.{inLimits}
+use Rattle.sheet.specs.declared.Reading.{Reading}
+use Rattle.sheet.specs.declared.Written.{Written}
+use Rattle.sheet.specs.Sheet.{readSheet, sheetText, writeRefusal, writtenLength, writeAnswer, writtenBuffer}
+use Rattle.kulfizan.specs.Face.{setLength, isSex, sexOf, areSet, setOf, setOver, readNo, numbersAfter}
+use Rattle.kulfizan.specs.Face.{writeNo, bufferAfter, lengthAfter}
+
+-- ---- the sex
+
+-- the bits are not 0: is it 1?
+other-sex : (z : ℤ) → SFits w64 z → (ofZ w64 z ≡ 0 → ⊥) → eqb (ofZ w64 z) 1 ≡ isSex z
+unfolding isSex
+other-sex (pos zero) f h = absurd (h refl)
+other-sex (pos (suc zero)) f h = refl
+other-sex (pos (suc (suc n))) f h = rw (ne-eqb (suc (suc n)) 1 (λ e. omega arith), lt-leb (suc (suc n)) 1 (omega arith))
+other-sex (negsuc n) f h = ne-eqb (ofZ w64 (negsuc n)) 1 (λ e. omega (arith, f .sfits))
+
+-- the bits are 0
+is-zero : (z : ℤ) → SFits w64 z → ofZ w64 z ≡ 0 → z ≡ pos 0
+is-zero (pos n) f e = ap pos e
+is-zero (negsuc n) f e = absurd (omega (arith, f .sfits))
+
+pub sex-zero : (z : ℤ) → SFits w64 z → ofZ w64 z ≡ 0 → sexOf z ≡ M
+unfolding sexOf
+sex-zero z f e = rw (is-zero z f e)
+
+pub sex-other : (z : ℤ) → (ofZ w64 z ≡ 0 → ⊥) → sexOf z ≡ F
+unfolding sexOf
+sex-other (pos zero) h = absurd (h refl)
+sex-other (pos (suc n)) h = refl
+sex-other (negsuc n) h = refl
+
+-- ---- whether numbers are a set's
+
+module _ (ns : List ℤ) where
+  pub not-as-many : (length ns ≡ setLength → ⊥) → areSet ns ≡ false
+  unfolding areSet
+  not-as-many h = rw (ne-eqb (length ns) setLength h)
+
+  pub first-zero : length ns ≡ setLength → SFits w64 (getD ns 0 (pos 0)) → ofZ w64 (getD ns 0 (pos 0)) ≡ 0
+      → areSet ns ≡ true
+  unfolding areSet isSex
+  first-zero h f e = rw (eq-eqb (length ns) setLength h, is-zero _ f e)
+
+  pub first-other : length ns ≡ setLength → SFits w64 (getD ns 0 (pos 0)) → (ofZ w64 (getD ns 0 (pos 0)) ≡ 0 → ⊥)
+      → areSet ns ≡ eqb (ofZ w64 (getD ns 0 (pos 0))) 1
+  unfolding areSet
+  first-other h f e = rw (eq-eqb (length ns) setLength h) (sym (other-sex _ f e))
+
+  pub as-many : areSet ns ≡ true → length ns ≡ setLength
+  unfolding areSet
+  as-many = go (eqb (length ns) setLength) refl
+    where
+      go : (b : Bool) → eqb (length ns) setLength ≡ b → b && isSex (getD ns 0 (pos 0)) ≡ true → length ns ≡ setLength
+      go true e h = eqb-true (length ns) setLength e
+      go false e h = let z : _≡_ {A = ℕ} 0 1 = cc in absurd (omega arith)
+
+-- ---- reading
+
+-- the number and the numbers after a reading
+abbrev pub Read : List ℕ → List ℤ → ℕ → List ℤ → Type 0
+Read sheet before answer after = (answer ≡ readNo sheet (length before)) × (after ≡ numbersAfter sheet before)
+
+module _ (sheet : List ℕ) (before : List ℤ) {got : Reading} (e : got ≡ readSheet sheet) {no : ℕ}
+    (n : no ≡ refusalNumber (got .refusal)) where
+  is : refusalNumber (readSheet sheet .refusal) ≡ no
+  is = sym (n ∙ ap (λ (r : Reading). refusalNumber (r .refusal)) e)
+
+  pub read-refused : (no ≡ 0 → ⊥) → Read sheet before no before
+  unfolding readNo numbersAfter
+  read-refused h = let q = ne-eqb no 0 h in (rw (is, q), rw (is, q, q))
+
+  pub read-short : no ≡ 0 → length before < setLength → {short : ℕ} → short ≡ refusalNumber Short
+      → Read sheet before short before
+  unfolding readNo numbersAfter refusalNumber
+  read-short h s k = let q = lt-leb setLength (length before) s in (rw (is, h, q) k, rw (is, h, q))
+
+  pub read-accepted : no ≡ 0 → setLength ≤ length before → {after : List ℤ} → after ≡ setOver (got .set) before
+      → Read sheet before 0 after
+  unfolding readNo numbersAfter
+  read-accepted h s k =
+      let q = le-leb setLength (length before) s in
+      (rw (is, h, q), k ∙ rw (is, h, q) (ap (λ (r : Reading). setOver (r .set) before) e))
+
+-- ---- writing
+
+-- the number, the buffer and the length after a writing
+abbrev pub Wrote : List ℤ → List ℕ → ℕ → ℕ → List ℕ → ℕ → Type 0
+Wrote ns buffer len answer after told =
+    (answer ≡ writeNo ns (length buffer)) × (after ≡ bufferAfter ns buffer) × (told ≡ lengthAfter ns (length buffer) len)
+
+pub write-torn : (ns : List ℤ) (buffer : List ℕ) (len : ℕ) → areSet ns ≡ false → {no : ℕ} → no ≡ refusalNumber Torn
+    → Wrote ns buffer len no buffer len
+unfolding writeNo bufferAfter lengthAfter refusalNumber
+write-torn ns buffer len e n = (n ∙ rw e, rw e, rw e)
+
+-- an accepted writing tells the length of the sheet
+told-length : (p : Params) (room : ℕ) → refusalNumber (writeRefusal p room) ≡ 0
+    → writtenLength p room ≡ length (sheetText p)
+unfolding writeRefusal writtenLength refusalNumber
+told-length p room = go (inLimits p) (leb (length (sheetText p)) room)
+  where
+    go : (a b : Bool) → refusalNumber (cond a (cond b Accepted Short) OffScale) ≡ 0
+        → cond a (cond b (length (sheetText p)) 0) 0 ≡ length (sheetText p)
+    go true true e = refl
+    go true false e = absurd (omega arith)
+    go false b e = absurd (omega arith)
+
+module _ (ns : List ℤ) (buffer : List ℕ) (len : ℕ) (t : areSet ns ≡ true) {p : Params} (e : p ≡ setOf ns) {got : Written}
+    {after : List ℕ} (w : (got ≡ writeAnswer p (length buffer)) × (after ≡ writtenBuffer p buffer)) {no : ℕ}
+    (n : no ≡ refusalNumber (got .refusal)) where
+  number : no ≡ writeNo ns (length buffer)
+  unfolding writeNo writeAnswer
+  number = n ∙ rw (t, ← e) (ap (λ (g : Written). refusalNumber (g .refusal)) (w .0))
+
+  bytes : after ≡ bufferAfter ns buffer
+  unfolding bufferAfter
+  bytes = rw (t, ← e) (w .1)
+
+  pub write-refused : (no ≡ 0 → ⊥) → Wrote ns buffer len no after len
+  unfolding lengthAfter
+  write-refused h = (number, bytes, rw (← number, ne-eqb no 0 h))
+
+  pub write-accepted : no ≡ 0 → Wrote ns buffer len no after (got .len)
+  unfolding lengthAfter writeNo writeAnswer
+  write-accepted h =
+      let z : refusalNumber (writeRefusal p (length buffer)) ≡ 0 =
+      sym (ap (λ (g : Written). refusalNumber (g .refusal)) (w .0)) ∙ sym n ∙ h in
+      (
+        number,
+        bytes,
+        ap (λ (g : Written). g .len) (w .0) ∙ told-length p (length buffer) z ∙ rw (← number, h, e),
+      )

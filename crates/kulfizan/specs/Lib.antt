@@ -1,0 +1,5 @@
+-- definitions
+pub mod Face
+-- laws
+pub mod FaceLaws
+pub mod AnswerLaws
