@@ -94,23 +94,23 @@ module _ (sheet : List ℕ) (before : List ℤ) {got : Reading} (e : got ≡ rea
   read-short h s k = let q = lt-leb setLength (length before) s in (rw (is, h, q) k, rw (is, h, q))
 
   pub read-accepted : no ≡ 0 → setLength ≤ length before → {after : List ℤ} → after ≡ setOver (got .set) before
-      → Read sheet before 0 after
+      → Read sheet before no after
   unfolding readNo numbersAfter
   read-accepted h s k =
       let q = le-leb setLength (length before) s in
-      (rw (is, h, q), k ∙ rw (is, h, q) (ap (λ (r : Reading). setOver (r .set) before) e))
+      (h ∙ rw (is, h, q), k ∙ rw (is, h, q) (ap (λ (r : Reading). setOver (r .set) before) e))
 
 -- ---- writing
 
 -- the number, the buffer and the length after a writing
 abbrev pub Wrote : List ℤ → List ℕ → ℕ → ℕ → List ℕ → ℕ → Type 0
 Wrote ns buffer len answer after told =
-    (answer ≡ writeNo ns (length buffer)) × (after ≡ bufferAfter ns buffer) × (told ≡ lengthAfter ns (length buffer) len)
+    (answer ≡ writeNo ns (length buffer)) × ((after ≡ bufferAfter ns buffer) × (told ≡ lengthAfter ns (length buffer) len))
 
 pub write-torn : (ns : List ℤ) (buffer : List ℕ) (len : ℕ) → areSet ns ≡ false → {no : ℕ} → no ≡ refusalNumber Torn
     → Wrote ns buffer len no buffer len
 unfolding writeNo bufferAfter lengthAfter refusalNumber
-write-torn ns buffer len e n = (n ∙ rw e, rw e, rw e)
+write-torn ns buffer len e n = (n ∙ rw e, (rw e, rw e))
 
 -- an accepted writing tells the length of the sheet
 told-length : (p : Params) (room : ℕ) → refusalNumber (writeRefusal p room) ≡ 0
@@ -137,15 +137,12 @@ module _ (ns : List ℤ) (buffer : List ℕ) (len : ℕ) (t : areSet ns ≡ true
 
   pub write-refused : (no ≡ 0 → ⊥) → Wrote ns buffer len no after len
   unfolding lengthAfter
-  write-refused h = (number, bytes, rw (← number, ne-eqb no 0 h))
+  write-refused h = (number, (bytes, rw (← number, ne-eqb no 0 h)))
 
   pub write-accepted : no ≡ 0 → Wrote ns buffer len no after (got .len)
   unfolding lengthAfter writeNo writeAnswer
   write-accepted h =
       let z : refusalNumber (writeRefusal p (length buffer)) ≡ 0 =
       sym (ap (λ (g : Written). refusalNumber (g .refusal)) (w .0)) ∙ sym n ∙ h in
-      (
-        number,
-        bytes,
-        ap (λ (g : Written). g .len) (w .0) ∙ told-length p (length buffer) z ∙ rw (← number, h, e),
-      )
+      let k = ap (λ (g : Written). g .len) (w .0) ∙ told-length p (length buffer) z in
+      (number, (bytes, k ∙ rw (← number, h, e)))

@@ -49,7 +49,14 @@ fn put_set(values: &mut [i64], p: Params)
     let mut x: usize = 0;
     while x < AGES {
         let age = params::age_of_runs(&p.level, &p.slope, &p.alpha, &p.beta, x);
-        put_four(values, HEAD + 4 * x, age.level, age.slope, age.alpha, age.beta);
+        put_four(
+            values,
+            HEAD + 4 * x,
+            age.level,
+            age.slope,
+            age.alpha,
+            age.beta,
+        );
         x += 1;
     }
 }
@@ -58,7 +65,8 @@ fn put_set(values: &mut [i64], p: Params)
 // refusal's number, or 0; refused, the call leaves every number as it was.
 #[no_mangle]
 pub extern "C" fn kulfizan_read(sheet: &[u8], values: &mut [i64]) -> u8
-    ensures { λ r. ⌜ (r ≡ readNo (now (sheet .entry)) (length (now (values .entry)))) × (now (values .exit) ≡ numbersAfter (now (sheet .entry)) (now (values .entry))) ⌝ }
+    ensures { λ r. ⌜ r ≡ readNo (now (sheet .entry)) (length (now (values .entry))) ⌝ }
+    ensures { λ r. ⌜ now (values .exit) ≡ numbersAfter (now (sheet .entry)) (now (values .entry)) ⌝ }
 {
     let got = sheet_reader::read(sheet);
     let refusal = got.refusal;
@@ -71,7 +79,7 @@ pub extern "C" fn kulfizan_read(sheet: &[u8], values: &mut [i64]) -> u8
         return params::refusal_number(Refusal::Short);
     }
     put_set(values, set);
-    0
+    number
 }
 
 // Whether these numbers are a set's.
@@ -97,16 +105,16 @@ fn sex_of(number: i64) -> Sex
     Sex::F
 }
 
-// A run of parameters: of the numbers after the sex, from place i on, every fourth.
-fn run(values: &[i64], i: usize) -> [i64; AGES]
-    requires { ⌜ (length (now values) ≡ setLength) × (i < 8) ⌝ }
-    ensures { λ r. ⌜ r ≡ runFrom i (drop 1 (now (values .entry))) ⌝ }
+// A run of parameters: of the numbers after the sex, from a place on, every fourth.
+fn run(values: &[i64], from: usize) -> [i64; AGES]
+    requires { ⌜ (length (now values) ≡ setLength) × (from < 8) ⌝ }
+    ensures { λ r. ⌜ r ≡ runFrom from (drop 1 (now (values .entry))) ⌝ }
 {
     let mut out = [0i64; AGES];
-    let mut x: usize = 0;
-    while x < AGES {
-        out[x] = values[1 + i + 4 * x];
-        x += 1;
+    let mut age: usize = 0;
+    while age < AGES {
+        out[age] = values[1 + from + 4 * age];
+        age += 1;
     }
     out
 }
@@ -138,7 +146,9 @@ fn set_of(values: &[i64]) -> Params
 // leaves every byte and the length as they were.
 #[no_mangle]
 pub extern "C" fn kulfizan_write(values: &[i64], buffer: &mut [u8], len: &mut u64) -> u8
-    ensures { λ r. ⌜ (r ≡ writeNo (now (values .entry)) (length (now (buffer .entry)))) × (now (buffer .exit) ≡ bufferAfter (now (values .entry)) (now (buffer .entry))) × (now (len .exit) ≡ lengthAfter (now (values .entry)) (length (now (buffer .entry))) (now (len .entry))) ⌝ }
+    ensures { λ r. ⌜ r ≡ writeNo (now (values .entry)) (length (now (buffer .entry))) ⌝ }
+    ensures { λ r. ⌜ now (buffer .exit) ≡ bufferAfter (now (values .entry)) (now (buffer .entry)) ⌝ }
+    ensures { λ r. ⌜ now (len .exit) ≡ lengthAfter (now (values .entry)) (length (now (buffer .entry))) (now (len .entry)) ⌝ }
 {
     if !are_set(values) {
         return params::refusal_number(Refusal::Torn);

@@ -1,4 +1,5 @@
 -- `kulfizan_read` meets its contract: the sheet's refusal, else short, else the set's numbers.
+use native.Mathlib.Omega.{arith}
 use Rattle.kulfizan.specs.AnswerLaws.{read-refused, read-short, read-accepted}
 use borrow.Author.Needs.{needs}
 use Rattle.kulfizan.proofs.kulfizan_read.Statement.{statement}
@@ -14,7 +15,7 @@ returns : tie.Need-returns
 returns c =
     let n = c .before in
     let r = n .before .before in
-    read-refused _ _ (r .read .ensures) (n .refusal-number .ensures) (c .if1 .taken)
+    read-refused _ _ (r .read .ensures) (n .refusal-number .ensures) (λ e. omega (arith, e, c .if1 .taken))
 
 refusal-number-requires-2 : tie.Need-refusal-number-requires-2
 refusal-number-requires-2 c κs = search needs
@@ -24,7 +25,7 @@ returns-2 c =
     let t = c .before in
     let n = t .before .before in
     let r = n .before .before in
-    read-short _ _ (r .read .ensures) (n .refusal-number .ensures) (t .before .if1 .left) (t .if2 .taken)
+    read-short _ _ (r .read .ensures) (n .refusal-number .ensures) (omega (arith, t .before .if1 .left)) (omega (arith, t .if2 .taken))
     (c .refusal-number2 .ensures)
 
 put-set-requires : tie.Need-put-set-requires
@@ -39,7 +40,7 @@ returns-3 c =
     let t = p .before .before in
     let n = t .before .before in
     let r = n .before .before in
-    read-accepted _ _ (r .read .ensures) (n .refusal-number .ensures) (t .before .if1 .left) (t .if2 .left)
+    read-accepted _ _ (r .read .ensures) (n .refusal-number .ensures) (omega (arith, t .before .if1 .left)) (omega (arith, t .if2 .left))
     (p .put-set .ensures)
 
 pub kulfizan-read-spec : {M : Type 1} → statement M

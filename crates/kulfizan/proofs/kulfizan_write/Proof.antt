@@ -1,6 +1,7 @@
 -- `kulfizan_write` meets its contract: torn where the numbers are no set's, else what the writer answers.
 use mathlib.Core.Path.{_≡_, sym, _∙_}
 use mathlib.Core.Bool.{true}
+use native.Mathlib.Omega.{arith}
 use borrow.Author.Tests.{not-true, not-false}
 use Rattle.kulfizan.specs.Face.{areSet}
 use Rattle.kulfizan.specs.AnswerLaws.{as-many, write-torn, write-refused, write-accepted}
@@ -42,7 +43,7 @@ returns-2 c =
     let w = n .before .before .before in
     let s = w .before .before in
     write-accepted _ _ _ (a-set (s .before)) (s .set-of .ensures) (w .write .ensures) (n .refusal-number2 .ensures)
-    (c .if2 .taken)
+    (omega (arith, c .if2 .taken))
 
 same-length-2 : tie.Need-same-length-2
 same-length-2 c = search needs
@@ -53,7 +54,7 @@ returns-3 c =
     let w = n .before .before .before in
     let s = w .before .before in
     write-refused _ _ _ (a-set (s .before)) (s .set-of .ensures) (w .write .ensures) (n .refusal-number2 .ensures)
-    (c .if2 .left)
+    (λ e. omega (arith, e, c .if2 .left))
 
 pub kulfizan-write-spec : {M : Type 1} → statement M
 kulfizan-write-spec =

@@ -43,6 +43,11 @@ head c =
     head-put (s .args .t2) (omega (arith, s .pre)) (c .put-four .ensures) (toZ-ofZ (search needs) ∙ n .sex-number .ensures)
     (toZ-ofZ (search needs)) (toZ-ofZ (search needs)) (toZ-ofZ (search needs)) (toZ-ofZ (search needs))
 
+-- the age that is read is the set's
+age-read : (c : tie.After-age-of-runs Inv-loop μ-loop) → let l = turn c .before in
+    c .age-of-runs .result ≡ ageOf (start (entered l) .args .t2) (l .loop .x)
+age-read c = c .age-of-runs .ensures ∙ four-age _ _
+
 -- after the loop, every number
 all : (c : tie.After-loop Inv-loop μ-loop) → let e = entered (c .before) in let s = start e .args in
     Front (firstAges (s .t2) ages) setLength (s .values .now) (c .before .loop .values)
@@ -100,9 +105,9 @@ loop-again c =
     let x = l .loop .x in (
       omega arith,
       rw (add-one x)
-      (age-put (start (entered l) .args .t2) x (l .loop .inv .1) (n .put-four2 .ensures)
-      (g .age-of-runs .ensures ∙ four-age _ _) (toZ-ofZ (search needs)) (toZ-ofZ (search needs)) (toZ-ofZ (search needs))
-      (toZ-ofZ (search needs))),
+          (age-put (start (entered l) .args .t2) x (l .loop .inv .1) (n .put-four2 .ensures)
+          (age-read g) (toZ-ofZ (search needs)) (toZ-ofZ (search needs)) (toZ-ofZ (search needs))
+          (toZ-ofZ (search needs))),
     )
 
 same-length : tie.Need-same-length Inv-loop μ-loop

@@ -1,4 +1,4 @@
--- `run` meets its contract. The loop's invariant: the first x places of the run hold every fourth number from place i on.
+-- `run` meets its contract. The loop's invariant: the first places of the run hold every fourth number from a place on, one for each age passed.
 -- The measure is how many ages are left.
 use borrow.Author.Needs.{needs}
 use mathlib.Core.Path.{_≡_, refl, sym, _∙_}
@@ -18,21 +18,21 @@ use Rattle.kulfizan.proofs.run.Statement.{statement}
 use Rattle.kulfizan.proofs.run.Tie as tie
 
 abbrev Inv-loop : tie.InvT-loop
-Inv-loop values i out₀ x₀ out x = (x ≤ ages) × Run out i (drop 1 values) x
+Inv-loop values from out₀ age₀ out age = (age ≤ ages) × Run out from (drop 1 values) age
 
 abbrev μ-loop : tie.MeasureT-loop
-μ-loop values i out₀ x₀ out x = ages - x
+μ-loop values from out₀ age₀ out age = ages - age
 
 -- the number that is read
 read : (c : tie.After-out Inv-loop μ-loop) → let l = c .before .before in let s = l .before .args in
-    toZ w64 (ofZ w64 (getD (s .values .now) (1 + s .i + 4 * l .loop .x) (pos 0)))
-    ≡ getD (drop 1 (s .values .now)) (s .i + 4 * l .loop .x) (pos 0)
+    toZ w64 (ofZ w64 (getD (s .values .now) (1 + s .from + 4 * l .loop .age) (pos 0)))
+    ≡ getD (drop 1 (s .values .now)) (s .from + 4 * l .loop .age) (pos 0)
 read c =
     let l = c .before .before in
     let s = l .before .args in
-    let e : 1 + s .i + 4 * l .loop .x ≡ 1 + (s .i + 4 * l .loop .x) = omega arith in
-    let f : SFits w64 (getD (s .values .now) (1 + s .i + 4 * l .loop .x) (pos 0)) = search needs in
-    toZ-ofZ f ∙ rw e (sym (getD-drop 1 (s .values .now) (s .i + 4 * l .loop .x) (pos 0)))
+    let e : 1 + s .from + 4 * l .loop .age ≡ 1 + (s .from + 4 * l .loop .age) = omega arith in
+    let f : SFits w64 (getD (s .values .now) (1 + s .from + 4 * l .loop .age) (pos 0)) = search needs in
+    toZ-ofZ f ∙ rw e (sym (getD-drop 1 (s .values .now) (s .from + 4 * l .loop .age) (pos 0)))
 
 loop-holds : tie.Need-loop-holds Inv-loop μ-loop
 loop-holds c = (omega arith, run-none _ _ _ refl)
@@ -58,8 +58,8 @@ mul-out-3 c = search needs
 array-set-from-out : tie.Need-array-set-from-out Inv-loop μ-loop
 array-set-from-out c = search needs
 
-add-x : tie.Need-add-x Inv-loop μ-loop
-add-x c = search needs
+add-age : tie.Need-add-age Inv-loop μ-loop
+add-age c = search needs
 
 loop-less : tie.Need-loop-less Inv-loop μ-loop
 loop-less c = search needs
@@ -67,12 +67,12 @@ loop-less c = search needs
 loop-again : tie.Need-loop-again Inv-loop μ-loop
 loop-again c =
     let l = c .before .before in
-    (search needs, rw (add-one (l .loop .x)) (run-put _ (c .before .loop-test .taken) (read c) (l .loop .inv .1)))
+    (search needs, rw (add-one (l .loop .age)) (run-put _ (c .before .loop-test .taken) (read c) (l .loop .inv .1)))
 
 returns : tie.Need-returns Inv-loop μ-loop
 returns c =
     let l = c .before .loop in
-    let e : l .x ≡ ages = omega arith in
+    let e : l .age ≡ ages = omega arith in
     run-all (rw e at (l .inv .1))
 
 pub run-spec : {M : Type 1} → statement M
@@ -89,7 +89,7 @@ run-spec =
     shared-slice-copy-out-out
     mul-out-3
     array-set-from-out
-    add-x
+    add-age
     loop-less
     loop-again
     returns)
