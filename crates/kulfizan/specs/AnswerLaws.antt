@@ -3,7 +3,7 @@
 use mathlib.Core.Path.{_≡_, refl, sym, ap, _∙_}
 use Prim.Native.Nat.{ℕ, zero, suc, _≤_, _<_}
 use native.Mathlib.Omega.{arith}
-use mathlib.Core.Bool.{Bool, true, false, _&&_, cond}
+use mathlib.Core.Bool.{Bool, true, false, cond, and-eq-true-iff}
 use mathlib.Core.List.{List}
 use borrow.Author.Tests.{le-leb, lt-leb, eq-eqb, ne-eqb, eqb-true}
 use lib.Dec.{eqb, leb}
@@ -65,13 +65,16 @@ module _ (ns : List ℤ) where
   unfolding areSet
   first-other h f e = rw (eq-eqb (length ns) setLength h) (sym (other-sex _ f e))
 
-  pub as-many : areSet ns ≡ true → length ns ≡ setLength
+  -- a set's numbers are as many, and the first is a sex
+  parts : areSet ns ≡ true → (eqb (length ns) setLength ≡ true) × (isSex (getD ns 0 (pos 0)) ≡ true)
   unfolding areSet
-  as-many = go (eqb (length ns) setLength) refl
-    where
-      go : (b : Bool) → eqb (length ns) setLength ≡ b → b && isSex (getD ns 0 (pos 0)) ≡ true → length ns ≡ setLength
-      go true e h = eqb-true (length ns) setLength e
-      go false e h = let z : _≡_ {A = ℕ} 0 1 = cc in absurd (omega arith)
+  parts = and-eq-true-iff (eqb (length ns) setLength) (isSex (getD ns 0 (pos 0))) .0
+
+  pub as-many : areSet ns ≡ true → length ns ≡ setLength
+  as-many t = eqb-true (length ns) setLength (parts t .0)
+
+  pub first-sex : areSet ns ≡ true → isSex (getD ns 0 (pos 0)) ≡ true
+  first-sex t = parts t .1
 
 -- ---- reading
 

@@ -3,3 +3,4 @@ pub mod Face
 -- laws
 pub mod FaceLaws
 pub mod AnswerLaws
+pub mod NumbersTrip
