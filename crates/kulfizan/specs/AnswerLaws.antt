@@ -13,7 +13,6 @@ use mir.Syntax.{w64}
 use mir.Val.{SFits, ofZ}
 use Rattle.params.specs.declared.Params.{Params}
 use Rattle.params.specs.declared.Sex.the-variants.{M, F}
-use Rattle.params.specs.declared.Refusal.{Refusal}
 use Rattle.params.specs.declared.Refusal.the-variants.{Accepted, Torn, OffScale, Short}
 use Rattle.params.specs.Refusals.{refusalNumber}
 use Rattle.params.specs.Limits.{inLimits}
@@ -25,7 +24,7 @@ use Rattle.kulfizan.specs.Face.{writeNo, bufferAfter, lengthAfter}
 
 -- ---- the sex
 
--- the bits are not 0: is it 1?
+-- the bits are not 0: they are those of a sex where they are 1
 other-sex : (z : ℤ) → SFits w64 z → (ofZ w64 z ≡ 0 → ⊥) → eqb (ofZ w64 z) 1 ≡ isSex z
 unfolding isSex
 other-sex (pos zero) f h = absurd (h refl)
@@ -84,6 +83,7 @@ Read sheet before answer after = (answer ≡ readNo sheet (length before)) × (a
 
 module _ (sheet : List ℕ) (before : List ℤ) {got : Reading} (e : got ≡ readSheet sheet) {no : ℕ}
     (n : no ≡ refusalNumber (got .refusal)) where
+  -- the sheet's refusal has this number
   is : refusalNumber (readSheet sheet .refusal) ≡ no
   is = sym (n ∙ ap (λ (r : Reading). refusalNumber (r .refusal)) e)
 
@@ -130,6 +130,7 @@ told-length p room = go (inLimits p) (leb (length (sheetText p)) room)
 module _ (ns : List ℤ) (buffer : List ℕ) (len : ℕ) (t : areSet ns ≡ true) {p : Params} (e : p ≡ setOf ns) {got : Written}
     {after : List ℕ} (w : (got ≡ writeAnswer p (length buffer)) × (after ≡ writtenBuffer p buffer)) {no : ℕ}
     (n : no ≡ refusalNumber (got .refusal)) where
+  -- the number and the bytes are the call's, accepted or not
   number : no ≡ writeNo ns (length buffer)
   unfolding writeNo writeAnswer
   number = n ∙ rw (t, ← e) (ap (λ (g : Written). refusalNumber (g .refusal)) (w .0))

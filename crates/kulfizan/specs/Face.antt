@@ -9,8 +9,7 @@ use lib.ListN.{length, getD, take, drop}
 use Rattle.params.specs.declared.Params.{Params}
 use Rattle.params.specs.declared.Sex.{Sex}
 use Rattle.params.specs.declared.Sex.the-variants.{M, F}
-use Rattle.params.specs.declared.Refusal.{Refusal}
-use Rattle.params.specs.declared.Refusal.the-variants.{Accepted, Torn, Short}
+use Rattle.params.specs.declared.Refusal.the-variants.{Torn, Short}
 use Rattle.params.specs.Refusals.{refusalNumber}
 use Rattle.sheet.specs.Sheet.{values, paramsOf, sheetText, readSheet, writeRefusal, writtenBuffer}
 

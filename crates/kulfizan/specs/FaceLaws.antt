@@ -1,6 +1,6 @@
--- Numbers put in front of others, part by part, and a run taken out of them number by number.
+-- A set's numbers put in front of others, part by part, and a set taken out of its numbers.
 use mathlib.Core.Path.{_≡_, refl, sym, ap, _∙_}
-use Prim.Native.Nat.{ℕ, zero, suc, _+_, _*_, _≤_, _<_}
+use Prim.Native.Nat.{ℕ, suc, _+_, _*_, _≤_, _<_}
 use native.Mathlib.Omega.{arith}
 use mathlib.Core.List.{List, [], _∷_, _++_, append-assoc}
 use lib.IntN.{ℤ, pos}
@@ -46,7 +46,7 @@ front-more {ns} {at} {before} {after} vs f e =
       whole = e ∙ rw (t, rest f (length vs)) (sym (append-assoc ns vs _));
     }
 
--- what was put once may count as what stood before, where the later numbers reach as far
+-- what was put may count as what stood before, where the numbers put next reach as far
 pub front-self : {ns : List ℤ} {at : ℕ} {before after : List ℤ} → Front ns at before after → Front ns at after after
 front-self {ns} {at} {before} f =
     let e : drop at (ns ++ drop at before) ≡ drop at before = drop-at ns (drop at before) at (f .long) in
@@ -88,10 +88,11 @@ pub head-put : (p : Params) {before after : List ℤ} {s a t k κ : ℤ} → 0 <
 head-put p {before} h e s a t k κ =
     rw (← ages-none p) (front-more _ (front-one before (sexNumber (p .sex)) h) (e ∙ rw (s, a, t, k, κ)))
 
--- the numbers of one age more put
+-- an age's four numbers
 abbrev fourOf : Age → List ℤ
 fourOf a = a .level ∷ a .slope ∷ a .alpha ∷ a .beta ∷ []
 
+-- those of one age more put
 pub age-put : (p : Params) (x : ℕ) {before after next : List ℤ} {g : Age} {v₀ v₁ v₂ v₃ : ℤ}
     → Front (firstAges p x) (5 + 4 * x) before after → next ≡ over after (5 + 4 * x) (v₀ ∷ v₁ ∷ v₂ ∷ v₃ ∷ [])
     → g ≡ ageOf p x → v₀ ≡ g .level → v₁ ≡ g .slope → v₂ ≡ g .alpha → v₃ ≡ g .beta
@@ -102,6 +103,7 @@ age-put p x {before} {after} {v₀} {v₁} {v₂} {v₃} f e q e₀ e₁ e₂ e�
     let w : v₀ ∷ v₁ ∷ v₂ ∷ v₃ ∷ [] ≡ ageValues p x = rw (e₀, e₁, e₂, e₃) (ap (λ (a : Age). fourOf a) q) in
     rw (← ages-more p x, n) (front-more (ageValues p x) f (e ∙ ap (over after (5 + 4 * x)) w))
 
+-- those of all ages put
 pub ages-all : (p : Params) {before after : List ℤ} → Front (firstAges p ages) setLength before after
     → after ≡ setOver p before
 unfolding firstAges setOver setNumbers values
@@ -109,6 +111,7 @@ ages-all p f = f .whole
 
 -- ---- a run out of a list
 
+-- one number more put into it
 pub run-put : {l : List ℤ} {i : ℕ} {vs : List ℤ} {n : ℕ} (v : ℤ) → n < ages → v ≡ getD vs (i + 4 * n) (pos 0)
     → Run l i vs n → Run (set l n v) i vs (suc n)
 unfolding run forAges
@@ -116,10 +119,7 @@ run-put {l} {n} v h e r =
     let s : n < length l = omega (arith, r .long) in
     record { long = length-set l n v ∙ r .long; front = take-suc-set l n v s ∙ rw (r .front, e) }
 
-pub run-none : (l : List ℤ) (i : ℕ) (vs : List ℤ) → length l ≡ ages → Run l i vs 0
-unfolding run forAges
-run-none l i vs h = record { long = h; front = refl }
-
+-- all of them
 pub run-all : {l : List ℤ} {i : ℕ} {vs : List ℤ} → Run l i vs ages → l ≡ runFrom i vs
 unfolding run runFrom
 run-all r = run-end r

@@ -4,7 +4,7 @@ ghost use Prim.Native.Nat.{_+_, _≤_, _<_};
 ghost use mathlib.Core.List.{[], _∷_};
 ghost use lib.ListN.{length, drop};
 ghost use Rattle.sheet.specs.Sheet.{runFrom};
-ghost use Rattle.kulfizan.specs.Face.{setLength, sexNumber, isSex, sexOf, areSet, setOf, over, setOver};
+ghost use Rattle.kulfizan.specs.Face.{setLength, sexNumber, sexOf, areSet, setOf, over, setOver};
 ghost use Rattle.kulfizan.specs.Face.{readNo, numbersAfter, writeNo, bufferAfter, lengthAfter};
 use params::AGES;
 use params::Params;
@@ -96,10 +96,10 @@ fn are_set(values: &[i64]) -> bool
 }
 
 // The sex of a number.
-fn sex_of(number: i64) -> Sex
-    ensures { λ r. ⌜ r ≡ sexOf number ⌝ }
+fn sex_of(label: i64) -> Sex
+    ensures { λ r. ⌜ r ≡ sexOf label ⌝ }
 {
-    if number == 0 {
+    if label == 0 {
         return Sex::M;
     }
     Sex::F

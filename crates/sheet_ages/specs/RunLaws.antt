@@ -37,9 +37,9 @@ pub record Run (l : List ℤ) (i : ℕ) (vs : List ℤ) (n : ℕ) : Type 0 where
   pub long : length l ≡ ages
   pub front : take n l ≡ run i vs n
 
-pub run-start : (l : List ℤ) (i : ℕ) → length l ≡ ages → Run l i [] 0
+pub run-start : (l : List ℤ) (i : ℕ) (vs : List ℤ) → length l ≡ ages → Run l i vs 0
 unfolding run forAges
-run-start l i h = record { long = h; front = refl }
+run-start l i vs h = record { long = h; front = refl }
 
 pub run-store : {l : List ℤ} {i : ℕ} {vs : List ℤ} {n : ℕ} (us : List ℤ) (v : ℤ) → i < 4 → n < ages → length vs ≡ 4 * n
     → getD us i (pos 0) ≡ v → Run l i vs n → Run (set l n v) i (vs ++ us) (suc n)
@@ -82,10 +82,10 @@ fill-start bs start w =
       theta = refl;
       period = refl;
       kappa = refl;
-      level = run-start _ 0 (w .level);
-      slope = run-start _ 1 (w .slope);
-      alpha = run-start _ 2 (w .alpha);
-      beta = run-start _ 3 (w .beta);
+      level = run-start _ 0 [] (w .level);
+      slope = run-start _ 1 [] (w .slope);
+      alpha = run-start _ 2 [] (w .alpha);
+      beta = run-start _ 3 [] (w .beta);
     }
 
 -- the set with these values for age x

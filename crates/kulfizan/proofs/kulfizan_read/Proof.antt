@@ -25,8 +25,8 @@ returns-2 c =
     let t = c .before in
     let n = t .before .before in
     let r = n .before .before in
-    read-short _ _ (r .read .ensures) (n .refusal-number .ensures) (omega (arith, t .before .if1 .left)) (omega (arith, t .if2 .taken))
-    (c .refusal-number2 .ensures)
+    read-short _ _ (r .read .ensures) (n .refusal-number .ensures) (omega (arith, t .before .if1 .left))
+    (omega (arith, t .if2 .taken)) (c .refusal-number2 .ensures)
 
 put-set-requires : tie.Need-put-set-requires
 put-set-requires c κs = search needs
@@ -40,8 +40,8 @@ returns-3 c =
     let t = p .before .before in
     let n = t .before .before in
     let r = n .before .before in
-    read-accepted _ _ (r .read .ensures) (n .refusal-number .ensures) (omega (arith, t .before .if1 .left)) (omega (arith, t .if2 .left))
-    (p .put-set .ensures)
+    read-accepted _ _ (r .read .ensures) (n .refusal-number .ensures) (omega (arith, t .before .if1 .left))
+    (omega (arith, t .if2 .left)) (p .put-set .ensures)
 
 pub kulfizan-read-spec : {M : Type 1} → statement M
 kulfizan-read-spec =

@@ -1,7 +1,7 @@
 -- `put_set` meets its contract. The loop's invariant: the numbers of the ages before x stand behind the sex and the series.
 -- The measure is how many ages are left.
 use borrow.Author.Needs.{needs}
-use mathlib.Core.Path.{_≡_, refl, sym, ap, _∙_}
+use mathlib.Core.Path.{_≡_, _∙_}
 use Prim.Native.Nat.{_+_, _*_, _-_, _≤_}
 use native.Mathlib.Omega.{arith}
 use native.Mathlib.Numerals.{add-one}
@@ -9,7 +9,8 @@ use lib.ListN.{length-set}
 use mir.Facts.{toZ-ofZ}
 use Rattle.params.specs.Set.{ages, ageOf, four-age}
 use Rattle.kulfizan.specs.Face.{setLength}
-use Rattle.kulfizan.specs.FaceLaws.{Front, firstAges, front-length, front-self, front-over, head-put, age-put, ages-all}
+use Rattle.kulfizan.specs.FaceLaws.{Front, front-length, front-self, front-over}
+use Rattle.kulfizan.specs.FaceLaws.{firstAges, head-put, age-put, ages-all}
 use Rattle.kulfizan.proofs.put_set.Statement.{statement}
 use Rattle.kulfizan.proofs.put_set.Tie as tie
 
@@ -19,7 +20,7 @@ Inv-loop values₀ p x₀ values x = (x ≤ ages) × Front (firstAges p x) (5 + 
 abbrev μ-loop : tie.MeasureT-loop
 μ-loop values₀ p x₀ values x = ages - x
 
--- ---- places in the code
+-- ---- places in the code: the start, the loop's entry, and the turn that reads an age
 
 abbrev start : tie.After-put-four Inv-loop μ-loop → tie.Start Inv-loop μ-loop
 start c = c .before .before .before .before .before .before .before
@@ -30,11 +31,9 @@ entered c = c .before .before
 abbrev turn : tie.After-age-of-runs Inv-loop μ-loop → tie.In-loop Inv-loop μ-loop
 turn c = c .before .before .before .before .before .before
 
-abbrev put : tie.After-values2 Inv-loop μ-loop → tie.After-put-four2 Inv-loop μ-loop
-put c = c .before
-
 -- ---- what is put
 
+-- before the loop, the sex and the series
 head : (c : tie.After-put-four Inv-loop μ-loop) → let s = start c .args in
     Front (firstAges (s .t2) 0) 5 (s .values .now) (c .put-four .last .0)
 head c =
@@ -97,7 +96,7 @@ loop-less c = search needs
 
 loop-again : tie.Need-loop-again Inv-loop μ-loop
 loop-again c =
-    let n = put c in
+    let n = c .before in
     let told = n .before .struct-told8 .given in
     let g = n .before .before .before .before .before .before in
     let t = turn g .loop-test .taken in
@@ -105,9 +104,8 @@ loop-again c =
     let x = l .loop .x in (
       omega arith,
       rw (add-one x)
-          (age-put (start (entered l) .args .t2) x (l .loop .inv .1) (n .put-four2 .ensures)
-          (age-read g) (toZ-ofZ (search needs)) (toZ-ofZ (search needs)) (toZ-ofZ (search needs))
-          (toZ-ofZ (search needs))),
+          (age-put (start (entered l) .args .t2) x (l .loop .inv .1) (n .put-four2 .ensures) (age-read g)
+          (toZ-ofZ (search needs)) (toZ-ofZ (search needs)) (toZ-ofZ (search needs)) (toZ-ofZ (search needs))),
     )
 
 same-length : tie.Need-same-length Inv-loop μ-loop

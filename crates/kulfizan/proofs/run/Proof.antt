@@ -1,5 +1,5 @@
--- `run` meets its contract. The loop's invariant: the first places of the run hold every fourth number from a place on, one for each age passed.
--- The measure is how many ages are left.
+-- `run` meets its contract. The loop's invariant: the run holds, for each age passed, its number of every fourth. The measure
+-- is how many ages are left.
 use borrow.Author.Needs.{needs}
 use mathlib.Core.Path.{_≡_, refl, sym, _∙_}
 use Prim.Native.Nat.{_+_, _*_, _-_, _≤_}
@@ -12,8 +12,8 @@ use mir.Syntax.{w64}
 use mir.Val.{SFits, toZ, ofZ}
 use mir.Facts.{toZ-ofZ}
 use Rattle.params.specs.Set.{ages}
-use Rattle.sheet_ages.specs.RunLaws.{Run}
-use Rattle.kulfizan.specs.FaceLaws.{run-none, run-put, run-all}
+use Rattle.sheet_ages.specs.RunLaws.{Run, run-start}
+use Rattle.kulfizan.specs.FaceLaws.{run-put, run-all}
 use Rattle.kulfizan.proofs.run.Statement.{statement}
 use Rattle.kulfizan.proofs.run.Tie as tie
 
@@ -35,7 +35,7 @@ read c =
     toZ-ofZ f ∙ rw e (sym (getD-drop 1 (s .values .now) (s .from + 4 * l .loop .age) (pos 0)))
 
 loop-holds : tie.Need-loop-holds Inv-loop μ-loop
-loop-holds c = (omega arith, run-none _ _ _ refl)
+loop-holds c = (omega arith, run-start _ _ _ refl)
 
 add-out : tie.Need-add-out Inv-loop μ-loop
 add-out c = search needs
@@ -67,7 +67,7 @@ loop-less c = search needs
 loop-again : tie.Need-loop-again Inv-loop μ-loop
 loop-again c =
     let l = c .before .before in
-    (search needs, rw (add-one (l .loop .age)) (run-put _ (c .before .loop-test .taken) (read c) (l .loop .inv .1)))
+    (search needs, rw (add-one (l .loop .age)) (run-put _ (omega arith) (read c) (l .loop .inv .1)))
 
 returns : tie.Need-returns Inv-loop μ-loop
 returns c =

@@ -5,7 +5,7 @@ use Rattle.kulfizan.proofs.sex_of.Statement.{statement}
 use Rattle.kulfizan.proofs.sex_of.Tie as tie
 
 returns : tie.Need-returns
-returns c = sym (sex-zero _ (c .before .fits .number) (c .if1 .taken))
+returns c = sym (sex-zero _ (c .before .fits .label) (c .if1 .taken))
 
 returns-2 : tie.Need-returns-2
 returns-2 c = sym (sex-other _ (c .if1 .left))
