@@ -6,8 +6,8 @@ use mathlib.Core.Bool.{Bool, true, false}
 use mathlib.Core.List.{List, [], _∷_, _++_, append-assoc}
 use borrow.Author.Tests.{eq-eqb, ne-eqb}
 use lib.Dec.{eqb}
-use lib.ListN.{length, getD, drop, length-append, length-drop, drop-of-length-le}
-use lib.Seq.{drop-append-seam, drop-cons, drop-drop}
+use lib.ListN.{length, getD, take, drop, length-append, length-drop, drop-of-length-le}
+use lib.Seq.{take-append-seam, drop-append-seam, drop-cons}
 use Rattle.lines.specs.Lines.{lineFeed, firstLine, afterLine, firstLines, afterLines, ahead, lines}
 
 -- ---- one byte
@@ -46,6 +46,9 @@ after-drop bs = sym (drop-append-seam (firstLine bs) (afterLine bs)) ∙ ap (dro
 
 pub line-length : (bs : List ℕ) → length (firstLine bs) + length (afterLine bs) ≡ length bs
 line-length bs = sym (length-append (firstLine bs) (afterLine bs)) ∙ ap length (line-split bs)
+
+pub line-take : (bs : List ℕ) → take (length (firstLine bs)) bs ≡ firstLine bs
+line-take bs = ap (take (length (firstLine bs))) (sym (line-split bs)) ∙ take-append-seam (firstLine bs) (afterLine bs)
 
 -- a line has a byte
 pub line-some : (b : ℕ) (bs : List ℕ) → 1 ≤ length (firstLine (b ∷ bs))
@@ -95,14 +98,21 @@ lines-first b (c ∷ cs) = go (eqb b lineFeed) refl (lines-first c cs)
 
 -- ---- the first n lines
 
-pub lines-drop : (n : ℕ) (bs : List ℕ) → afterLines n bs ≡ drop (length (firstLines n bs)) bs
+-- they and what follows them make up the bytes
+pub lines-split : (n : ℕ) (bs : List ℕ) → firstLines n bs ++ afterLines n bs ≡ bs
 unfolding firstLines afterLines
-lines-drop zero bs = refl
-lines-drop (suc n) bs =
-    lines-drop n (afterLine bs)
-    ∙ ap (drop (length (firstLines n (afterLine bs)))) (after-drop bs)
-    ∙ drop-drop (length (firstLines n (afterLine bs))) (length (firstLine bs)) bs
-    ∙ ap (λ (k : ℕ). drop k bs) (sym (length-append (firstLine bs) (firstLines n (afterLine bs))))
+lines-split zero bs = refl
+lines-split (suc n) bs =
+    append-assoc (firstLine bs) (firstLines n (afterLine bs)) (afterLines n (afterLine bs))
+    ∙ ap (λ (r : List ℕ). firstLine bs ++ r) (lines-split n (afterLine bs)) ∙ line-split bs
+
+pub lines-take : (n : ℕ) (bs : List ℕ) → take (length (firstLines n bs)) bs ≡ firstLines n bs
+lines-take n bs =
+    ap (take (length (firstLines n bs))) (sym (lines-split n bs)) ∙ take-append-seam (firstLines n bs) (afterLines n bs)
+
+pub lines-drop : (n : ℕ) (bs : List ℕ) → afterLines n bs ≡ drop (length (firstLines n bs)) bs
+lines-drop n bs =
+    sym (drop-append-seam (firstLines n bs) (afterLines n bs)) ∙ ap (drop (length (firstLines n bs))) (lines-split n bs)
 
 -- how long they are: the first, and those after it
 pub lines-length : (n : ℕ) (bs : List ℕ)

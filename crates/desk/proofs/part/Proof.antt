@@ -1,0 +1,59 @@
+-- `part` meets its contract: a refused sheet's line, or answers.
+use mathlib.Core.Path.{_≡_, sym, _∙_}
+use native.Mathlib.Omega.{arith}
+use Rattle.params.specs.Refusals.{refusalNumber}
+use Rattle.answer_text.specs.Lengths.{refusal-length}
+use Rattle.desk.specs.PieceLaws.{handed-refused, handed-filled}
+use borrow.Author.Needs.{needs}
+use Rattle.desk.proofs.part.Statement.{statement}
+use Rattle.desk.proofs.part.Tie as tie
+
+-- past the test nothing is refused
+accepted : (c : tie.Else1) → refusalNumber (c .before .before .before .before .args .sheet .refusal) ≡ 0
+accepted c = sym (c .before .refusal-number .ensures) ∙ c .if1 .left
+
+refusal-number-requires : tie.Need-refusal-number-requires
+refusal-number-requires c κs = search needs
+
+put-refusal-requires : tie.Need-put-refusal-requires
+put-refusal-requires c κs =
+    let s = c .before .before .before .before .before in
+    record { fits = omega (arith, s .pre .2, refusal-length (s .args .sheet .refusal)) }
+
+same-length : tie.Need-same-length
+same-length c = search needs
+
+returns : tie.Need-returns
+returns c =
+    let w = c .before .before .before .before in
+    let s = w .before .before .before .before in
+    handed-refused (s .args .ends) (s .args .sheet) (s .args .input .now) (s .args .at) (s .args .out .now) _
+    (λ e. w .if1 .taken (w .before .refusal-number .ensures ∙ e)) (s .pre .2) (c .before .before .put-refusal .ensures)
+
+fill-requires : tie.Need-fill-requires
+fill-requires c κs =
+    let w = c .before .before in
+    let s = w .before .before .before .before in
+    (s .pre .0 (accepted w), s .pre .1)
+
+same-length-2 : tie.Need-same-length-2
+same-length-2 c = search needs
+
+returns-2 : tie.Need-returns-2
+returns-2 c =
+    let w = c .before .before .before .before .before in
+    let s = w .before .before .before .before in
+    handed-filled (s .args .ends) (s .args .sheet) (s .args .input .now) (s .args .at) (s .args .out .now) _
+    (accepted w) (c .before .before .fill .ensures)
+
+pub part-spec : {M : Type 1} → statement M
+part-spec =
+    tie.close
+    (tie.spec
+    refusal-number-requires
+    put-refusal-requires
+    same-length
+    returns
+    fill-requires
+    same-length-2
+    returns-2)

@@ -1,0 +1,5 @@
+-- definitions
+pub mod Desk
+pub mod Pieces
+-- laws
+pub mod PieceLaws

@@ -1,0 +1,111 @@
+// The whole run of the desk: a sheet and query lines to answers, written piece by piece into buffers that the caller lends.
+ghost use mathlib.Core.Path.{_≡_};
+ghost use Prim.Native.Nat.{_≤_};
+ghost use lib.Dec.{T, leb};
+ghost use lib.ListN.{length};
+ghost use Rattle.params.specs.Limits.{inLimits};
+ghost use Rattle.lines.specs.Lines.{firstLines};
+ghost use Rattle.answer_text.specs.Lengths.{refusalBytes};
+ghost use Rattle.desk_line.specs.Into.{textAnswer, textBuffer};
+ghost use Rattle.desk.specs.Desk.{sheetLines, inputSheet, runOf, runRoom};
+ghost use Rattle.desk.specs.Pieces.{Filled, ReadWell, Handed};
+use desk_line::MOST_LINE;
+use params::Params;
+use params::Refusal;
+use sheet::Reading;
+use sheet::Written;
+use sheet_reader::MOST_BYTES;
+
+// The lines of a sheet.
+const SHEET_LINES: usize = 370;
+
+// The sheet of an input, and the place after it.
+pub struct Begun {
+    pub sheet: Reading,
+    pub next: usize,
+}
+
+// A piece of the output: its bytes stand at the front of the buffer, and what is left of the input begins at the place.
+pub struct Piece {
+    pub next: usize,
+    pub len: usize,
+}
+
+// Reads the sheet of an input.
+pub fn begin(input: &[u8]) -> Begun
+    ensures { λ r. ⌜ (r .sheet ≡ inputSheet (now (input .entry)))
+        × (r .next ≡ length (firstLines sheetLines (now (input .entry)))) ⌝ }
+{
+    let next = lines::lines_end(input, SHEET_LINES);
+    if MOST_BYTES < input.len() {
+        let sheet = Reading {
+            refusal: Refusal::Torn,
+            set: params::blank(),
+        };
+        return Begun { sheet, next };
+    }
+    let sheet = sheet_reader::read(&input[..next]);
+    Begun { sheet, next }
+}
+
+// Answers the lines from a place on, as long as the buffer has room for one more.
+fn fill(p: Params, ends: bool, input: &[u8], at: usize, out: &mut [u8]) -> Piece
+    requires { ⌜ T (inLimits p) × (at ≤ length (now input)) ⌝ }
+    ensures { λ r. ⌜ Filled ends p (now (input .entry)) at (now (out .entry)) (now (out .exit)) (r .next) (r .len) ⌝ }
+{
+    let mut next = at;
+    let mut len = 0;
+    while next < input.len() && MOST_LINE <= out.len() - len {
+        let end = lines::line_end(input, next);
+        len = desk_line::put_line(out, len, p, true, ends, &input[next..end]);
+        next = end;
+    }
+    Piece { next, len }
+}
+
+// The next piece of the output, from the place where the one before ended.
+pub fn part(sheet: Reading, ends: bool, input: &[u8], at: usize, out: &mut [u8]) -> Piece
+    requires { ⌜ ReadWell sheet × (at ≤ length (now input)) × (refusalBytes ≤ length (now out)) ⌝ }
+    ensures { λ r. ⌜ Handed ends sheet (now (input .entry)) at (now (out .entry)) (now (out .exit)) (r .next) (r .len) ⌝ }
+{
+    let refusal = sheet.refusal;
+    if params::refusal_number(refusal) != 0 {
+        let len = answer_text::put_refusal(out, 0, refusal);
+        return Piece {
+            next: input.len(),
+            len,
+        };
+    }
+    let set = sheet.set;
+    fill(set, ends, input, at, out)
+}
+
+// Whether a buffer has room for the output of any input of so many bytes.
+fn has_room(room: usize, input: usize) -> bool
+    ensures { λ r. ⌜ r ≡ leb (runRoom input) room ⌝ }
+{
+    if room < MOST_LINE {
+        return false;
+    }
+    input <= (room - MOST_LINE) / 5
+}
+
+// The whole run of any input into any buffer: refused as short, a call leaves every byte as it was.
+pub fn run(ends: bool, input: &[u8], out: &mut [u8]) -> Written
+    ensures { λ r. ⌜ (r ≡ textAnswer (runRoom (length (now (input .entry)))) (runOf ends (now (input .entry))) (length (now (out .entry))))
+        × (now (out .exit) ≡ textBuffer (runRoom (length (now (input .entry)))) (runOf ends (now (input .entry))) (now (out .entry))) ⌝ }
+{
+    if !has_room(out.len(), input.len()) {
+        return Written {
+            refusal: Refusal::Short,
+            len: 0,
+        };
+    }
+    let begun = begin(input);
+    let sheet = begun.sheet;
+    let piece = part(sheet, ends, input, begun.next, out);
+    Written {
+        refusal: Refusal::Accepted,
+        len: piece.len,
+    }
+}
