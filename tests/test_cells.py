@@ -1,19 +1,23 @@
 """Every end of q against two implementations of its own: the grid in whole numbers, end for end, and the exact value to many
-digits, which must lie between the ends. Runs the built program over flat, realistic and extreme sheets."""
+digits, which must lie between the ends. Asks the program `ends` for every age in some years of flat, realistic and extreme
+sheets, steep cells too."""
 import concurrent.futures
-import pathlib
 import random
-import subprocess
+import re
 import sys
 
 import exact
 import grid
+import programs
 import sheets
+from quotes import OLDEST, STEEP
+from reader import LONGEST
 
-PROGRAM = pathlib.Path(__file__).resolve().parent.parent / "target" / "bin" / "columns"
 SEED = 20142184
 FIRST, LAST = 2014, 2184
 COLUMNS = 1680
+AGES = range(OLDEST + 1)
+ANSWER = re.compile(r" lo=([0-9]+) hi=([0-9]+) fig=.*")
 
 
 def plan():
@@ -35,69 +39,75 @@ def plan():
     return pairs
 
 
-def records(pairs):
-    out = bytearray()
-    for params, years in pairs:
-        body = sheets.text(params)
-        out += len(body).to_bytes(4, "big") + body + bytes([len(years)])
-        for year in years:
-            out += year.to_bytes(2, "big")
-    return bytes(out)
+def query(age, year):
+    return f"kind=q age={age} year={year} span=0"
+
+
+def asked(params, years):
+    """The answers to every age in the years, in one run, without their echo, and what is wrong with the run."""
+    queries = [query(x, year) for year in years for x in AGES]
+    data = sheets.text(params) + "".join(line + "\n" for line in queries).encode()
+    assert len(data) <= LONGEST
+    status, out = programs.run("ends", data)
+    lines = out.decode("ascii", "replace").splitlines()
+    if status or len(lines) != len(queries) or any(not line.startswith(echo) for echo, line in zip(queries, lines)):
+        return None, f"{len(lines)} lines for {len(queries)} queries, exit status {status}, or another echo"
+    return [line[len(echo) :] for echo, line in zip(queries, lines)], None
+
+
+def cell_complaints(answer, want, exactly, age):
+    """What is wrong with the answer for a cell, given the grid's ends, None where it is steep, and the exact value."""
+    if want is None:
+        if answer != f" no={STEEP}":
+            yield "not steep"
+        return
+    got = ANSWER.fullmatch(answer)
+    if not got or (int(got[1]), int(got[2])) != want:
+        yield f"ends are not {want}"
+    lower, upper = want
+    if not lower <= exactly * grid.UNIT <= upper:
+        yield f"{exactly} is not between {lower} and {upper}"
+    if upper - lower > (100 if age <= 90 else 600):
+        yield f"{upper - lower} units wide"
 
 
 def compare(job):
     """Counts of (cells, steep cells), and what is wrong."""
-    params, years, lines = job
-    cells = steep = 0
-    wrong = []
+    params, years = job
+    steep, wrong = 0, []
+    answers, said = asked(params, years)
+    if said:
+        return 0, 0, [said]
     kappas = grid.kappas(params, max(years) - grid.START)
-    for year, line in zip(years, lines):
-        got = line.split()
+    for i, year in enumerate(years):
         want = grid.column(params, year, kappas[year - grid.START])
         digits = exact.column(params, year)
-        if len(got) != 121:
-            wrong.append(f"{year}: {len(got)} cells")
-            continue
-        for x in range(121):
-            cells += 1
-            if want[x] is None:
-                steep += 1
-                if got[x] != "steep":
-                    wrong.append(f"year {year} age {x}: {got[x]}, not steep")
-                continue
-            lower, upper = want[x]
-            if got[x] != f"{lower}:{upper}":
-                wrong.append(f"year {year} age {x}: {got[x]}, not {lower}:{upper}")
-            if not lower <= digits[x] * grid.UNIT <= upper:
-                wrong.append(f"year {year} age {x}: {digits[x]} is not between {lower} and {upper}")
-            if upper - lower > (100 if x <= 90 else 600):
-                wrong.append(f"year {year} age {x}: {upper - lower} units wide")
-    return cells, steep, wrong
+        steep += want.count(None)
+        for x, answer in zip(AGES, answers[i * len(AGES) :]):
+            bad = list(cell_complaints(answer, want[x], None if want[x] is None else digits[x], x))
+            if bad:
+                wrong.append(f"year {year} age {x}: {answer}: {', '.join(bad)}")
+    return len(answers), steep, wrong
 
 
 def main():
     print(f"seed {SEED}")
-    pairs = plan()
-    run = subprocess.run([str(PROGRAM)], input=records(pairs), capture_output=True, check=False)
-    lines = run.stdout.decode().splitlines()
-    jobs, at = [], 0
-    for params, years in pairs:
-        jobs.append((params, years, lines[at : at + len(years)]))
-        at += len(years)
-    failed = 0 if len(lines) == at and run.returncode == 0 else 1
-    if failed:
-        print(f"{len(lines)} lines for {at} columns, exit status {run.returncode}")
-    passed = steep = 0
+    gone = programs.missing("ends")
+    if gone:
+        print(gone)
+        return 1
+    cells = steep = 0
+    wrong = []
     with concurrent.futures.ProcessPoolExecutor(2) as pool:
-        for cells, out_of_range, wrong in pool.map(compare, jobs, chunksize=8):
-            passed += cells - len(wrong)
+        for compared, out_of_range, bad in pool.map(compare, plan(), chunksize=8):
+            cells += compared
             steep += out_of_range
-            failed += len(wrong)
-            for message in wrong[:2]:
-                print(message)
-    print(f"{passed + failed} cells, {steep} of them steep")
-    print(f"{passed} passed, {failed} failed")
-    return 1 if failed else 0
+            wrong += bad
+    for message in wrong[:20]:
+        print(message)
+    print(f"{cells} cells, {steep} of them steep")
+    print(f"{max(0, cells - len(wrong))} passed, {len(wrong)} failed")
+    return 1 if wrong else 0
 
 
 if __name__ == "__main__":

@@ -311,7 +311,7 @@ def compare(one):
 
 def cases(draw, pool):
     out = list(fixed_cases()) + list(limit_cases(draw)) + list(refused_cases(draw))
-    out += list(realistic_cases(draw, 60)) + list(extreme_cases(draw, 50)) + list(steep_cases(draw, 30))
+    out += list(realistic_cases(draw, 64)) + list(extreme_cases(draw, 50)) + list(steep_cases(draw, 30))
     jobs = [(kind, side, draw.random()) for kind in KINDS for side in (0, 1, 2) for _ in range(3)]
     for found in pool.map(searched, jobs):
         out += found
