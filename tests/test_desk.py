@@ -12,6 +12,7 @@ import random
 import re
 import subprocess
 import sys
+import tempfile
 import threading
 import time
 
@@ -19,16 +20,19 @@ import desk
 import programs
 import sheets
 from grid import HIGHEST, flat
-from quotes import EXPECTANCIES, KINDS
+from quotes import FIRST_YEAR, KINDS, LAST_CELL, OLDEST
 from reader import KEYS, LONGEST, SIZES
 from test_quotes import at_limits, line_of, mild, searched, usual
 
 SEED = 20140065
+EXAMPLES = programs.ROOT / "examples"
 LEAST_INPUTS = 2000
+# Seconds in which a run ends whose reader or writer does not behave.
+PATIENCE = 10
 
 Input = collections.namedtuple("Input", "name data")
-# A sheet and queries over it, with the lines that some of them must print, whatever the second implementation says.
 FLAT = sheets.text(flat())
+# Queries over the flat sheet, and what `quotes` prints after each, whatever the second implementation says.
 FIXED = {
     b"kind=q age=65 year=2020 span=0": b" fig=0.30780",
     b"kind=coh age=119 year=2020 span=2": b" fig=0.47914",
@@ -108,11 +112,13 @@ NUMBERS = (
     b"5\0", b"\xb5", b"\xef\xbc\x95", b"5\r", b"5_0", b"-5", b"0", b"2020", b"18446744073709551616", b"\t5",
 )
 NAMES = (
-    b"", b"Q", b"q ", b" q", b"qq", b"q\0", b"\0", b"c", b"co", b"cohh", b"COH", b"pe", b"perr", b"e", b"ec", b"eco", b"ecohh", b"ep",
-    b"epe", b"eperr", b"eq", b"acoh", b"day", b"per,coh", b"0", b"\xe9", b"q=", b"=q", b"q" * 300, *[kind.encode() for kind in KINDS],
+    b"", b"Q", b"q ", b" q", b"qq", b"q\0", b"\0", b"c", b"co", b"cohh", b"COH", b"pe", b"perr", b"e", b"ec", b"eco", b"ecohh",
+    b"ep", b"epe", b"eperr", b"eq", b"acoh", b"day", b"per,coh", b"0", b"\xe9", b"q=", b"=q", b"q" * 300,
+    *[kind.encode() for kind in KINDS],
 )
 WHOLE = (
-    b"%b ", b" %b", b"%b\r", b"%b\t", b"%b\0", b"\0%b", b"%b fig=0.30780", b"%b span=0", b"%b x", b"kind=%b", b"\xef\xbb\xbf%b", b"#%b",
+    b"%b ", b" %b", b"%b\r", b"%b\t", b"%b\0", b"\0%b", b"%b fig=0.30780", b"%b span=0", b"%b x", b"kind=%b", b"#%b",
+    b"\xef\xbb\xbf%b",
 )
 KEYS_OF_QUERY = (b"kind", b"age", b"year", b"span")
 
@@ -192,10 +198,13 @@ def ends_of_input(draw, ready):
             yield Input(f"ends in {line[:at]!r}", FLAT + before + line[:at])
 
 
+LINE_ENDS = (b"\r\n", b"\n\n", b"\n\r", b"\r", b"\n\n\n", b"\0\n", b"\x0b", b"\x0c\n", b"\xc2\x85", b"\xe2\x80\xa8\n", b" \n")
+
+
 def line_feeds(ready):
     """Empty lines between queries, carriage returns, and other bytes that end no line."""
     sheet, lines = ready[1]
-    for end in (b"\r\n", b"\n\n", b"\n\r", b"\r", b"\n\n\n", b"\0\n", b"\x0b", b"\x0c\n", b"\xc2\x85", b"\xe2\x80\xa8\n", b" \n"):
+    for end in LINE_ENDS:
         body = b"".join(lines[:8])
         yield Input(f"queries end in {end!r}", sheet + body.replace(b"\n", end))
         yield Input(f"all ends in {end!r}", (sheet + body).replace(b"\n", end))
@@ -211,9 +220,10 @@ def cut_sheets(draw, ready):
     for count in range(desk.SHEET_LINES + 1):
         yield Input(f"{count} lines of a sheet", b"".join(parts[:count]) + some(draw, lines, 3))
     for i in draw.sample(range(desk.SHEET_LINES), 60) + [0, 1, 369]:
-        yield Input(f"line {i} doubled", b"".join(parts[: i + 1] + parts[i:]) + lines[0])
-        yield Input(f"line {i} left out", b"".join(parts[:i] + parts[i + 1 :]) + lines[0] * 2)
-        yield Input(f"line {i} exchanged with the next", b"".join(parts[:i] + parts[i : i + 2][::-1] + parts[i + 2 :]) + lines[0])
+        before, after = b"".join(parts[:i]), b"".join(parts[i + 1 :])
+        yield Input(f"line {i} doubled", before + parts[i] * 2 + after + lines[0])
+        yield Input(f"line {i} left out", before + after + lines[0] * 2)
+        yield Input(f"line {i} exchanged with the next", before + b"".join(parts[i : i + 2][::-1] + parts[i + 2 :]) + lines[0])
     body = b"".join(lines[:3])
     for name, data in (("no sheet", body), ("queries first", body + sheet), ("two sheets", sheet * 2 + body)):
         yield Input(name, data)
@@ -235,7 +245,8 @@ def damaged_sheets(draw, ready):
     for value in NUMBERS:
         for key in draw.sample(KEYS, 2) + [draw.choice(KEYS[:4])]:
             yield Input(f"{key}={value!r}", with_value(key, value) + some(draw, lines, 2))
-    for old, new in ((b"sex=M", b"sex=F"), (b"sex=M", b"sex=X"), (b"AG2014", b"AG2016"), (b"AG2014", b"LILEE"), (b"table", b"Table")):
+    heads = ((b"sex=M", b"sex=F"), (b"sex=M", b"sex=X"), (b"AG2014", b"AG2016"), (b"AG2014", b"LILEE"), (b"table", b"Table"))
+    for old, new in heads:
         yield Input(f"{new!r} for {old!r}", FLAT.replace(old, new, 1) + lines[0])
 
 
@@ -278,7 +289,8 @@ def sizes(ready):
         yield Input(f"{size} line feeds", b"\n" * size)
     yield Input("nothing", b"")
     for size in (1000, 4096, 30_000, 60_000):
-        for line in (b"9" * size, b"kind=q age=" + b"9" * size, b"kind=q" + b" " * size, b"\0" * size, b"kind=coh " * (size // 9)):
+        many = b"kind=coh " * (size // 9)
+        for line in (b"9" * size, b"kind=q age=" + b"9" * size, b"kind=q" + b" " * size, b"\0" * size, many):
             yield Input(f"a line of {len(line)} bytes", FLAT + lines[0] + line + b"\n" + lines[1])
             yield Input(f"an ending of {len(line)} bytes", FLAT + lines[0] + line)
         yield Input(f"a number of {size} digits in the sheet", with_value("k", b"1" * size) + lines[0])
@@ -304,12 +316,47 @@ def any_bytes(draw, ready, count):
         yield Input(f"any letters {i}", FLAT + bytes(draw.choices(alphabet, k=draw.choice((5, 50, 500)))))
 
 
+# ---- the examples, and the runs that the guide shows
+
+def examples():
+    for sheet in sorted(EXAMPLES.glob("*.sheet")):
+        for queries in sorted(EXAMPLES.glob("*.queries")):
+            yield Input(f"{sheet.name}, {queries.name}", sheet.read_bytes() + queries.read_bytes())
+
+
+def shown_runs():
+    """The runs of README.md: the program, its input and the output that is shown."""
+    guide = (programs.ROOT / "README.md").read_bytes()
+    for files, name, out in re.findall(rb"(?m)^\$ cat (.*) \| target/bin/(\w+)\n((?:(?!\$ |```).*\n)*)", guide):
+        data = b"".join((programs.ROOT / file.decode()).read_bytes() for file in files.split())
+        yield name.decode(), Input(f"README.md, {files.decode()}", data), out
+
+
+def guide_jobs():
+    """Runs of the programs, and of the second implementation, against what the guide shows."""
+    runs = list(shown_runs())
+    if len(runs) < 3:
+        yield str, f"README.md shows {len(runs)} runs"
+    for name, one, out in runs:
+        yield compared, name, one, out
+        yield complaint, one.name, "desk.py", out, 0, desk.PROGRAMS[name](one.data)
+
+
+def steep_examples():
+    """The realistic examples have no steep cell."""
+    for name in ("men", "women", "women-b"):
+        cells = desk.desk_of((EXAMPLES / f"{name}.sheet").read_bytes()).quotes.grid
+        if any(cells.steep(age, year) for age in range(OLDEST + 1) for year in range(FIRST_YEAR, LAST_CELL + 1)):
+            return f"examples/{name}.sheet has a steep cell"
+    return None
+
+
 def inputs(draw):
     ready = pool(draw)
     torn = torn_lines(draw, ready)
-    parts = [fixed(), limits(), half_steps(draw), torn_queries(draw, ready, torn), ends_of_input(draw, ready), line_feeds(ready)]
-    parts += [cut_sheets(draw, ready), damaged_sheets(draw, ready), off_scale(draw, ready), sizes(ready)]
-    parts += [any_bytes(draw, ready, 400), valid(draw, ready, torn, 500)]
+    parts = [fixed(), limits(), half_steps(draw), torn_queries(draw, ready, torn), ends_of_input(draw, ready)]
+    parts += [line_feeds(ready), cut_sheets(draw, ready), damaged_sheets(draw, ready), off_scale(draw, ready), sizes(ready)]
+    parts += [any_bytes(draw, ready, 400), valid(draw, ready, torn, 500), examples()]
     return list(itertools.chain(*parts))
 
 
@@ -416,12 +463,13 @@ def closes_early(name, data, count, ignored):
         if not more:
             break
     process.stdout.close()
-    return outcome(process, feeder, f"{name}, a reader that closes after {count} bytes", desk.PROGRAMS[name](data)[:count] == got)
+    right = desk.PROGRAMS[name](data)[:count] == got
+    return outcome(process, feeder, f"{name}, a reader that closes after {count} bytes", right)
 
 
 def outcome(process, feeder, what, right):
     try:
-        process.wait(programs.PATIENCE)
+        process.wait(PATIENCE)
     except subprocess.TimeoutExpired:
         process.kill()
         feeder.join()
@@ -439,17 +487,28 @@ def full_device(name, data):
     return outcome(process, feeder, f"{name}, a full device", True)
 
 
+def from_file(name, one):
+    """A run whose input and output are files."""
+    with tempfile.TemporaryFile() as source, tempfile.TemporaryFile() as sink:
+        source.write(one.data)
+        source.seek(0)
+        done = subprocess.run([programs.path(name)], stdin=source, stdout=sink, check=False, timeout=programs.PATIENCE)
+        sink.seek(0)
+        return complaint(f"{one.name}, files", name, desk.PROGRAMS[name](one.data), done.returncode, sink.read())
+
+
 def endless(name):
     """An input without an end is past the longest."""
     with open("/dev/zero", "rb") as zero:
         try:
-            done = subprocess.run([programs.path(name)], stdin=zero, stdout=subprocess.PIPE, check=False, timeout=programs.PATIENCE)
+            done = subprocess.run([programs.path(name)], stdin=zero, stdout=subprocess.PIPE, check=False, timeout=PATIENCE)
         except subprocess.TimeoutExpired:
             return f"{name}, an endless input: does not end"
     return complaint("an endless input", name, b"no=1\n", done.returncode, done.stdout)
 
 
-def early_closers(everything):
+def other_ends(everything):
+    """Runs with readers that close early, with a full device, an endless input, and files: jobs to be called."""
     long = next(one.data for one in everything if one.name == f"{LONGEST} bytes, whole lines")
     short = everything[0].data
     for name in desk.PROGRAMS:
@@ -458,6 +517,8 @@ def early_closers(everything):
         yield full_device, name, long
         yield full_device, name, short
         yield (endless, name)
+        for one in everything[::200]:
+            yield from_file, name, one
 
 
 # ---- all of it
@@ -465,7 +526,7 @@ def early_closers(everything):
 def fixed_lines(everything):
     """What the second implementation says of the paper's own lines, against the lines themselves."""
     want = b"".join(query + end + b"\n" for query, end in FIXED.items())
-    return None if desk.quotes(everything[0].data) == want else "desk.py, the paper's lines: " + differing(desk.quotes(everything[0].data), want)
+    return complaint("the paper's lines", "desk.py", want, 0, desk.quotes(everything[0].data))
 
 
 def report(counts, everything):
@@ -492,14 +553,14 @@ def main():
         for name, said in desk.PROGRAMS.items():
             jobs.append((compared, name, one, said(one.data)))
         tally(one, jobs[-1][3], counts)
-    jobs += list(in_pieces(draw, everything)) + list(early_closers(everything))
+    jobs += list(in_pieces(draw, everything)) + list(other_ends(everything)) + list(guide_jobs())
     with concurrent.futures.ThreadPoolExecutor(2) as threads:
         found = list(threads.map(lambda job: job[0](*job[1:]), jobs))
     report(counts, everything)
     absent = [what for what in wanted_counts() if not counts[what]]
     found.append(f"no case of: {', '.join(absent)}" if absent else None)
     found.append(None if len(everything) >= LEAST_INPUTS else f"{len(everything)} inputs, not {LEAST_INPUTS}")
-    found.append(fixed_lines(everything))
+    found += [fixed_lines(everything), steep_examples()]
     wrong = [said for said in found if said]
     for message in wrong[:20]:
         print(message)

@@ -106,7 +106,8 @@ def refused_cases(draw):
     """Torn and off-scale sheets, and those at the very limit."""
     sheet = sheets.text(sheets.realistic(draw))
     queries = draw.sample(at_limits(), 12) + [("q", 65, 2020, 0), ("ecoh", 121, 2065, 1), ("coh", 0, 2014, 0)]
-    torn = [b"", sheet[:-1], b"\n" + sheet, sheet[: len(sheet) // 2], sheet.replace(b"sex", b"Sex"), sheet.ljust(LONGEST, b"\n")]
+    torn = [b"", sheet[:-1], b"\n" + sheet, sheet[: len(sheet) // 2], sheet.replace(b"sex", b"Sex")]
+    torn.append(sheet.ljust(LONGEST, b"\n"))
     for i, data in enumerate(torn):
         yield Case(f"torn {i}", data, queries, {})
     for key in ("a", "theta", "K", "k", "A.0", "B.45", "al.90", "be.90"):
@@ -132,7 +133,7 @@ def realistic_cases(draw, count):
     for i in range(count):
         params = mild(draw) if i % 4 else sheets.realistic(draw)
         queries = usual(draw, [draw.choice((FIRST_YEAR, LAST_YEAR, draw.randint(FIRST_YEAR, LAST_YEAR)))], 9)
-        yield case(f"realistic {i}", params, queries + draw.sample(at_limits(), 12))
+        yield case(f"realistic {i}", params, queries + draw.sample(at_limits(), 14))
 
 
 def extreme_cases(draw, count):
@@ -311,7 +312,7 @@ def compare(one):
 
 def cases(draw, pool):
     out = list(fixed_cases()) + list(limit_cases(draw)) + list(refused_cases(draw))
-    out += list(realistic_cases(draw, 64)) + list(extreme_cases(draw, 50)) + list(steep_cases(draw, 30))
+    out += list(realistic_cases(draw, 64)) + list(extreme_cases(draw, 50)) + list(steep_cases(draw, 36))
     jobs = [(kind, side, draw.random()) for kind in KINDS for side in (0, 1, 2) for _ in range(3)]
     for found in pool.map(searched, jobs):
         out += found
