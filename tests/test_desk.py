@@ -65,10 +65,9 @@ def pool(draw):
     at_40 = dict(flat(), A=[HIGHEST + (x == 40) for x in range(91)])
     params = [flat(), mild(draw), mild(draw), everywhere, at_85, at_40]
     params += [sheets.extreme(draw, 10**8, 2020, 0.3), sheets.realistic(draw)]
-    limits = at_limits()
     out = []
     for one in params:
-        queries = usual(draw, [2014, 2064, draw.randint(2015, 2063)], 12) + draw.sample(limits, 150)
+        queries = usual(draw, [2014, 2064, draw.randint(2015, 2063)], 12) + draw.sample(at_limits(), 150)
         out.append((sheets.text(one), [line_of(query) for query in queries]))
     return out
 
@@ -154,10 +153,10 @@ def torn_fields(line):
 
 def damaged(data, at, draw):
     """One byte left out, doubled, exchanged with the next, replaced or put in."""
-    byte = data[at : at + 1]
+    byte, following, after = data[at : at + 1], data[at + 1 : at + 2], data[at + 2 :]
     other = draw.choice((b"\0", b"\xff", b"\n", b"\r", b" ", b"=", b"-", b"0", b"9", bytes([byte[0] ^ 1 << draw.randrange(8)])))
-    new = draw.choice((b"", byte * 2, other, other, other + byte, data[at + 1 : at + 2] + byte))
-    return data[:at] + new + data[at + (2 if new[1:] == byte and new[:1] != other and len(new) == 2 else 1) :]
+    ways = (following, byte * 2 + following, other + following, other + following, other + byte + following, following + byte)
+    return data[:at] + draw.choice(ways) + after
 
 
 def torn_bytes(draw, line):
