@@ -17,12 +17,13 @@ use Rattle.expo.specs.Code.{endsOf}
 use Rattle.expo.specs.declared.Ends as code
 use Rattle.params.specs.declared.Params.{Params}
 use Rattle.params.specs.Limits.{lastYears}
-use Rattle.mortality.specs.declared.Cell.{Cell}
-use Rattle.mortality.specs.declared.Cell.the-variants.{Steep, Of}
-use Rattle.mortality.specs.declared.Year.{Year}
+use Rattle.cells.specs.declared.Cell.{Cell}
+use Rattle.cells.specs.declared.Cell.the-variants.{Steep, Of}
+use Rattle.years.specs.declared.Year.{Year}
 use Rattle.mortality.specs.Cell.{survival, neededInRange}
-use Rattle.mortality.specs.Code.{YearWithin, coded, cellOf}
-use Rattle.mortality.specs.Years.{year-within, year-next}
+use Rattle.years.specs.Code.{YearWithin}
+use Rattle.cells.specs.Code.{coded, cellOf}
+use Rattle.years.specs.YearLaws.{year-within, year-next}
 use Rattle.folds.specs.Code.{mostFactors}
 use Rattle.paths.specs.Path.{placeAt, pathOf, factors, pathInRange}
 use Rattle.paths.specs.Answers.{path-more, factors-append, in-range-more, range-out}

@@ -12,8 +12,8 @@ use Rattle.expo.specs.declared.Ends as code
 use Rattle.params.specs.declared.Params.{Params}
 use Rattle.params.specs.Limits.{inLimits, lastYears}
 use Rattle.weights.specs.Weights.{firstClosed, lastClosed}
-use Rattle.mortality.specs.declared.Year.{Year}
-use Rattle.mortality.specs.Code.{YearOf, NextOf}
+use Rattle.years.specs.declared.Year.{Year}
+use Rattle.years.specs.Code.{YearOf, NextOf}
 use Rattle.folds.specs.Code.{listOf, mostFactors}
 use Rattle.paths.specs.Path.{Place, placeAt, pathOf, factors, pathInRange}
 use Rattle.factors.specs.declared.Path.{Path}

@@ -5,12 +5,12 @@ ghost use mathlib.Core.Bool.{_&&_};
 ghost use Prim.Native.Nat.{_-_, _<_, min};
 ghost use lib.Dec.{T, ltb};
 ghost use Rattle.weights.specs.Weights.{firstClosed};
-ghost use Rattle.mortality.specs.Code.{YearWithin};
+ghost use Rattle.years.specs.Code.{YearWithin};
 ghost use Rattle.factors.specs.Code.{PathWithin, Advanced, WalkOf, FactorsOf};
 use expo::Ends;
 use folds::MOST_FACTORS;
-use mortality::Cell;
-use mortality::Year;
+use cells::Cell;
+use years::Year;
 use params::Params;
 use weights::FIRST_CLOSED;
 
@@ -65,7 +65,7 @@ fn year_after(a: i64, theta: i64, y: Year, on: bool) -> Year
     ensures { λ r. ⌜ Advanced a theta y on r ⌝ }
 {
     if on {
-        return mortality::next_year(a, theta, y);
+        return years::next_year(a, theta, y);
     }
     y
 }
@@ -79,12 +79,12 @@ fn young_factors(p: Params, path: Path) -> Walk
     let age = path.age;
     let count = path.count;
     let young = young_count(age, count);
-    let mut year = mortality::year_at(p, path.year);
+    let mut year = years::year_at(p, path.year);
     let mut ends = [Ends { lower: 0, upper: 0 }; MOST_FACTORS];
     let mut done = 0;
     while done < young {
         let four = params::age_of_runs(&p.level, &p.slope, &p.alpha, &p.beta, age + done);
-        let Cell::Of(e) = mortality::young_cell(four, year) else {
+        let Cell::Of(e) = cells::young_cell(four, year) else {
             return Walk {
                 ok: false,
                 done,
@@ -116,10 +116,10 @@ fn old_factors(p: Params, path: Path, walk: Walk) -> Factors
     let mut done = walk.done;
     let mut ends = walk.ends;
     let mut year = walk.year;
-    let mut fitted = mortality::fitted_in(p, year);
+    let mut fitted = fitted_ages::fitted_in(p, year);
     while done < count {
         let row = table[age + done - FIRST_CLOSED];
-        let Cell::Of(e) = mortality::old_cell(row, fitted) else {
+        let Cell::Of(e) = cells::old_cell(row, fitted) else {
             return Factors { ok: false, ends };
         };
         ends[done] = e;
@@ -127,7 +127,7 @@ fn old_factors(p: Params, path: Path, walk: Walk) -> Factors
         let on = goes_on(cohort, done, count);
         year = year_after(p.a, p.theta, year, on);
         if on {
-            fitted = mortality::fitted_in(p, year);
+            fitted = fitted_ages::fitted_in(p, year);
         }
     }
     Factors { ok: true, ends }

@@ -15,10 +15,11 @@ use Rattle.weights.specs.Weights.{firstClosed, lastClosed, weightRow}
 use Rattle.weights.specs.WeightLaws.{table-row}
 use Rattle.closure.specs.Rows.{row-within}
 use Rattle.folds.specs.Code.{mostFactors}
-use Rattle.mortality.specs.declared.Year.{Year}
-use Rattle.mortality.specs.declared.Fitted.{Fitted}
-use Rattle.mortality.specs.Code.{FittedOf, cellOf}
-use Rattle.mortality.specs.Answers.{old-cell}
+use Rattle.years.specs.declared.Year.{Year}
+use Rattle.fitted_ages.specs.declared.Fitted.{Fitted}
+use Rattle.fitted_ages.specs.Code.{FittedOf}
+use Rattle.cells.specs.Code.{cellOf}
+use Rattle.cells.specs.Answers.{old-cell}
 use Rattle.paths.specs.Path.{placeAt}
 use Rattle.factors.specs.declared.Path.{Path}
 use Rattle.factors.specs.Code.{PathWithin, Worked, YearAt}

@@ -11,9 +11,9 @@ use Rattle.params.specs.LimitsLaws.{in-limits-series}
 use Rattle.params.specs.Set.{ageOf, four-age}
 use Rattle.weights.specs.Weights.{firstClosed}
 use Rattle.folds.specs.Code.{mostFactors}
-use Rattle.mortality.specs.Years.{cell-within, year-force}
-use Rattle.mortality.specs.Answers.{young-cell}
-use Rattle.mortality.specs.Code.{cellOf}
+use Rattle.years.specs.YearLaws.{cell-within, year-force}
+use Rattle.cells.specs.Answers.{young-cell}
+use Rattle.cells.specs.Code.{cellOf}
 use Rattle.paths.specs.Path.{placeAt}
 use Rattle.factors.specs.declared.Path.{Path}
 use Rattle.factors.specs.Code.{PathWithin, Worked, YearAt}

@@ -1,7 +1,7 @@
 -- `log_force_at` meets its contract by that of the log force.
 use Rattle.whole.specs.Bound.{back}
-use Rattle.mortality.proofs.log_force_at.Statement.{statement}
-use Rattle.mortality.proofs.log_force_at.Tie as tie
+use Rattle.years.proofs.log_force_at.Statement.{statement}
+use Rattle.years.proofs.log_force_at.Tie as tie
 
 log-force-requires : tie.Need-log-force-requires
 log-force-requires c κs =

@@ -14,8 +14,8 @@ use Rattle.ends.specs.EndLaws.{Within, Wide}
 use Rattle.series.specs.Series.{periodIn, periodIndex, kappaIn, cellForce, logForce}
 use Rattle.series.specs.BoundLaws.{period-under, kappa-under, cell-limits}
 use Rattle.series.specs.WidthLaws.{kappa-wide, wide-more}
-use Rattle.mortality.specs.declared.Year.{Year}
-use Rattle.mortality.specs.Code.{YearOf, YearWithin, NextOf, CellWithin}
+use Rattle.years.specs.declared.Year.{Year}
+use Rattle.years.specs.Code.{YearOf, YearWithin, NextOf, CellWithin}
 
 step-sum : (k t : ℤ) (n : ℕ) → k +ℤ pos (suc n) *ℤ t ≡ (k +ℤ pos n *ℤ t) +ℤ t
 step-sum k t n =

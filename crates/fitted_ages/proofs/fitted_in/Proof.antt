@@ -16,11 +16,11 @@ use Rattle.series.specs.RangeLaws.{logForce-negated}
 use Rattle.logarithm.specs.Logarithm.{inverseLogistic}
 use Rattle.weights.specs.Weights.{firstFitted, fitted}
 use Rattle.force.specs.Force.{negated}
 use Rattle.mortality.specs.Cell.{youngForce, fittedEnds}
-use Rattle.mortality.specs.Years.{cell-within, year-force}
-use Rattle.mortality.proofs.Filled.{Filled, filled-none, filled-more, filled-out, filled-all}
-use Rattle.mortality.proofs.fitted_in.Statement.{statement}
-use Rattle.mortality.proofs.fitted_in.Tie as tie
+use Rattle.years.specs.YearLaws.{cell-within, year-force}
+use Rattle.fitted_ages.proofs.Filled.{Filled, filled-none, filled-more, filled-out, filled-all}
+use Rattle.fitted_ages.proofs.fitted_in.Statement.{statement}
+use Rattle.fitted_ages.proofs.fitted_in.Tie as tie
 
 abbrev Inv-loop : tie.InvT-loop
 Inv-loop y p ends₀ i₀ ends i = Filled p (y .number) ends i

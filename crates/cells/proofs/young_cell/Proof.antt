@@ -11,10 +11,10 @@ use Rattle.ends.specs.Code.{endsOf}
 use Rattle.series.specs.Series.{cellForce, inRange}
 use Rattle.series.specs.RangeLaws.{cell-negated}
 use Rattle.force.specs.Force.{negated}
-use Rattle.mortality.specs.declared.Cell.the-variants.{Of}
-use Rattle.mortality.specs.Code.{coded, youngCell}
-use Rattle.mortality.proofs.young_cell.Statement.{statement}
-use Rattle.mortality.proofs.young_cell.Tie as tie
+use Rattle.cells.specs.declared.Cell.the-variants.{Of}
+use Rattle.cells.specs.Code.{coded, youngCell}
+use Rattle.cells.proofs.young_cell.Statement.{statement}
+use Rattle.cells.proofs.young_cell.Tie as tie
 
 -- the log force of the cell
 abbrev force : tie.Start → SignedEnds

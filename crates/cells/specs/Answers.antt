@@ -21,11 +21,12 @@ use Rattle.logistic.specs.Logistic.{logistic}
 use Rattle.closure.specs.Closure.{weightedMean}
 use Rattle.closure.specs.Code.{listOf, weightOf}
 use Rattle.closure.specs.Rows.{row-mean}
-use Rattle.mortality.specs.declared.Cell.{Cell}
-use Rattle.mortality.specs.declared.Cell.the-variants.{Steep, Of}
-use Rattle.mortality.specs.declared.Fitted.{Fitted}
+use Rattle.cells.specs.declared.Cell.{Cell}
+use Rattle.cells.specs.declared.Cell.the-variants.{Steep, Of}
+use Rattle.fitted_ages.specs.declared.Fitted.{Fitted}
 use Rattle.mortality.specs.Cell.{youngForce, oldForce, force, survival, fittedList, neededInRange}
-use Rattle.mortality.specs.Code.{FittedOf, coded, Chance, steep, of, youngCell, oldCell, cellOf}
+use Rattle.fitted_ages.specs.Code.{FittedOf}
+use Rattle.cells.specs.Code.{coded, Chance, steep, of, youngCell, oldCell, cellOf}
 
 pub young-cell : (p : Params) {x : ℕ} (n : ℕ) → x < firstClosed → youngCell (logForce p x n) ≡ cellOf p x n
 unfolding youngCell cellOf neededInRange survival force youngForce

@@ -7,11 +7,11 @@ use Rattle.expo.specs.Billionths.{billionths}
 use Rattle.expo.specs.Exponential.{expBetween}
 use Rattle.logistic.specs.Logistic.{logistic}
 use Rattle.closure.specs.Code.{InLimit}
-use Rattle.mortality.specs.declared.Cell.the-variants.{Of}
-use Rattle.mortality.specs.Code.{coded, oldCell}
-use Rattle.mortality.proofs.Closed.{closed-within}
-use Rattle.mortality.proofs.old_cell.Statement.{statement}
-use Rattle.mortality.proofs.old_cell.Tie as tie
+use Rattle.cells.specs.declared.Cell.the-variants.{Of}
+use Rattle.cells.specs.Code.{coded, oldCell}
+use Rattle.cells.proofs.Closed.{closed-within}
+use Rattle.cells.proofs.old_cell.Statement.{statement}
+use Rattle.cells.proofs.old_cell.Tie as tie
 
 returns : tie.Need-returns
 unfolding oldCell

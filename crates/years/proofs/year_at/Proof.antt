@@ -5,8 +5,8 @@ use Rattle.params.specs.LimitsLaws.{SeriesWithin, in-limits-series}
 use Rattle.ends.proofs.Signed.{read}
 use Rattle.series.specs.Series.{periodIndex}
 use Rattle.series.specs.BoundLaws.{period-under}
-use Rattle.mortality.proofs.year_at.Statement.{statement}
-use Rattle.mortality.proofs.year_at.Tie as tie
+use Rattle.years.proofs.year_at.Statement.{statement}
+use Rattle.years.proofs.year_at.Tie as tie
 
 within : (s : tie.Start) → SeriesWithin (s .args .p)
 within s = in-limits-series (s .args .p) (s .pre .0)

@@ -4,8 +4,8 @@ use native.Mathlib.Numerals.{add-one}
 use native.Mathlib.Omega.{arith}
 use Rattle.whole.specs.Bound.{fits, back}
 use Rattle.ends.proofs.Signed.{sum}
-use Rattle.mortality.proofs.next_year.Statement.{statement}
-use Rattle.mortality.proofs.next_year.Tie as tie
+use Rattle.years.proofs.next_year.Statement.{statement}
+use Rattle.years.proofs.next_year.Tie as tie
 
 kappa-step-requires : tie.Need-kappa-step-requires
 kappa-step-requires c κs =

@@ -28,11 +28,11 @@ use Rattle.logarithm.specs.Logarithm.{inverseLogistic}
 use Rattle.weights.specs.Weights.{firstFitted, fitted, lastClosed}
 use Rattle.closure.specs.Code.{listOf, endLimit}
 use Rattle.force.specs.Force.{negated}
 use Rattle.mortality.specs.Cell.{youngForce, fittedEnds, fittedList, fittedInRange, neededInRange}
 use Rattle.mortality.specs.Answered.{Answered}
 use Rattle.mortality.specs.Needed.{old-needed}
 use Rattle.mortality.specs.Holds.{fitted-at}
-use Rattle.mortality.specs.Code.{FittedOf}
+use Rattle.fitted_ages.specs.Code.{FittedOf}
 use Rattle.force.proofs.Ends.{under-lower, under-upper, exp-small, log-lower-small, log-upper-small, end-under}
 
 -- the first i cells are in range, and the first i ends are those of H
