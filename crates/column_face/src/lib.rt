@@ -10,11 +10,11 @@ ghost use Rattle.years.specs.Code.{YearOf};
 ghost use Rattle.cells.specs.Code.{Chance};
 use cells::Cell;
 use fitted_ages::Fitted;
-use years::Year;
 use params::LAST_YEARS;
 use params::Params;
 use weights::FIRST_CLOSED;
 use weights::LAST_CLOSED;
+use years::Year;
 
 // Two ends for each age.
 const ROOM: usize = 2 * (LAST_CLOSED + 1);
@@ -76,7 +76,10 @@ fn put_columns(p: Params, first: u64, count: u64, out: &mut [u64])
     while i < count {
         let y = years::year_at(p, first + i);
         put_young(p, y, out);
-        put_old(fitted_ages::fitted_in(p, y), out);
+        put_old(
+            fitted_ages::fitted_in(&p.level, &p.slope, &p.alpha, &p.beta, y),
+            out,
+        );
         i += 1;
     }
 }

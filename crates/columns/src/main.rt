@@ -10,16 +10,16 @@ ghost use Rattle.params.specs.Limits.{inLimits};
 ghost use Rattle.closure.specs.Code.{InLimit};
 ghost use Rattle.years.specs.Code.{YearOf};
 ghost use Rattle.cells.specs.Code.{Chance};
-use libc::STDIN_FILENO;
-use libc::STDOUT_FILENO;
 use cells::Cell;
 use fitted_ages::Fitted;
-use years::Year;
+use libc::STDIN_FILENO;
+use libc::STDOUT_FILENO;
 use params::Params;
 use params::Refusal;
 use sheet::Reading;
 use weights::FIRST_CLOSED;
 use weights::LAST_CLOSED;
+use years::Year;
 
 // The longest sheet that a record may hold.
 const MOST_SHEET: usize = 16_384;
@@ -88,7 +88,7 @@ fn print_year(p: Params, year: u64)
     if start < year && year - start <= last {
         let y = years::year_at(p, year - start);
         print_young(p, y);
-        print_old(fitted_ages::fitted_in(p, y));
+        print_old(fitted_ages::fitted_in(&p.level, &p.slope, &p.alpha, &p.beta, y));
     }
 }
 

@@ -7,12 +7,12 @@ ghost use lib.Dec.{T, ltb};
 ghost use Rattle.weights.specs.Weights.{firstClosed};
 ghost use Rattle.years.specs.Code.{YearWithin};
 ghost use Rattle.factors.specs.Code.{PathWithin, Advanced, WalkOf, FactorsOf};
+use cells::Cell;
 use expo::Ends;
 use folds::MOST_FACTORS;
-use cells::Cell;
-use years::Year;
 use params::Params;
 use weights::FIRST_CLOSED;
+use years::Year;
 
 // A path over `count` years from an age in a year, counted from the start year: along the cohort, or in that one year.
 pub struct Path {
@@ -116,7 +116,7 @@ fn old_factors(p: Params, path: Path, walk: Walk) -> Factors
     let mut done = walk.done;
     let mut ends = walk.ends;
     let mut year = walk.year;
-    let mut fitted = fitted_ages::fitted_in(p, year);
+    let mut fitted = fitted_ages::fitted_in(&p.level, &p.slope, &p.alpha, &p.beta, year);
     while done < count {
         let row = table[age + done - FIRST_CLOSED];
         let Cell::Of(e) = cells::old_cell(row, fitted) else {
@@ -127,7 +127,7 @@ fn old_factors(p: Params, path: Path, walk: Walk) -> Factors
         let on = goes_on(cohort, done, count);
         year = year_after(p.a, p.theta, year, on);
         if on {
-            fitted = fitted_ages::fitted_in(p, year);
+            fitted = fitted_ages::fitted_in(&p.level, &p.slope, &p.alpha, &p.beta, year);
         }
     }
     Factors { ok: true, ends }

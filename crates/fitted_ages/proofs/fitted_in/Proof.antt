@@ -1,9 +1,10 @@
--- `fitted_in` meets its contract. The loop's invariant: the first i cells are in range, and the first i ends are those of
--- H; the measure is the ages left.
+-- `fitted_in` meets its contract. The loop's invariant: of any set that lends the runs, the first i cells are in range and
+-- the first i ends are those of H; the measure is the ages left.
 use mathlib.Core.Path.{_≡_, refl, ap, sym, _∙_}
 use mathlib.Core.Bool.{true}
-use Prim.Native.Nat.{_+_, _-_}
+use Prim.Native.Nat.{ℕ, _+_, _-_}
 use native.Mathlib.Omega.{arith}
+use denote.Ref.{now}
 use borrow.Author.Needs.{needs}
 use borrow.Author.Tests.{not-true, not-false}
 use Rattle.whole.specs.SignedEnds.{SignedEnds}
@@ -18,45 +19,47 @@ use Rattle.weights.specs.Weights.{firstFitted, fitted}
 use Rattle.force.specs.Force.{negated}
 use Rattle.mortality.specs.Cell.{youngForce, fittedEnds}
 use Rattle.years.specs.YearLaws.{cell-within, year-force}
+use Rattle.fitted_ages.specs.Code.{LentIn}
 use Rattle.fitted_ages.proofs.Filled.{Filled, filled-none, filled-more, filled-out, filled-all}
 use Rattle.fitted_ages.proofs.fitted_in.Statement.{statement}
 use Rattle.fitted_ages.proofs.fitted_in.Tie as tie
 
 abbrev Inv-loop : tie.InvT-loop
-Inv-loop y p ends₀ i₀ ends i = Filled p (y .number) ends i
+Inv-loop l s a b y ends₀ i₀ ends i = (o : LentIn l s a b y) → Filled (o .set) (y .number) ends i
 
 abbrev μ-loop : tie.MeasureT-loop
-μ-loop y p ends₀ i₀ ends i = fitted - i
+μ-loop l s a b y ends₀ i₀ ends i = fitted - i
 
--- the turn of the loop that reads an age, and the function's start
-abbrev turn : tie.After-age-of-runs Inv-loop μ-loop → tie.In-loop Inv-loop μ-loop
-turn c = c .before .before .before .before .before .before
-
+-- the function's start, and a set that lends its runs
 abbrev start : tie.After-age-of-runs Inv-loop μ-loop → tie.Start Inv-loop μ-loop
-start c = turn c .before .before
+start c = c .before .before .before
+
+abbrev Lender : tie.Start Inv-loop μ-loop → Type 0
+Lender s = let a = s .args in LentIn (now (a .level)) (now (a .slope)) (now (a .alpha)) (now (a .beta)) (a .y)
+
+-- the age of this turn
+abbrev age : tie.After-age-of-runs Inv-loop μ-loop → ℕ
+age c = firstFitted + c .before .before .loop .i
 
 -- the age's parameters, and the log force, are the set's
-age-read : (c : tie.After-age-of-runs Inv-loop μ-loop)
-    → c .age-of-runs .result ≡ ageOf (start c .args .t1) (firstFitted + turn c .before .loop .i)
-age-read c = c .age-of-runs .ensures ∙ four-age _ _
+age-read : (c : tie.After-age-of-runs Inv-loop μ-loop) (o : Lender (start c)) → c .age-of-runs .result ≡ ageOf (o .set) (age c)
+age-read c o = rw (o .level, o .slope, o .alpha, o .beta) at (c .age-of-runs .ensures) ∙ four-age (o .set) (age c)
 
-forced : (c : tie.After-log-force-at Inv-loop μ-loop) → let s = start (c .before) in
-    endsOf (c .log-force-at .result) ≡ logForce (s .args .t1) (firstFitted + turn (c .before) .before .loop .i) (s .args .y .number)
-forced c =
-    let a = c .before in
-    rw (age-read a, year-force (start a .pre) (firstFitted + turn a .before .loop .i)) at (c .log-force-at .ensures)
+forced : (c : tie.After-log-force-at Inv-loop μ-loop) (o : Lender (start (c .before)))
+    → endsOf (c .log-force-at .result) ≡ logForce (o .set) (age (c .before)) (start (c .before) .args .y .number)
+forced c o = rw (age-read (c .before) o, year-force (o .year) (age (c .before))) at (c .log-force-at .ensures)
 
 -- the code's test, of the definition's log force
-tested : (c : tie.After-in-range Inv-loop μ-loop) → let a = c .before .before in let s = start a in
-    c .in-range .result ≡ inRange (logForce (s .args .t1) (firstFitted + turn a .before .loop .i) (s .args .y .number))
-tested c = c .in-range .ensures ∙ ap inRange (forced (c .before))
+tested : (c : tie.After-in-range Inv-loop μ-loop) → let a = c .before .before in (o : Lender (start a))
+    → c .in-range .result ≡ inRange (logForce (o .set) (age a) (start a .args .y .number))
+tested c o = c .in-range .ensures ∙ ap inRange (forced (c .before) o)
 
-in-range : (c : tie.Else1 Inv-loop μ-loop) → let a = c .before .before .before in let s = start a in
-    inRange (logForce (s .args .t1) (firstFitted + turn a .before .loop .i) (s .args .y .number)) ≡ true
-in-range c = sym (tested (c .before)) ∙ not-false _ (c .if1 .left)
+in-range : (c : tie.Else1 Inv-loop μ-loop) → let a = c .before .before .before in (o : Lender (start a))
+    → inRange (logForce (o .set) (age a) (start a .args .y .number)) ≡ true
+in-range c o = sym (tested (c .before) o) ∙ not-false _ (c .if1 .left)
 
 loop-holds : tie.Need-loop-holds Inv-loop μ-loop
-loop-holds c = filled-none (c .args .t1) (c .args .y .number) refl
+loop-holds c o = filled-none (o .set) (c .args .y .number) refl
 
 add-age-of-runs : tie.Need-add-age-of-runs Inv-loop μ-loop
 add-age-of-runs c = omega arith
@@ -66,27 +69,27 @@ age-of-runs-requires c κs = omega arith
 
 log-force-at-requires : tie.Need-log-force-at-requires Inv-loop μ-loop
 log-force-at-requires c κs =
-    let t = turn c in
-    rw (age-read c) (cell-within (start c .pre) {x = firstFitted + t .before .loop .i} (omega (arith, t .loop-test .taken)) .limits)
+    let o = start c .pre in
+    rw (age-read c o) (cell-within (o .year) {x = age c} (omega (arith, c .before .loop-test .taken)) .limits)
 
 in-range-requires : tie.Need-in-range-requires Inv-loop μ-loop
 in-range-requires c κs = search needs
 
 returns : tie.Need-returns Inv-loop μ-loop
-returns c =
+returns c o =
     let a = c .before .before .before in
-    let l = turn a .before in
-    let s = start a in
-    filled-out (s .args .t1) (s .args .y .number) (l .loop .i) (l .loop .ends) (turn a .loop-test .taken)
-    (sym (tested (c .before)) ∙ not-true _ (c .if1 .taken))
+    let t = a .before in
+    let l = t .before in
+    filled-out (o .set) (start a .args .y .number) (l .loop .i) (l .loop .ends) (t .loop-test .taken)
+    (sym (tested (c .before) o) ∙ not-true _ (c .if1 .taken))
 
 inverse-logistic-requires : tie.Need-inverse-logistic-requires Inv-loop μ-loop
 inverse-logistic-requires c κs =
     let m = c .before .before in
     let a = m .before in
-    let s = start a in
-    rw (forced m)
-    (logForce-negated (s .args .t1) (s .pre .limits) (omega (arith, turn a .loop-test .taken)) (s .pre .year) (rw (in-range c) tt))
+    let o = start a .pre in
+    rw (forced m o)
+    (logForce-negated (o .set) (o .year .limits) (omega (arith, a .before .loop-test .taken)) (o .year .year) (rw (in-range c o) tt))
 
 mul-ends : tie.Need-mul-ends Inv-loop μ-loop
 mul-ends c = omega arith
@@ -102,20 +105,20 @@ loop-less c = omega arith
 
 loop-again : tie.Need-loop-again Inv-loop μ-loop
 unfolding fittedEnds youngForce
-loop-again c =
+loop-again c o =
     let e = c .before in
     let m = e .before .before in
-    let t = turn (m .before) in
-    filled-more (t .before .loop .inv) (t .loop-test .taken) (rw (in-range e) tt)
+    let t = m .before .before in
+    filled-more (t .before .loop .inv o) (t .loop-test .taken) (rw (in-range e o) tt)
     (c .inverse-logistic .ensures
-    ∙ ap (λ (k : SignedEnds). inverseLogistic billionths k (expBetween billionths (negated k))) (forced m))
+    ∙ ap (λ (k : SignedEnds). inverseLogistic billionths k (expBetween billionths (negated k))) (forced m o))
 
 returns-2 : tie.Need-returns-2 Inv-loop μ-loop
-returns-2 c =
+returns-2 c o =
     let l = c .before in
-    let s = l .before in
-    let i : l .loop .i ≡ fitted = omega arith in
-    filled-all (s .args .t1) (s .args .y .number) (l .loop .ends) (s .pre .limits) (s .pre .year) (rw i at (l .loop .inv))
+    let f = l .loop .inv o in
+    let i : l .loop .i ≡ fitted = omega (arith, f .count, c .loop-test .left) in
+    filled-all (o .set) (l .before .args .y .number) (l .loop .ends) (o .year .limits) (o .year .year) (rw i at f)
 
 pub fitted-in-spec : {M : Type 1} → statement M
 fitted-in-spec =
