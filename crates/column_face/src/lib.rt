@@ -105,7 +105,7 @@ pub extern "C" fn columns_of(sheet: &[u8], first: u64, count: u64, out: &mut [u6
     if years - first < count {
         return 4;
     }
-    if params::in_limits(set) {
+    if limits::in_limits(set) {
         put_columns(set, first, count, out);
         return 0;
     }

@@ -118,7 +118,7 @@ fn is_accepted(got: Reading) -> bool
     let refusal = got.refusal;
     let set = got.set;
     match refusal {
-        Refusal::Accepted => params::in_limits(set),
+        Refusal::Accepted => limits::in_limits(set),
         _ => false,
     }
 }

@@ -96,7 +96,7 @@ pub extern "C" fn expectancies_of(
     if first_age > LAST_CLOSED as u64 {
         return 3;
     }
-    if params::in_limits(set) {
+    if limits::in_limits(set) {
         return put_expectancies(set, kind_of(kind), first_age, count, asked(year), out);
     }
     2

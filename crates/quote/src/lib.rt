@@ -107,7 +107,7 @@ pub fn quote_of(p: Params, kind: Kind, age: i64, year: i64, span: i64) -> Answer
     ensures answered { λ r. ⌜ r ≡ answerOf p kind age year span ⌝ }
     ensures honest { λ r. ⌜ Demand3 p kind age year span r ⌝ }
 {
-    if !params::in_limits(p) {
+    if !limits::in_limits(p) {
         return Answer::Refused(Refusal::OffScale);
     }
     quote_within(p, kind, age, year, span)

@@ -7,12 +7,12 @@ use Prim.Native.Nat.{_≤_, _<_, _-_}
 use native.Mathlib.Numerals.{add-one}
 use native.Mathlib.Omega.{arith}
 use borrow.Author.Tests.{not-true, not-false}
 use Rattle.params.specs.Set.{ages, ageOf, four-age}
 use Rattle.params.specs.Limits.{inLimits, ageInLimits, agesInLimits}
 use Rattle.params.specs.LimitsLaws.{age-out}
-use Rattle.params.proofs.Sizes.{fails, passes}
-use Rattle.params.proofs.in_limits.Statement.{statement}
-use Rattle.params.proofs.in_limits.Tie as tie
+use Rattle.sizes.proofs.Sizes.{fails, passes}
+use Rattle.limits.proofs.in_limits.Statement.{statement}
+use Rattle.limits.proofs.in_limits.Tie as tie
 
 abbrev Inv-loop : tie.InvT-loop
 Inv-loop p x₀ x = (x ≤ ages) × (agesInLimits p x ≡ true)

@@ -8,11 +8,11 @@ use lib.IntN.{ℤ, pos, _+ℤ_, _*ℤ_}
 use mir.Syntax.{w64}
 use mir.Val.{SFits, toZ, ofZ}
 use Rattle.whole.specs.Bound.{Under, under-lit, under-add, under-mul, fits, back}
 use Rattle.params.specs.declared.Params.{Params}
 use Rattle.params.specs.Limits.{aLimit, thetaLimit, periodLimit, kappaLimit, lastYears, within, seriesInLimits}
-use Rattle.params.proofs.Sizes.{tested, passed, fails, passes}
-use Rattle.params.proofs.series_in_limits.Statement.{statement}
-use Rattle.params.proofs.series_in_limits.Tie as tie
+use Rattle.sizes.proofs.Sizes.{tested, passed, fails, passes}
+use Rattle.sizes.proofs.series_in_limits.Statement.{statement}
+use Rattle.sizes.proofs.series_in_limits.Tie as tie
 
 -- ---- K + 171·theta in 64 bits
 

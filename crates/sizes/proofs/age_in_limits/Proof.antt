@@ -4,11 +4,11 @@ use mathlib.Core.Path.{_≡_, refl}
 use mathlib.Core.Bool.{Bool, _&&_}
 use mir.Syntax.{w64}
 use mir.Val.{SFits}
 use Rattle.params.specs.declared.Age.{Age}
 use Rattle.params.specs.Limits.{levelLimit, slopeLimit, within, ageInLimits}
-use Rattle.params.proofs.Sizes.{tested, fails, passes}
-use Rattle.params.proofs.age_in_limits.Statement.{statement}
-use Rattle.params.proofs.age_in_limits.Tie as tie
+use Rattle.sizes.proofs.Sizes.{tested, fails, passes}
+use Rattle.sizes.proofs.age_in_limits.Statement.{statement}
+use Rattle.sizes.proofs.age_in_limits.Tie as tie
 
 -- ---- the age, after each test
 

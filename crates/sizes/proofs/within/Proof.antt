@@ -1,8 +1,8 @@
 -- `within` meets its contract: below zero by −limit, which does not overflow, else by the limit.
 use mir.Facts.{toZ-ofZ}
-use Rattle.params.proofs.Sizes.{minus-fits, below-within, above-within}
-use Rattle.params.proofs.within.Statement.{statement}
-use Rattle.params.proofs.within.Tie as tie
+use Rattle.sizes.proofs.Sizes.{minus-fits, below-within, above-within}
+use Rattle.sizes.proofs.within.Statement.{statement}
+use Rattle.sizes.proofs.within.Tie as tie
 
 sub-result : tie.Need-sub-result
 sub-result c = rw (toZ-ofZ (c .before .fits .limit)) (minus-fits _ (c .before .pre) (c .before .fits .limit))
