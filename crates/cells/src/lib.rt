@@ -39,5 +39,5 @@ pub fn old_cell(row: [i64; 11], f: Fitted) -> Cell
         return Cell::Steep;
     }
     let ends = f.ends;
-    Cell::Of(expo::exp_between(logistic::logistic(closure::closed_sum(row, ends))))
+    Cell::Of(exp_ends::exp_between(logistic::logistic(closure::closed_sum(row, ends))))
 }

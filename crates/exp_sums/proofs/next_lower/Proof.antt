@@ -3,9 +3,9 @@ use mathlib.Core.Path.{refl}
 use native.Mathlib.Nat.{mul-le-mul}
 use native.Mathlib.Omega.{arith}
 use borrow.Author.Needs.{needs}
 use Rattle.expo.specs.Exponential.{nextLower}
-use Rattle.expo.proofs.next_lower.Statement.{statement}
-use Rattle.expo.proofs.next_lower.Tie as tie
+use Rattle.exp_sums.proofs.next_lower.Statement.{statement}
+use Rattle.exp_sums.proofs.next_lower.Tie as tie
 
 mul-result : tie.Need-mul-result
 mul-result c = omega (arith, mul-le-mul (c .pre .term) (c .pre .rest))

@@ -6,12 +6,12 @@ use native.Mathlib.Nat.{min-eq-left, min-eq-right, le-of-lt}
 use native.Mathlib.Omega.{arith}
 use borrow.Author.Needs.{needs}
 use Rattle.alternating.specs.Alternating.{double}
 use Rattle.expo.specs.Exponential.{termUpper, sumUpper}
 use Rattle.expo.specs.Billionths.{billionths}
 use Rattle.expo.specs.Sums.{double-two}
-use Rattle.expo.proofs.Pairs.{Lower, Upper, UpperPairs, none, more, all, lower-next, upper-next, upper-sum}
-use Rattle.expo.proofs.sum_upper.Statement.{statement}
-use Rattle.expo.proofs.sum_upper.Tie as tie
+use Rattle.exp_sums.proofs.Pairs.{Lower, Upper, UpperPairs, none, more, all, lower-next, upper-next, upper-sum}
+use Rattle.exp_sums.proofs.sum_upper.Statement.{statement}
+use Rattle.exp_sums.proofs.sum_upper.Tie as tie
 
 abbrev Inv-loop : tie.InvT-loop
 Inv-loop f low₀ high₀ evens₀ odds₀ i₀ low high evens odds i = UpperPairs f low high evens odds i × (i ≤ 5)

@@ -1,8 +1,8 @@
 -- `exp_between` meets its contract by those of the two ends.
 use borrow.Author.Needs.{needs}
 use Rattle.expo.specs.Exponential.{expBetween}
-use Rattle.expo.proofs.exp_between.Statement.{statement}
-use Rattle.expo.proofs.exp_between.Tie as tie
+use Rattle.exp_ends.proofs.exp_between.Statement.{statement}
+use Rattle.exp_ends.proofs.exp_between.Tie as tie
 
 exp-lower-requires : tie.Need-exp-lower-requires
 exp-lower-requires c κs = search needs

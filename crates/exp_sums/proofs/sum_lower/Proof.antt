@@ -5,11 +5,11 @@ use Prim.Native.Nat.{ℕ, suc, _-_, _≤_}
 use native.Mathlib.Omega.{arith}
 use borrow.Author.Needs.{needs}
 use Rattle.alternating.specs.Alternating.{double}
 use Rattle.expo.specs.Exponential.{termLower}
 use Rattle.expo.specs.Sums.{double-two}
-use Rattle.expo.proofs.Pairs.{Lower, Upper, LowerPairs, none, more, all, lower-next, upper-next, lower-sum}
-use Rattle.expo.proofs.sum_lower.Statement.{statement}
-use Rattle.expo.proofs.sum_lower.Tie as tie
+use Rattle.exp_sums.proofs.Pairs.{Lower, Upper, LowerPairs, none, more, all, lower-next, upper-next, lower-sum}
+use Rattle.exp_sums.proofs.sum_lower.Statement.{statement}
+use Rattle.exp_sums.proofs.sum_lower.Tie as tie
 
 abbrev Inv-loop : tie.InvT-loop
 Inv-loop f low₀ high₀ evens₀ odds₀ i₀ low high evens odds i = LowerPairs f low high evens odds i × (i ≤ 6)

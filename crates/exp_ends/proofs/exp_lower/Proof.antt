@@ -6,12 +6,12 @@ use native.Mathlib.Omega.{arith}
 use lib.Dec.{lit<}
 use borrow.Author.Needs.{needs}
 use borrow.Author.Tests.{lt-ltb, le-ltb}
 use Rattle.expo.specs.Exponential.{cutoffUnits, constantLower, expLower}
 use Rattle.expo.specs.Billionths.{billionths, wholeParts}
 use Rattle.expo.specs.BillionthsFacts.{billionths-sound}
-use Rattle.expo.proofs.Constants.{lower-product}
-use Rattle.expo.proofs.exp_lower.Statement.{statement}
-use Rattle.expo.proofs.exp_lower.Tie as tie
+use Rattle.exp_ends.proofs.Constants.{lower-product}
+use Rattle.exp_ends.proofs.exp_lower.Statement.{statement}
+use Rattle.exp_ends.proofs.exp_lower.Tie as tie
 
 below : (c : tie.Then1) → c .before .args .z < cutoffUnits billionths
 below c = omega arith

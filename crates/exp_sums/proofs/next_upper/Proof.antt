@@ -2,9 +2,9 @@
 use native.Mathlib.Nat.{mul-le-mul}
 use native.Mathlib.Omega.{arith}
 use borrow.Author.Needs.{needs}
 use Rattle.expo.specs.Exponential.{nextUpper}
-use Rattle.expo.proofs.next_upper.Statement.{statement}
-use Rattle.expo.proofs.next_upper.Tie as tie
+use Rattle.exp_sums.proofs.next_upper.Statement.{statement}
+use Rattle.exp_sums.proofs.next_upper.Tie as tie
 
 mul-ceil-div-u : tie.Need-mul-ceil-div-u
 mul-ceil-div-u c = omega (arith, mul-le-mul (c .pre .term) (c .pre .rest))

@@ -7,11 +7,11 @@ use lib.Dec.{lit<}
 use borrow.Author.Needs.{needs}
 use borrow.Author.Tests.{lt-ltb, le-ltb}
 use Rattle.whole.specs.DivisionLaws.{ceilℕ-exact}
 use Rattle.expo.specs.Exponential.{cutoffUnits, constantLower, constantUpper, expUpper}
 use Rattle.expo.specs.Billionths.{billionths, wholeParts}
-use Rattle.expo.proofs.Constants.{constant-bound, upper-product, one-more}
-use Rattle.expo.proofs.exp_upper.Statement.{statement}
-use Rattle.expo.proofs.exp_upper.Tie as tie
+use Rattle.exp_ends.proofs.Constants.{constant-bound, upper-product, one-more}
+use Rattle.exp_ends.proofs.exp_upper.Statement.{statement}
+use Rattle.exp_ends.proofs.exp_upper.Tie as tie
 
 below : (c : tie.Then1) → c .before .args .z < cutoffUnits billionths
 below c = omega arith
