@@ -3,10 +3,10 @@ use mathlib.Core.Path.{_≡_, refl}
 use mathlib.Core.Bool.{Bool, true, false, cond}
 use mathlib.Core.List.{List}
 use Prim.Native.Nat.{ℕ, _≤_, _<_}
-use native.Mathlib.Omega.{arith}
 use lib.Dec.{T}
 use lib.IntN.{ℤ}
 use borrow.Author.Tests.{lt-ltb, le-ltb}
+use Rattle.whole.specs.Clash.{clash}
 use Rattle.whole.specs.SignedEnds.{SignedEnds}
 use Rattle.expo.specs.Exponential.{expBetween}
 use Rattle.expo.specs.Billionths.{billionths}
@@ -63,5 +63,5 @@ unfolding oldCell
 old-chance row f = exp-chance (f .ok) _
 
 pub chance-ends : {c : Cell} → Chance c → {e : code.Ends} → c ≡ Of e → (e .lower ≤ billionths .unit) × (e .upper ≤ billionths .unit)
-chance-ends steep q = absurd (let z : _≡_ {A = ℕ} 0 1 = cc in omega arith)
+chance-ends steep q = clash cc
 chance-ends (of {e = d} l u) {e} q = let k : d ≡ e = cc in rw (← k) (l, u)

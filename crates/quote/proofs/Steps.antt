@@ -12,6 +12,7 @@ use mir.Syntax.{w64}
 use mir.Val.{Fits, SFits}
 use mir.Facts.{toZ-ofZ}
 use lib.Signed.{_<ℤ_, nonNeg, leZ, ltZ, ltZ-yes, ltZ-no, clashℤ}
+use Rattle.whole.specs.Clash.{clash}
 use Rattle.whole.specs.Bound.{bits, Under, under-pos}
 use Rattle.whole.specs.Split.{split, split-sub}
 use Rattle.expo.specs.Grid.{Ends}
@@ -31,8 +32,8 @@ use Rattle.paths.specs.Path.{pathInRange, factors}
 use Rattle.paths.specs.Values.{gridValue}
 use Rattle.paths.specs.Answers.{path-length}
 use Rattle.paths.specs.Width.{factors-chances, value-small}
-use Rattle.factors.specs.declared.Path.{Path}
-use Rattle.factors.specs.Code.{PathWithin, pathIs}
+use Rattle.walks.specs.declared.Path.{Path}
+use Rattle.walks.specs.Code.{PathWithin, pathIs}
 use Rattle.kinds.specs.declared.Kind.{Kind}
 use Rattle.kinds.specs.declared.Fold.{Fold}
 use Rattle.kinds.specs.declared.Fold.the-variants.{Death, Survival, Expectancy}
@@ -205,8 +206,8 @@ table-answer p k age year span {r} t e n =
 
 pub cast-whole : {z : ℤ} → SFits w64 z → pos (natAbs z) ≡ z → T (nonNeg (bits z)) × Fits w64 (natAbs (bits z))
 cast-whole {z = pos n} f e = rw (toZ-ofZ f) (tt, record { fits = omega (arith, f .sfits) })
-cast-whole {z = negsuc n} f e = absurd (let q : _≡_ {A = ℕ} 0 1 = cc in omega arith)
+cast-whole {z = negsuc n} f e = clash cc
 
 pub years-from : {z : ℤ} → pos (natAbs z) ≡ z → startYear ≤ natAbs z → z -ℤ pos startYear ≡ pos (natAbs z - startYear)
 years-from {z = pos n} e l = omega (split, split-sub (pos n) (pos startYear))
-years-from {z = negsuc n} e l = absurd (let q : _≡_ {A = ℕ} 0 1 = cc in omega arith)
+years-from {z = negsuc n} e l = clash cc

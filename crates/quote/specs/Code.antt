@@ -6,8 +6,8 @@ use Rattle.params.specs.declared.Refusal.the-variants.{Steep}
 use Rattle.exact.specs.Figure.{figureOf}
 use Rattle.paths.specs.Path.{pathInRange}
 use Rattle.paths.specs.Values.{gridValue}
-use Rattle.factors.specs.declared.Path.{Path}
-use Rattle.factors.specs.Code.{pathIs}
+use Rattle.walks.specs.declared.Path.{Path}
+use Rattle.walks.specs.Code.{pathIs}
 use Rattle.kinds.specs.declared.Fold.{Fold}
 use Rattle.kinds.specs.Kinds.{foldIs, stepOf}
 use Rattle.quote.specs.declared.Answer.{Answer}

@@ -8,6 +8,7 @@ use lib.Dec.{T, leb→le}
 use lib.IntN.{ℤ, pos, negsuc, natAbs}
 use lib.Signed.{leZ}
 use mir.Facts.{and-yes}
+use Rattle.whole.specs.Clash.{clash}
 use Rattle.params.specs.declared.Params.{Params}
 use Rattle.params.specs.declared.Refusal.{Refusal}
 use Rattle.params.specs.declared.Refusal.the-variants.{Accepted}
@@ -37,9 +38,9 @@ pub in-table : (rule : Rule) (age year span : ℤ) → firstFailed (tableTests r
     → InTable rule age year span
 unfolding firstFailed tableTests
 in-table rule age year span e =
-    let a = passed (ageInTable age) (λ q. let z : _≡_ {A = ℕ} 0 1 = cc in omega arith) e in
-    let y = passed (yearInTable rule year) (λ q. let z : _≡_ {A = ℕ} 0 1 = cc in omega arith) (a .1) in
-    let s = passed (spanInTable rule age span) (λ q. let z : _≡_ {A = ℕ} 0 1 = cc in omega arith) (y .1) in
+    let a = passed (ageInTable age) (λ q. clash cc) e in
+    let y = passed (yearInTable rule year) (λ q. clash cc) (a .1) in
+    let s = passed (spanInTable rule age span) (λ q. clash cc) (y .1) in
     record { age-in = a .0; year-in = y .0; span-in = s .0 }
 
 pub record Passed (p : Params) (k : Kind) (age year span : ℤ) : Type 0 where
@@ -50,11 +51,11 @@ pub record Passed (p : Params) (k : Kind) (age year span : ℤ) : Type 0 where
 pub all-passed : (p : Params) (k : Kind) (age year span : ℤ) → refusalOf p k age year span ≡ Accepted → Passed p k age year span
 unfolding refusalOf firstFailed tableTests
 all-passed p k age year span e =
-    let l = passed (inLimits p) (λ q. let z : _≡_ {A = ℕ} 0 1 = cc in omega arith) e in
-    let a = passed (ageInTable age) (λ q. let z : _≡_ {A = ℕ} 0 1 = cc in omega arith) (l .1) in
-    let y = passed (yearInTable (ruleOf k) year) (λ q. let z : _≡_ {A = ℕ} 0 1 = cc in omega arith) (a .1) in
-    let s = passed (spanInTable (ruleOf k) age span) (λ q. let z : _≡_ {A = ℕ} 0 1 = cc in omega arith) (y .1) in
-    let r = passed (pathInRange p (queryPath k age year span)) (λ q. let z : _≡_ {A = ℕ} 0 1 = cc in omega arith) (s .1) in
+    let l = passed (inLimits p) (λ q. clash cc) e in
+    let a = passed (ageInTable age) (λ q. clash cc) (l .1) in
+    let y = passed (yearInTable (ruleOf k) year) (λ q. clash cc) (a .1) in
+    let s = passed (spanInTable (ruleOf k) age span) (λ q. clash cc) (y .1) in
+    let r = passed (pathInRange p (queryPath k age year span)) (λ q. clash cc) (s .1) in
     record { limits = l .0; table = record { age-in = a .0; year-in = y .0; span-in = s .0 }; range = r .0 }
 
 -- ---- the numbers of a query in the table

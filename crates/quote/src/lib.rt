@@ -4,12 +4,11 @@ ghost use mathlib.Core.Path.{_≡_};
 ghost use lib.Dec.{T};
 ghost use Rattle.whole.specs.Bound.{Under};
 ghost use Rattle.params.specs.Limits.{inLimits, lastYears};
-ghost use Rattle.factors.specs.Code.{PathWithin};
+ghost use Rattle.walks.specs.Code.{PathWithin};
 ghost use Rattle.quote.specs.Quote.{between, tableTests, firstFailed, answerOf};
 ghost use Rattle.quote.specs.Demand.{Demand3};
 ghost use Rattle.quote.specs.Code.{pathAnswer};
 use exact::Figure;
-use factors::Path;
 use kinds::Fold;
 use kinds::Kind;
 use kinds::Rule;
@@ -17,6 +16,7 @@ use params::FIRST_YEARS;
 use params::Params;
 use params::Refusal;
 use params::START_YEAR;
+use walks::Path;
 use weights::LAST_CLOSED;
 
 // The two ends of a figure in units of 10^-9, with the figure: a number of steps, or open.

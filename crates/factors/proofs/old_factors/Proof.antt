@@ -22,9 +22,10 @@ use Rattle.fitted_ages.specs.Code.{FittedOf, lent}
 use Rattle.cells.specs.Code.{cellOf}
 use Rattle.cells.specs.Answers.{old-cell}
 use Rattle.paths.specs.Path.{placeAt}
-use Rattle.factors.specs.declared.Path.{Path}
-use Rattle.factors.specs.Code.{PathWithin, Worked, YearAt}
-use Rattle.factors.proofs.Steps.{along, cellAt, worked-more, worked-out, worked-all, out-all, year-may, year-step}
+use Rattle.walks.specs.declared.Path.{Path}
+use Rattle.walks.specs.Code.{PathWithin, Worked, YearAt}
+use Rattle.walks.proofs.Steps.{along, cellAt, worked-more, worked-out, year-may, year-step}
+use Rattle.factors.proofs.All.{worked-all, out-all}
 use Rattle.factors.proofs.old_factors.Statement.{statement}
 use Rattle.factors.proofs.old_factors.Tie as tie
 

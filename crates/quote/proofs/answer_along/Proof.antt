@@ -8,7 +8,7 @@ use Rattle.expo.specs.Grid.{Ends}
 use Rattle.expo.specs.Billionths.{billionths}
 use Rattle.expo.specs.Code.{endsOf}
 use Rattle.paths.specs.Values.{foldOver, gridValue}
-use Rattle.factors.specs.Code.{pathIs}
+use Rattle.walks.specs.Code.{pathIs}
 use Rattle.kinds.specs.Kinds.{foldIs, stepOf}
 use Rattle.quote.specs.Code.{pathAnswer}
 use Rattle.quote.proofs.Steps.{path-chances, first-of, value-fits, step-small, quoted}

@@ -1,7 +1,7 @@
 -- `goes_on` meets its contract by the two tests.
 use borrow.Author.Tests.{not-true, not-false}
-use Rattle.factors.proofs.goes_on.Statement.{statement}
-use Rattle.factors.proofs.goes_on.Tie as tie
+use Rattle.walks.proofs.goes_on.Statement.{statement}
+use Rattle.walks.proofs.goes_on.Tie as tie
 
 returns : tie.Need-returns
 returns c = rw (not-true (c .before .args .cohort) (c .if1 .taken))

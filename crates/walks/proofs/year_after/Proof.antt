@@ -2,8 +2,8 @@
 use mathlib.Core.Path.{_≡_, refl}
 use mathlib.Core.Bool.{true, false}
 use mir.Facts.{toZ-ofZ}
-use Rattle.factors.proofs.year_after.Statement.{statement}
-use Rattle.factors.proofs.year_after.Tie as tie
+use Rattle.walks.proofs.year_after.Statement.{statement}
+use Rattle.walks.proofs.year_after.Tie as tie
 
 next-year-requires : tie.Need-next-year-requires
 next-year-requires c κs =

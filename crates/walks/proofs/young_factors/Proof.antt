@@ -15,11 +15,11 @@ use Rattle.years.specs.YearLaws.{cell-within, year-force}
 use Rattle.cells.specs.Answers.{young-cell}
 use Rattle.cells.specs.Code.{cellOf}
 use Rattle.paths.specs.Path.{placeAt}
-use Rattle.factors.specs.declared.Path.{Path}
-use Rattle.factors.specs.Code.{PathWithin, Worked, YearAt}
-use Rattle.factors.proofs.Steps.{along, cellAt, worked-none, worked-more, worked-out, first-year, year-may, year-step}
-use Rattle.factors.proofs.young_factors.Statement.{statement}
-use Rattle.factors.proofs.young_factors.Tie as tie
+use Rattle.walks.specs.declared.Path.{Path}
+use Rattle.walks.specs.Code.{PathWithin, Worked, YearAt}
+use Rattle.walks.proofs.Steps.{along, cellAt, worked-none, worked-more, worked-out, first-year, year-may, year-step}
+use Rattle.walks.proofs.young_factors.Statement.{statement}
+use Rattle.walks.proofs.young_factors.Tie as tie
 
 abbrev Inv-loop : tie.InvT-loop
 Inv-loop p cohort age count young year₀ ends₀ done₀ year ends done = let w = along cohort age (year₀ .number) count in Worked p w ends done × YearAt p w done year × (done ≤ young)

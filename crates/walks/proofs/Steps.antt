@@ -11,6 +11,7 @@ use borrow.Author.Tests.{lt-ltb}
 use lib.ListN.{length, set, length-set}
 use lib.Seq.{take-suc-set}
 use mir.Facts.{and-yes, yes-and}
+use Rattle.whole.specs.Clash.{clash}
 use Rattle.whole.specs.Table.{listed}
 use Rattle.expo.specs.Billionths.{billionths}
 use Rattle.expo.specs.Code.{endsOf}
@@ -27,8 +28,8 @@ use Rattle.years.specs.YearLaws.{year-within, year-next}
 use Rattle.folds.specs.Code.{mostFactors}
 use Rattle.paths.specs.Path.{placeAt, pathOf, factors, pathInRange}
 use Rattle.paths.specs.Answers.{path-more, factors-append, in-range-more, range-out}
-use Rattle.factors.specs.declared.Path.{Path}
-use Rattle.factors.specs.Code.{placeOf, pathTo, pathIs, PathWithin, Advanced, Worked, YearAt, FactorsOf}
+use Rattle.walks.specs.declared.Path.{Path}
+use Rattle.walks.specs.Code.{placeOf, pathTo, pathIs, PathWithin, Advanced, Worked, YearAt}
 
 -- the path of a function's locals
 abbrev pub along : Bool → ℕ → ℕ → ℕ → Path
@@ -42,10 +43,10 @@ cellAt p w s = cellOf p (placeOf w s .age) (placeOf w s .year)
 
 inside : (b : Bool) {d e : code.Ends} → cond b (Of d) Steep ≡ Of e → T b × (d ≡ e)
 inside true q = (tt, cc)
-inside false q = absurd (let z : _≡_ {A = ℕ} 0 1 = cc in omega arith)
+inside false q = clash cc
 
 outside : (b : Bool) (d : code.Ends) → cond b (Of d) Steep ≡ Steep → b ≡ false
-outside true d q = absurd (let z : _≡_ {A = ℕ} 0 1 = cc in omega arith)
+outside true d q = clash cc
 outside false d q = refl
 
 cell-in : (p : Params) (x n : ℕ) {e : code.Ends} → cellOf p x n ≡ Of e
@@ -90,17 +91,6 @@ worked-more {p} {w} {es} {s} {e} h m l q =
 pub worked-out : (p : Params) (w : Path) {s : ℕ} → s < w .count → cellAt p w s ≡ Steep → pathInRange p (pathIs w) ≡ false
 worked-out p w {s} l q =
     range-out p (w .cohort) (w .age) (w .year) s (w .count) l (cell-out p (placeOf w s .age) (placeOf w s .year) q)
-
--- all the factors, or a cell out of range
-pub worked-all : {p : Params} {w : Path} {es : List code.Ends} {s : ℕ} → Worked p w es s → s ≡ w .count
-    → FactorsOf p w (record { ok = true; ends = es })
-worked-all {p} {w} h e =
-    let k = rw e at h in
-    record { ok = sym (is-true (pathInRange p (pathIs w)) (k .range)); ends = λ t. k .ends }
-
-pub out-all : {p : Params} {w : Path} {es : List code.Ends} → pathInRange p (pathIs w) ≡ false
-    → FactorsOf p w (record { ok = false; ends = es })
-out-all e = record { ok = sym e; ends = λ t. absurd t }
 
 -- ---- the year of the next cell
 
