@@ -7,7 +7,7 @@ ghost use Rattle.params.specs.Limits.{inLimits};
 ghost use Rattle.weights.specs.Weights.{lastClosed};
 use kinds::Kind;
 use params::Params;
-use quote::Answer;
+use path_quotes::Answer;
 use weights::LAST_CLOSED;
 
 // An age or a year as a signed number. The largest stands for those above it, none of which is of the table.

@@ -32,9 +32,9 @@ use Rattle.kinds.specs.declared.Kind.{Kind}
 use Rattle.kinds.specs.declared.Fold.{Fold}
 use Rattle.kinds.specs.declared.Fold.the-variants.{Death, Survival, Expectancy}
 use Rattle.kinds.specs.Kinds.{ruleOf, foldIs, countOf, stepOf, widthOf}
-use Rattle.quote.specs.declared.Quote.{Quote}
-use Rattle.quote.specs.declared.Answer.{Answer}
-use Rattle.quote.specs.declared.Answer.the-variants.{Quoted, Refused}
+use Rattle.path_quotes.specs.declared.Quote.{Quote}
+use Rattle.path_quotes.specs.declared.Answer.{Answer}
+use Rattle.path_quotes.specs.declared.Answer.the-variants.{Quoted, Refused}
 use Rattle.quote.specs.Quote.{queryPath, queryEnds, exactQuery, refusalOf, quoteOf, answerBy, answerOf}
 use Rattle.quote.specs.Demand.{printed, markedOpen, noFigure, shownOf, numberOf, lowerOf, upperOf, figureShown, step, RoundsAt, Kept, Demand3}
 use Rattle.quote.specs.Tests.{Passed, all-passed, counted, path-ages, query-answered}

@@ -6,7 +6,7 @@ use lib.IntN.{ℤ}
 use Rattle.whole.specs.Clash.{clash}
 use Rattle.params.specs.declared.Params.{Params}
 use Rattle.kinds.specs.declared.Kind.{Kind}
-use Rattle.quote.specs.declared.Answer.{Answer}
+use Rattle.path_quotes.specs.declared.Answer.{Answer}
 use Rattle.quote.specs.Quote.{answerOf}
 use Rattle.quote.specs.Demand.{Shown, printed, markedOpen, noFigure, figureShown, Demand3}
 use Rattle.two_quotes.specs.declared.Same.the-variants.{NotPrinted, Equal, Different}

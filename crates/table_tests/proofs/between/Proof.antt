@@ -1,8 +1,8 @@
 -- `between` meets its contract by the two tests.
 use mir.Facts.{toZ-ofZ}
-use Rattle.quote.proofs.Steps.{below-not-least, not-below-least}
-use Rattle.quote.proofs.between.Statement.{statement}
-use Rattle.quote.proofs.between.Tie as tie
+use Rattle.table_tests.proofs.Signs.{below-not-least, not-below-least}
+use Rattle.table_tests.proofs.between.Statement.{statement}
+use Rattle.table_tests.proofs.between.Tie as tie
 
 returns : tie.Need-returns
 returns c =

@@ -10,10 +10,10 @@ use Rattle.expo.specs.Code.{endsOf}
 use Rattle.paths.specs.Values.{foldOver, gridValue}
 use Rattle.walks.specs.Code.{pathIs}
 use Rattle.kinds.specs.Kinds.{foldIs, stepOf}
-use Rattle.quote.specs.Code.{pathAnswer}
-use Rattle.quote.proofs.Steps.{path-chances, first-of, value-fits, step-small, quoted}
-use Rattle.quote.proofs.answer_along.Statement.{statement}
-use Rattle.quote.proofs.answer_along.Tie as tie
+use Rattle.path_quotes.specs.Code.{pathAnswer}
+use Rattle.path_quotes.proofs.Value.{path-chances, first-of, value-fits, step-small, quoted}
+use Rattle.path_quotes.proofs.answer_along.Statement.{statement}
+use Rattle.path_quotes.proofs.answer_along.Tie as tie
 
 factors-of-requires : tie.Need-factors-of-requires
 factors-of-requires c κs = c .pre

@@ -16,10 +16,10 @@ use Rattle.weights.specs.Weights.{lastClosed}
 use Rattle.kinds.specs.declared.Fold.{Fold}
 use Rattle.kinds.specs.declared.Fold.the-variants.{Death, Survival, Expectancy}
 use Rattle.kinds.specs.Kinds.{mostSpan}
-use Rattle.quote.specs.Quote.{ageInTable, yearInTable, spanInTable, firstFailed, tableTests}
-use Rattle.quote.specs.Tests.{within}
-use Rattle.quote.proofs.table_refusal.Statement.{statement}
-use Rattle.quote.proofs.table_refusal.Tie as tie
+use Rattle.table_tests.specs.TableTests.{ageInTable, yearInTable, spanInTable, firstFailed, tableTests}
+use Rattle.table_tests.specs.TableLaws.{within}
+use Rattle.table_tests.proofs.table_refusal.Statement.{statement}
+use Rattle.table_tests.proofs.table_refusal.Tie as tie
 
 -- the last year, as it is read
 last-read : (s : tie.Start) → SFits w64 (pos startYear +ℤ bits (s .args .rule .years))

@@ -10,8 +10,8 @@ use Rattle.walks.specs.declared.Path.{Path}
 use Rattle.walks.specs.Code.{pathIs}
 use Rattle.kinds.specs.declared.Fold.{Fold}
 use Rattle.kinds.specs.Kinds.{foldIs, stepOf}
-use Rattle.quote.specs.declared.Answer.{Answer}
-use Rattle.quote.specs.declared.Answer.the-variants.{Quoted, Refused}
+use Rattle.path_quotes.specs.declared.Answer.{Answer}
+use Rattle.path_quotes.specs.declared.Answer.the-variants.{Quoted, Refused}
 
 unfoldable pub pathAnswer : Params → Fold → Path → Answer
 pathAnswer p fold w =
