@@ -3,10 +3,10 @@
 use borrow.Author.Needs.{needs}
 use mathlib.Core.Path.{sym}
 use native.Mathlib.Omega.{arith}
 use Rattle.tokens.proofs.NumberSteps.{number-past, minus-torn, minus-zero, minus-number, plain-torn, plain-number}
 use Rattle.tokens.proofs.NumberSteps.{unsigned-small, positive-fits, minus-fits}
-use Rattle.tokens.proofs.number_at.Statement.{statement}
-use Rattle.tokens.proofs.number_at.Tie as tie
+use Rattle.numbers.proofs.number_at.Statement.{statement}
+use Rattle.numbers.proofs.number_at.Tie as tie
 
 returns : tie.Need-returns
 returns c = sym (number-past _ _ (omega arith))
