@@ -7,7 +7,7 @@ use Rattle.params.specs.declared.Params.{Params}
 use Rattle.folds.specs.Code.{listOf}
 use Rattle.paths.specs.Path.{factors, pathInRange}
 use Rattle.walks.specs.declared.Path.{Path}
-use Rattle.walks.specs.Code.{pathTo, pathIs}
+use Rattle.walks.specs.Code.{pathIs}
 use Rattle.factors.specs.declared.Factors.{Factors}
 
 -- the factors of the path where every needed cell is in range, and whether they are

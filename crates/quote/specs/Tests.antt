@@ -1,7 +1,6 @@
 -- What a query has that no test refuses: a set in its limits, an age, a year and a span of the table, and a path that is
 -- answered.
 use mathlib.Core.Path.{_≡_, refl}
-use mathlib.Core.Bool.{Bool}
 use Prim.Native.Nat.{ℕ, suc, _+_, _-_, _≤_, _<_}
 use native.Mathlib.Omega.{arith}
 use lib.Dec.{T}
