@@ -1,14 +1,15 @@
 -- `figure_of` meets its contract: its test is the definition's, of both ends in steps.
 use mathlib.Core.Path.{sym, _∙_}
+use native.Mathlib.Omega.{arith}
 use Rattle.exact.specs.FigureLaws.{printed-when, figure-open}
 use Rattle.exact.proofs.figure_of.Statement.{statement}
 use Rattle.exact.proofs.figure_of.Tie as tie
 
 half-up-requires : tie.Need-half-up-requires
-half-up-requires c κs = let p = c .pre in (p .0, p .1, p .2)
+half-up-requires c κs = let p = c .pre in (p .0, p .1, omega (arith, p .2, p .3))
 
 half-up-requires-2 : tie.Need-half-up-requires-2
-half-up-requires-2 c κs = let p = c .before .pre in (p .0, p .1, p .3)
+half-up-requires-2 c κs = let p = c .before .pre in (p .0, p .1, omega (arith, p .2, p .3))
 
 returns : tie.Need-returns
 returns c =
