@@ -26,7 +26,9 @@ fitted-in-requires : tie.Need-fitted-in-requires
 fitted-in-requires c κs = search needs
 
 print-old-requires : tie.Need-print-old-requires
-print-old-requires c κs = c .fitted-in .ensures (lent (c .before .before .before .before .before .before .before .year-at .ensures .1)) .limit
+print-old-requires c κs =
+    let y = c .before .before .before .before .before .before .before in
+    c .fitted-in .ensures (lent (y .year-at .ensures .1)) .limit
 
 returns : tie.Need-returns
 returns c = search needs
