@@ -9,9 +9,9 @@ use Rattle.params.specs.declared.Refusal.{Refusal}
 use Rattle.params.specs.Refusals.{refusalNumber}
 use Rattle.exact.specs.declared.Figure.{Figure}
 use Rattle.figure_text.specs.FigureText.{figureText}
-use Rattle.quote.specs.declared.Quote.{Quote}
-use Rattle.quote.specs.declared.Answer.{Answer}
-use Rattle.quote.specs.declared.Answer.the-variants.{Quoted, Refused}
+use Rattle.path_quotes.specs.declared.Quote.{Quote}
+use Rattle.path_quotes.specs.declared.Answer.{Answer}
+use Rattle.path_quotes.specs.declared.Answer.the-variants.{Quoted, Refused}
 
 -- `no=` and a refusal's number, as a line
 unfoldable pub refusalLine : Refusal → List ℕ

@@ -13,9 +13,9 @@ use Rattle.params.specs.Refusals.{refusalNumber}
 use Rattle.exact.specs.declared.Figure.{Figure}
 use Rattle.figure_text.specs.FigureText.{figureText}
 use Rattle.figure_text.specs.FigureTextLaws.{figure-length}
-use Rattle.quote.specs.declared.Quote.{Quote}
-use Rattle.quote.specs.declared.Answer.{Answer}
-use Rattle.quote.specs.declared.Answer.the-variants.{Quoted, Refused}
+use Rattle.path_quotes.specs.declared.Quote.{Quote}
+use Rattle.path_quotes.specs.declared.Answer.{Answer}
+use Rattle.path_quotes.specs.declared.Answer.the-variants.{Quoted, Refused}
 use Rattle.answer_text.specs.AnswerText.{refusalLine, endsText, shownText, quoteText, answerText}
 
 -- a refusal's number has one digit

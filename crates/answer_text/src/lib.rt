@@ -9,8 +9,8 @@ ghost use Rattle.answer_text.specs.AnswerText.{refusalLine, endsText, sh
 ghost use Rattle.answer_text.specs.Sizes.{Sized, SizedAnswer};
 use exact::Figure;
 use params::Refusal;
-use quote::Answer;
-use quote::Quote;
+use path_quotes::Answer;
+use path_quotes::Quote;
 
 // Writes a name and a number; the place after them.
 fn put_field(buffer: &mut [u8], at: usize, name: &[u8], n: u64) -> usize

@@ -15,8 +15,8 @@ use libc::STDIN_FILENO;
 use libc::STDOUT_FILENO;
 use params::Params;
 use params::Refusal;
-use quote::Answer;
-use quote::Quote;
+use path_quotes::Answer;
+use path_quotes::Quote;
 
 // The longest sheet that a record may hold.
 const MOST_SHEET: usize = 65_536;

@@ -6,14 +6,15 @@ ghost use lib.ListN.{length};
 ghost use Rattle.params.specs.Limits.{inLimits, lastYears};
 ghost use Rattle.weights.specs.Weights.{lastClosed};
 ghost use Rattle.closure.specs.Code.{InLimit};
-ghost use Rattle.mortality.specs.Code.{YearOf, Chance};
-use mortality::Cell;
-use mortality::Fitted;
-use mortality::Year;
+ghost use Rattle.years.specs.Code.{YearOf};
+ghost use Rattle.cells.specs.Code.{Chance};
+use cells::Cell;
+use fitted_ages::Fitted;
 use params::LAST_YEARS;
 use params::Params;
 use weights::FIRST_CLOSED;
 use weights::LAST_CLOSED;
+use years::Year;
 
 // Two ends for each age.
 const ROOM: usize = 2 * (LAST_CLOSED + 1);
@@ -46,7 +47,7 @@ fn put_young(p: Params, y: Year, out: &mut [u64])
         put_cell(
             out,
             x,
-            mortality::young_cell(
+            cells::young_cell(
                 params::age_of_runs(&p.level, &p.slope, &p.alpha, &p.beta, x),
                 y,
             ),
@@ -63,7 +64,7 @@ fn put_old(f: Fitted, out: &mut [u64])
     let mut x = FIRST_CLOSED;
     while x <= LAST_CLOSED {
         let row = table[x - FIRST_CLOSED];
-        put_cell(out, x, mortality::old_cell(row, f));
+        put_cell(out, x, cells::old_cell(row, f));
         x += 1;
     }
 }
@@ -73,9 +74,12 @@ fn put_columns(p: Params, first: u64, count: u64, out: &mut [u64])
 {
     let mut i = 0;
     while i < count {
-        let y = mortality::year_at(p, first + i);
+        let y = years::year_at(p, first + i);
         put_young(p, y, out);
-        put_old(mortality::fitted_in(p, y), out);
+        put_old(
+            fitted_ages::fitted_in(&p.level, &p.slope, &p.alpha, &p.beta, y),
+            out,
+        );
         i += 1;
     }
 }
@@ -101,7 +105,7 @@ pub extern "C" fn columns_of(sheet: &[u8], first: u64, count: u64, out: &mut [u6
     if years - first < count {
         return 4;
     }
-    if params::in_limits(set) {
+    if limits::in_limits(set) {
         put_columns(set, first, count, out);
         return 0;
     }

@@ -8,17 +8,18 @@ ghost use lib.Dec.{T};
 ghost use lib.ListN.{length};
 ghost use Rattle.params.specs.Limits.{inLimits};
 ghost use Rattle.closure.specs.Code.{InLimit};
-ghost use Rattle.mortality.specs.Code.{YearOf, Chance};
+ghost use Rattle.years.specs.Code.{YearOf};
+ghost use Rattle.cells.specs.Code.{Chance};
+use cells::Cell;
+use fitted_ages::Fitted;
 use libc::STDIN_FILENO;
 use libc::STDOUT_FILENO;
-use mortality::Cell;
-use mortality::Fitted;
-use mortality::Year;
 use params::Params;
 use params::Refusal;
 use sheet::Reading;
 use weights::FIRST_CLOSED;
 use weights::LAST_CLOSED;
+use years::Year;
 
 // The longest sheet that a record may hold.
 const MOST_SHEET: usize = 16_384;
@@ -57,7 +58,7 @@ fn print_young(p: Params, y: Year)
         if 0 < x {
             print_text(b" ");
         }
-        print_cell(mortality::young_cell(
+        print_cell(cells::young_cell(
             params::age_of_runs(&p.level, &p.slope, &p.alpha, &p.beta, x),
             y,
         ));
@@ -74,7 +75,7 @@ fn print_old(f: Fitted)
     while x <= LAST_CLOSED {
         let row = table[x - FIRST_CLOSED];
         print_text(b" ");
-        print_cell(mortality::old_cell(row, f));
+        print_cell(cells::old_cell(row, f));
         x += 1;
     }
 }
@@ -85,9 +86,9 @@ fn print_year(p: Params, year: u64)
     let start = params::START_YEAR as u64;
     let last = params::LAST_YEARS as u64;
     if start < year && year - start <= last {
-        let y = mortality::year_at(p, year - start);
+        let y = years::year_at(p, year - start);
         print_young(p, y);
-        print_old(mortality::fitted_in(p, y));
+        print_old(fitted_ages::fitted_in(&p.level, &p.slope, &p.alpha, &p.beta, y));
     }
 }
 
@@ -117,7 +118,7 @@ fn is_accepted(got: Reading) -> bool
     let refusal = got.refusal;
     let set = got.set;
     match refusal {
-        Refusal::Accepted => params::in_limits(set),
+        Refusal::Accepted => limits::in_limits(set),
         _ => false,
     }
 }

@@ -7,7 +7,7 @@ use Rattle.tokens.specs.Text.{torn, taken}
 use Rattle.params.specs.declared.Params.{Params}
 use Rattle.params.specs.declared.Refusal.the-variants.{Torn}
 use Rattle.kinds.specs.Kinds.{ruleOf, decimalsOf}
-use Rattle.quote.specs.declared.Answer.{Answer}
+use Rattle.path_quotes.specs.declared.Answer.{Answer}
 use Rattle.quote.specs.Quote.{answerOf}
 use Rattle.query.specs.declared.Query.{Query}
 use Rattle.query.specs.Query.{queryText, readQuery}

@@ -12,7 +12,7 @@ use Rattle.params.specs.declared.Refusal.the-variants.{Torn}
 use Rattle.kinds.specs.declared.Fold.{Fold}
 use Rattle.kinds.specs.declared.Fold.the-variants.{Death, Survival, Expectancy}
 use Rattle.kinds.specs.Kinds.{ruleOf, decimalsOf}
-use Rattle.quote.specs.declared.Answer.{Answer}
+use Rattle.path_quotes.specs.declared.Answer.{Answer}
 use Rattle.query.specs.declared.Query.{Query}
 use Rattle.query.specs.Query.{queryText, readQuery}
 use Rattle.query.specs.QueryLaws.{query-text, query-least, query-most}

@@ -15,7 +15,7 @@ use params::Params;
 use params::Refusal;
 use query::Query;
 use query::QueryRead;
-use quote::Answer;
+use path_quotes::Answer;
 use sheet::Written;
 
 // No answer is longer.
@@ -87,7 +87,7 @@ pub fn line(p: Params, ends: bool, bytes: &[u8], buffer: &mut [u8]) -> Written
             len: 0,
         };
     }
-    let within = params::in_limits(p);
+    let within = limits::in_limits(p);
     let len = put_line(buffer, 0, p, within, ends, bytes);
     Written {
         refusal: Refusal::Accepted,

@@ -6,6 +6,7 @@ use native.Mathlib.Nat.{div-mul-le-self, lt-div-mul-add}
 use native.Mathlib.Decide.{ℕ-discrete}
 use native.Mathlib.Omega.{arith}
 use borrow.Author.Tests.{eq-eqb, ne-eqb}
+use Rattle.whole.specs.Clash.{clash}
 use Rattle.expo.specs.Grid.{Ends}
 use Rattle.expo.specs.SumLaws.{sub-mul}
 use Rattle.exact.specs.declared.Figure.the-variants.{Printed, Open}
@@ -44,13 +45,13 @@ pub figure-printed : (step : ℕ) (ends : Ends) {n : ℕ} → figureOf step ends
 figure-printed step ends {n} e =
     elim (ℕ-discrete (halfUp step (ends .lower)) (halfUp step (ends .upper))) [
       | yes h ↦ let k = printed-when step ends h refl in (cc, cc)
-      | no h ↦ let k = open-when step ends h in let z : _≡_ {A = ℕ} 0 1 = cc in omega arith
+      | no h ↦ let k = open-when step ends h in clash cc
     ]
 
 -- a figure is open when its ends round to different steps, and only then
 pub figure-open : (step : ℕ) (ends : Ends)
     → (figureOf step ends ≡ Open) ↔ (halfUp step (ends .lower) ≡ halfUp step (ends .upper) → ⊥)
 figure-open step ends = (
-  λ e h. let k = printed-when step ends h refl in let z : _≡_ {A = ℕ} 0 1 = cc in omega arith,
+  λ e h. let k = printed-when step ends h refl in clash cc,
   open-when step ends,
 )

@@ -7,7 +7,7 @@ ghost use Rattle.params.specs.Limits.{inLimits};
 ghost use Rattle.weights.specs.Weights.{lastClosed};
 use kinds::Kind;
 use params::Params;
-use quote::Answer;
+use path_quotes::Answer;
 use weights::LAST_CLOSED;
 
 // An age or a year as a signed number. The largest stands for those above it, none of which is of the table.
@@ -96,7 +96,7 @@ pub extern "C" fn expectancies_of(
     if first_age > LAST_CLOSED as u64 {
         return 3;
     }
-    if params::in_limits(set) {
+    if limits::in_limits(set) {
         return put_expectancies(set, kind_of(kind), first_age, count, asked(year), out);
     }
     2

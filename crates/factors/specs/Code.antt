@@ -1,65 +1,14 @@
--- What the code's contracts say beside the definitions: the path that the code's struct stands for, and how far its factors
--- are worked.
+-- What the code's contracts say beside the definitions: the factors of a path.
 use mathlib.Core.Path.{_≡_}
-use mathlib.Core.Bool.{Bool, false, not}
-use mathlib.Core.List.{List}
-use Prim.Native.Nat.{ℕ, suc, _+_, _≤_, _<_}
 use lib.Dec.{T}
-use lib.IntN.{ℤ}
-use lib.ListN.{length, take}
+use lib.ListN.{take}
 use Rattle.expo.specs.Billionths.{billionths}
-use Rattle.expo.specs.declared.Ends as code
 use Rattle.params.specs.declared.Params.{Params}
-use Rattle.params.specs.Limits.{inLimits, lastYears}
-use Rattle.weights.specs.Weights.{firstClosed, lastClosed}
-use Rattle.mortality.specs.declared.Year.{Year}
-use Rattle.mortality.specs.Code.{YearOf, NextOf}
-use Rattle.folds.specs.Code.{listOf, mostFactors}
-use Rattle.paths.specs.Path.{Place, placeAt, pathOf, factors, pathInRange}
-use Rattle.factors.specs.declared.Path.{Path}
+use Rattle.folds.specs.Code.{listOf}
+use Rattle.paths.specs.Path.{factors, pathInRange}
+use Rattle.walks.specs.declared.Path.{Path}
+use Rattle.walks.specs.Code.{pathIs}
 use Rattle.factors.specs.declared.Factors.{Factors}
-use Rattle.factors.specs.declared.Walk.{Walk}
-
--- the cell at s, the first s cells, and the whole path
-abbrev pub placeOf : Path → ℕ → Place
-placeOf w s = placeAt (w .cohort) (w .age) (w .year) s
-
-abbrev pub pathTo : Path → ℕ → List Place
-pathTo w s = pathOf (w .cohort) (w .age) (w .year) s
-
-abbrev pub pathIs : Path → List Place
-pathIs w = pathTo w (w .count)
-
--- a set in its limits, and a path whose cells are the table's
-pub record PathWithin (p : Params) (w : Path) : Type 0 where
-  pub limits : T (inLimits p)
-  pub ages : w .age + w .count ≤ suc lastClosed
-  pub first : w .year ≤ lastYears
-  pub years : (s : ℕ) → s < w .count → placeOf w s .year ≤ lastYears
-
--- r is the year after y, or y itself
-pub record Advanced (a theta : ℤ) (y : Year) (on : Bool) (r : Year) : Type 0 where
-  pub next : T on → NextOf a theta y r
-  pub same : T (not on) → r ≡ y
-
--- the first s cells are in range, and their factors stand in the array
-pub record Worked (p : Params) (w : Path) (es : List code.Ends) (s : ℕ) : Type 0 where
-  pub some : s ≤ w .count
-  pub range : T (pathInRange p (pathTo w s))
-  pub ends : listOf (take s es) ≡ factors billionths p (pathTo w s)
-  pub size : length es ≡ mostFactors
-
--- y is a year of the set, and that of the cell at s where the path has one
-pub record YearAt (p : Params) (w : Path) (s : ℕ) (y : Year) : Type 0 where
-  pub year : YearOf p y
-  pub place : s < w .count → y .number ≡ placeOf w s .year
-
--- the ages to 90 are worked, or a cell is out of range
-pub record WalkOf (p : Params) (w : Path) (r : Walk) : Type 0 where
-  pub steep : T (not (r .ok)) → pathInRange p (pathIs w) ≡ false
-  pub worked : T (r .ok) → Worked p w (r .ends) (r .done)
-  pub next : T (r .ok) → YearAt p w (r .done) (r .year)
-  pub old : T (r .ok) → r .done < w .count → firstClosed ≤ w .age + r .done
 
 -- the factors of the path where every needed cell is in range, and whether they are
 pub record FactorsOf (p : Params) (w : Path) (r : Factors) : Type 0 where

@@ -1,107 +1,21 @@
 // The factors of a path on the grid of 10^-9: p's ends at each of its cells, into an array by value. The ages to 90 come
 // first, then those above, whose H are worked once a year. A cell that no factor needs is not worked.
-ghost use mathlib.Core.Path.{_≡_};
-ghost use mathlib.Core.Bool.{_&&_};
-ghost use Prim.Native.Nat.{_-_, _<_, min};
-ghost use lib.Dec.{T, ltb};
-ghost use Rattle.weights.specs.Weights.{firstClosed};
-ghost use Rattle.mortality.specs.Code.{YearWithin};
-ghost use Rattle.factors.specs.Code.{PathWithin, Advanced, WalkOf, FactorsOf};
+ghost use Prim.Native.Nat.{_<_};
+ghost use lib.Dec.{T};
+ghost use Rattle.walks.specs.Code.{PathWithin, WalkOf};
+ghost use Rattle.factors.specs.Code.{FactorsOf};
+use cells::Cell;
 use expo::Ends;
 use folds::MOST_FACTORS;
-use mortality::Cell;
-use mortality::Year;
 use params::Params;
+use walks::Path;
+use walks::Walk;
 use weights::FIRST_CLOSED;
-
-// A path over `count` years from an age in a year, counted from the start year: along the cohort, or in that one year.
-pub struct Path {
-    pub cohort: bool,
-    pub age: usize,
-    pub year: u64,
-    pub count: usize,
-}
 
 // The factors of a path, where every cell that they need is in range.
 pub struct Factors {
     pub ok: bool,
     pub ends: [Ends; MOST_FACTORS],
-}
-
-// The factors of a path's first `done` cells, where those are in range, and the year of the next.
-struct Walk {
-    ok: bool,
-    done: usize,
-    year: Year,
-    ends: [Ends; MOST_FACTORS],
-}
-
-// How many of `count` ages from an age on are to 90.
-fn young_count(age: usize, count: usize) -> usize
-    ensures { λ r. ⌜ r ≡ min (firstClosed - age) count ⌝ }
-{
-    if FIRST_CLOSED <= age {
-        return 0;
-    }
-    if count < FIRST_CLOSED - age {
-        return count;
-    }
-    FIRST_CLOSED - age
-}
-
-// Whether the next cell lies in the next year: along the cohort, where there is one.
-fn goes_on(cohort: bool, s: usize, count: usize) -> bool
-    ensures { λ r. ⌜ r ≡ (cohort && ltb s count) ⌝ }
-{
-    if !cohort {
-        return false;
-    }
-    s < count
-}
-
-// The year after, or the same.
-fn year_after(a: i64, theta: i64, y: Year, on: bool) -> Year
-    requires { ⌜ (T on → YearWithin a theta y) ⌝ }
-    ensures { λ r. ⌜ Advanced a theta y on r ⌝ }
-{
-    if on {
-        return mortality::next_year(a, theta, y);
-    }
-    y
-}
-
-// The factors at ages to 90.
-fn young_factors(p: Params, path: Path) -> Walk
-    requires { ⌜ PathWithin p path ⌝ }
-    ensures { λ r. ⌜ WalkOf p path r ⌝ }
-{
-    let cohort = path.cohort;
-    let age = path.age;
-    let count = path.count;
-    let young = young_count(age, count);
-    let mut year = mortality::year_at(p, path.year);
-    let mut ends = [Ends { lower: 0, upper: 0 }; MOST_FACTORS];
-    let mut done = 0;
-    while done < young {
-        let four = params::age_of_runs(&p.level, &p.slope, &p.alpha, &p.beta, age + done);
-        let Cell::Of(e) = mortality::young_cell(four, year) else {
-            return Walk {
-                ok: false,
-                done,
-                year,
-                ends,
-            };
-        };
-        ends[done] = e;
-        done += 1;
-        year = year_after(p.a, p.theta, year, goes_on(cohort, done, count));
-    }
-    Walk {
-        ok: true,
-        done,
-        year,
-        ends,
-    }
 }
 
 // The factors at ages above 90, after those to 90.
@@ -116,18 +30,18 @@ fn old_factors(p: Params, path: Path, walk: Walk) -> Factors
     let mut done = walk.done;
     let mut ends = walk.ends;
     let mut year = walk.year;
-    let mut fitted = mortality::fitted_in(p, year);
+    let mut fitted = fitted_ages::fitted_in(&p.level, &p.slope, &p.alpha, &p.beta, year);
     while done < count {
         let row = table[age + done - FIRST_CLOSED];
-        let Cell::Of(e) = mortality::old_cell(row, fitted) else {
+        let Cell::Of(e) = cells::old_cell(row, fitted) else {
             return Factors { ok: false, ends };
         };
         ends[done] = e;
         done += 1;
-        let on = goes_on(cohort, done, count);
-        year = year_after(p.a, p.theta, year, on);
+        let on = walks::goes_on(cohort, done, count);
+        year = walks::year_after(p.a, p.theta, year, on);
         if on {
-            fitted = mortality::fitted_in(p, year);
+            fitted = fitted_ages::fitted_in(&p.level, &p.slope, &p.alpha, &p.beta, year);
         }
     }
     Factors { ok: true, ends }
@@ -138,7 +52,7 @@ pub fn factors_of(p: Params, path: Path) -> Factors
     requires { ⌜ PathWithin p path ⌝ }
     ensures { λ r. ⌜ FactorsOf p path r ⌝ }
 {
-    let walk = young_factors(p, path);
+    let walk = walks::young_factors(p, path);
     let ends = walk.ends;
     if !walk.ok {
         return Factors { ok: false, ends };

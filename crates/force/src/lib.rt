@@ -19,7 +19,7 @@ pub fn force_to_90(m: SignedEnds) -> Ends
     requires { ⌜ Negated (endsOf m) logForceWidth ⌝ }
     ensures { λ r. ⌜ gridEnds r ≡ expBetween billionths (negated (endsOf m)) ⌝ }
 {
-    expo::exp_between(Ends {
+    exp_ends::exp_between(Ends {
         lower: (-m.upper) as u64,
         upper: (-m.lower) as u64,
     })
@@ -30,7 +30,7 @@ pub fn survival_to_90(m: SignedEnds) -> Ends
     requires { ⌜ Negated (endsOf m) logForceWidth ⌝ }
     ensures { λ r. ⌜ gridEnds r ≡ expBetween billionths (expBetween billionths (negated (endsOf m))) ⌝ }
 {
-    expo::exp_between(force_to_90(m))
+    exp_ends::exp_between(force_to_90(m))
 }
 
 // q = 1 − p, ends exchanged.

@@ -7,9 +7,9 @@ use expo::Ends;
 use expo::UNIT;
 
 // The number of terms.
-const TERMS: u64 = 28;
+pub const TERMS: u64 = 28;
 
-// Both ends in one loop, so that the processor works them side by side. The lower one: powers and quotients rounded down.
+// Both ends in one loop. The lower one: powers and quotients rounded down.
 // The upper one: powers and quotients rounded up, and twice the next power over its place.
 pub fn log_between(u: Ends) -> Ends
     requires { ⌜ (u .lower ≤ billionths .unit) × (u .upper ≤ billionths .unit) ⌝ }

@@ -20,9 +20,9 @@ fn exp_end(z: u64, upper: bool) -> u64
     ensures { λ r. ⌜ r ≡ cond upper (expUpper billionths z) (expLower billionths z) ⌝ }
 {
     if upper {
-        return expo::exp_upper(z);
+        return exp_ends::exp_upper(z);
     }
-    expo::exp_lower(z)
+    exp_ends::exp_lower(z)
 }
 
 // n / d, rounded up for an upper end and down for a lower one.

@@ -1,11 +1,8 @@
-// The parameter set of a sheet, its limits, and the refusals of the papers.
+// The parameter set of a sheet, the years of the table, and the refusals of the papers.
 ghost use mathlib.Core.Path.{_≡_};
 ghost use Prim.Native.Nat.{_<_};
-ghost use lib.IntN.{pos, natAbs};
-ghost use lib.Signed.{_≤ℤ_};
 ghost use Rattle.params.specs.Refusals.{refusalNumber};
-ghost use Rattle.params.specs.Set.{ages, ageOf, fourAt, blank};
-ghost use Rattle.params.specs.Limits.{within, ageInLimits, seriesInLimits, inLimits};
+ghost use Rattle.params.specs.Set.{ages, fourAt, blank};
 
 // A label only.
 pub enum Sex {
@@ -15,19 +12,6 @@ pub enum Sex {
 
 // Ages 0 to 90 have parameters.
 pub const AGES: usize = 91;
-
-// The largest sizes either side of zero.
-const LEVEL_LIMIT: i64 = 40_000_000_000;
-
-const SLOPE_LIMIT: i64 = 10_000_000;
-
-const A_LIMIT: i64 = 100_000_000;
-
-const THETA_LIMIT: i64 = 10_000_000_000;
-
-const PERIOD_LIMIT: i64 = 500_000_000_000;
-
-const KAPPA_LIMIT: i64 = 50_000_000_000;
 
 // The start year, and the years from it to the first year of a quote, to the last one of a survival or an expectancy, and
 // to the last one of q.
@@ -109,14 +93,6 @@ pub fn age_of_runs<'a>(
     }
 }
 
-// The four parameters of age x.
-pub fn age_at(p: Params, x: usize) -> Age
-    requires { ⌜ x < ages ⌝ }
-    ensures { λ r. ⌜ r ≡ ageOf p x ⌝ }
-{
-    age_of_runs(&p.level, &p.slope, &p.alpha, &p.beta, x)
-}
-
 // Sex M and every number 0.
 pub fn blank() -> Params
     ensures { λ r. ⌜ r ≡ blank ⌝ }
@@ -132,68 +108,4 @@ pub fn blank() -> Params
         alpha: [0; AGES],
         beta: [0; AGES],
     }
-}
-
-// v is at most the limit either side of zero.
-fn within(v: i64, limit: i64) -> bool
-    requires { ⌜ pos 0 ≤ℤ limit ⌝ }
-    ensures { λ r. ⌜ r ≡ within (natAbs limit) v ⌝ }
-{
-    if v < 0 {
-        return -limit <= v;
-    }
-    v <= limit
-}
-
-// The four parameters of an age are in limits.
-fn age_in_limits(a: Age) -> bool
-    ensures { λ r. ⌜ r ≡ ageInLimits a ⌝ }
-{
-    if !within(a.level, LEVEL_LIMIT) {
-        return false;
-    }
-    if !within(a.slope, SLOPE_LIMIT) {
-        return false;
-    }
-    if !within(a.alpha, LEVEL_LIMIT) {
-        return false;
-    }
-    within(a.beta, SLOPE_LIMIT)
-}
-
-// a, theta, K, K + 171·theta and k are in limits. The sum is formed where its terms are.
-fn series_in_limits(p: Params) -> bool
-    ensures { λ r. ⌜ r ≡ seriesInLimits p ⌝ }
-{
-    if !within(p.a, A_LIMIT) {
-        return false;
-    }
-    if !within(p.theta, THETA_LIMIT) {
-        return false;
-    }
-    if !within(p.period, PERIOD_LIMIT) {
-        return false;
-    }
-    if !within(p.period + LAST_YEARS * p.theta, PERIOD_LIMIT) {
-        return false;
-    }
-    within(p.kappa, KAPPA_LIMIT)
-}
-
-// The whole set is in limits, whatever its numbers.
-pub fn in_limits(p: Params) -> bool
-    ensures { λ r. ⌜ r ≡ inLimits p ⌝ }
-{
-    if !series_in_limits(p) {
-        return false;
-    }
-    let mut x: usize = 0;
-    while x < AGES {
-        let age = age_of_runs(&p.level, &p.slope, &p.alpha, &p.beta, x);
-        if !age_in_limits(age) {
-            return false;
-        }
-        x += 1;
-    }
-    true
 }

@@ -57,7 +57,7 @@ fn field_at(bytes: &[u8], at: usize, name: &[u8]) -> NumberRead
     if !tokens::text_at(bytes, at, name) {
         return NumberRead::Torn;
     }
-    tokens::number_at(bytes, at + name.len())
+    numbers::number_at(bytes, at + name.len())
 }
 
 // The query of a line.

@@ -14,8 +14,8 @@ use Rattle.exact.specs.Value.{AtLeast, AtMost, RoundsTo, OneStep, Narrows}
 use Rattle.exact.specs.Figure.{halfUp}
 use Rattle.kinds.specs.declared.Kind.{Kind}
 use Rattle.kinds.specs.Kinds.{ruleOf, stepOf, widthOf}
-use Rattle.quote.specs.declared.Answer.{Answer}
-use Rattle.quote.specs.declared.Answer.the-variants.{Quoted, Refused}
+use Rattle.path_quotes.specs.declared.Answer.{Answer}
+use Rattle.path_quotes.specs.declared.Answer.the-variants.{Quoted, Refused}
 use Rattle.quote.specs.Quote.{queryEnds, exactQuery, refusalOf, answerOf}
 
 -- ---- the number, the ends and the figure of an answer: "A refusal has its number, ends 0 and 0, no figure"

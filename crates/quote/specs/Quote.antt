@@ -1,44 +1,23 @@
 -- A quote of any set, kind, age, year and span (paper 01, "Figures on offer"): its refusal, and else its ends and figure.
-use mathlib.Core.Bool.{Bool, cond, _&&_}
 use mathlib.Core.List.{List, [], _∷_, _++_}
-use Prim.Native.Nat.{_+_, _-_}
-use lib.IntN.{ℤ, pos, natAbs, _+ℤ_}
-use lib.Signed.{leZ}
+use Prim.Native.Nat.{_-_}
+use lib.IntN.{ℤ, natAbs}
 use Rattle.expo.specs.Grid.{Ends}
 use Rattle.expo.specs.Billionths.{billionths}
 use Rattle.params.specs.declared.Params.{Params}
 use Rattle.params.specs.declared.Refusal.{Refusal}
 use Rattle.params.specs.declared.Refusal.the-variants.{Accepted, Torn, OffScale, NoSuchAge, NoSuchYear, NoSuchSpan, Steep, Short}
-use Rattle.params.specs.Limits.{inLimits, startYear, firstYears}
-use Rattle.weights.specs.Weights.{lastClosed}
+use Rattle.params.specs.Limits.{inLimits, startYear}
 use Rattle.exact.specs.Value.{Exact}
 use Rattle.exact.specs.Figure.{figureOf}
 use Rattle.paths.specs.Path.{Place, pathOf, pathInRange}
 use Rattle.paths.specs.Values.{gridValue, exactValue}
 use Rattle.kinds.specs.declared.Kind.{Kind}
-use Rattle.kinds.specs.declared.Rule.{Rule}
-use Rattle.kinds.specs.Kinds.{ruleOf, foldIs, mostSpan, countOf, stepOf}
-use Rattle.quote.specs.declared.Quote.{Quote}
-use Rattle.quote.specs.declared.Answer.{Answer}
-use Rattle.quote.specs.declared.Answer.the-variants.{Quoted, Refused}
-
--- z is at least low and at most high
-abbrev pub between : ℤ → ℤ → ℤ → Bool
-between low high z = leZ low z && leZ z high
-
--- ---- the table of refusals, 3 to 5
-
--- "no such age: age outside 0 to 120"
-unfoldable pub ageInTable : ℤ → Bool
-ageInTable age = between (pos 0) (pos lastClosed) age
-
--- "no such year: year outside the kind's range"
-unfoldable pub yearInTable : Rule → ℤ → Bool
-yearInTable rule year = between (pos (startYear + firstYears)) (pos startYear +ℤ rule .years) year
-
--- "no such span: span outside 0 to 121 − age; for `q` and expectancies, not 0"
-unfoldable pub spanInTable : Rule → ℤ → ℤ → Bool
-spanInTable rule age span = between (pos 0) (pos (mostSpan (rule .fold) (natAbs age))) span
+use Rattle.kinds.specs.Kinds.{ruleOf, foldIs, countOf, stepOf}
+use Rattle.table_tests.specs.TableTests.{firstFailed, tableTests}
+use Rattle.path_quotes.specs.declared.Quote.{Quote}
+use Rattle.path_quotes.specs.declared.Answer.{Answer}
+use Rattle.path_quotes.specs.declared.Answer.the-variants.{Quoted, Refused}
 
 -- ---- the path, the ends and the exact value, of an age, a year and a span in the table
 
@@ -56,24 +35,7 @@ exactQuery p kind age year span = exactValue (foldIs (ruleOf kind .fold)) p (que
 
 -- ---- the answer
 
--- a test, and the refusal where it fails
-pub record Test : Type 0 where
-  pub passed : Bool
-  pub refusal : Refusal
-
--- "The lowest number that applies is given, and none when none applies": the first test that fails, in the numbers' order
-unfoldable pub firstFailed : List Test → Refusal
-firstFailed [] = Accepted
-firstFailed (t ∷ ts) = cond (t .passed) (firstFailed ts) (t .refusal)
-
--- those of the table, 3 to 5
-unfoldable pub tableTests : Rule → ℤ → ℤ → ℤ → List Test
-tableTests rule age year span =
-    record { passed = ageInTable age; refusal = NoSuchAge } ∷
-    record { passed = yearInTable rule year; refusal = NoSuchYear } ∷
-    record { passed = spanInTable rule age span; refusal = NoSuchSpan } ∷ []
-
--- before them 2, and after them 6
+-- the tests of the table, 3 to 5, before them 2 and after them 6
 unfoldable pub refusalOf : Params → Kind → ℤ → ℤ → ℤ → Refusal
 refusalOf p kind age year span =
     firstFailed

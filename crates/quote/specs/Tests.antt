@@ -1,15 +1,12 @@
 -- What a query has that no test refuses: a set in its limits, an age, a year and a span of the table, and a path that is
 -- answered.
 use mathlib.Core.Path.{_≡_, refl}
-use mathlib.Core.Bool.{Bool, true, false, cond}
 use Prim.Native.Nat.{ℕ, suc, _+_, _-_, _≤_, _<_}
 use native.Mathlib.Omega.{arith}
-use lib.Dec.{T, leb→le}
-use lib.IntN.{ℤ, pos, negsuc, natAbs}
-use lib.Signed.{leZ}
-use mir.Facts.{and-yes}
+use lib.Dec.{T}
+use lib.IntN.{ℤ, pos, natAbs}
+use Rattle.whole.specs.Clash.{clash}
 use Rattle.params.specs.declared.Params.{Params}
-use Rattle.params.specs.declared.Refusal.{Refusal}
 use Rattle.params.specs.declared.Refusal.the-variants.{Accepted}
 use Rattle.params.specs.Limits.{inLimits, startYear, lastYears}
 use Rattle.weights.specs.Weights.{lastClosed}
@@ -17,30 +14,10 @@ use Rattle.paths.specs.Path.{placeAt, pathInRange}
 use Rattle.paths.specs.Answers.{AnsweredPath, path-years, path-answered}
 use Rattle.kinds.specs.declared.Kind.{Kind}
 use Rattle.kinds.specs.declared.Kind.the-variants as kind
-use Rattle.kinds.specs.declared.Rule.{Rule}
 use Rattle.kinds.specs.Kinds.{ruleOf, mostSpan, countOf}
-use Rattle.quote.specs.Quote.{between, ageInTable, yearInTable, spanInTable, queryPath, firstFailed, tableTests, refusalOf}
-
--- ---- the tests
-
--- where the first failed is none, the first passed, and so did the others
-passed : (b : Bool) {r s : Refusal} → (r ≡ Accepted → ⊥) → cond b s r ≡ Accepted → T b × (s ≡ Accepted)
-passed true n e = (tt, e)
-passed false n e = absurd (n e)
-
-pub record InTable (rule : Rule) (age year span : ℤ) : Type 0 where
-  pub age-in : T (ageInTable age)
-  pub year-in : T (yearInTable rule year)
-  pub span-in : T (spanInTable rule age span)
-
-pub in-table : (rule : Rule) (age year span : ℤ) → firstFailed (tableTests rule age year span) ≡ Accepted
-    → InTable rule age year span
-unfolding firstFailed tableTests
-in-table rule age year span e =
-    let a = passed (ageInTable age) (λ q. let z : _≡_ {A = ℕ} 0 1 = cc in omega arith) e in
-    let y = passed (yearInTable rule year) (λ q. let z : _≡_ {A = ℕ} 0 1 = cc in omega arith) (a .1) in
-    let s = passed (spanInTable rule age span) (λ q. let z : _≡_ {A = ℕ} 0 1 = cc in omega arith) (y .1) in
-    record { age-in = a .0; year-in = y .0; span-in = s .0 }
+use Rattle.table_tests.specs.TableTests.{ageInTable, yearInTable, spanInTable, firstFailed, tableTests}
+use Rattle.table_tests.specs.TableLaws.{passed, InTable, within}
+use Rattle.quote.specs.Quote.{queryPath, refusalOf}
 
 pub record Passed (p : Params) (k : Kind) (age year span : ℤ) : Type 0 where
   pub limits : T (inLimits p)
@@ -50,21 +27,14 @@ pub record Passed (p : Params) (k : Kind) (age year span : ℤ) : Type 0 where
 pub all-passed : (p : Params) (k : Kind) (age year span : ℤ) → refusalOf p k age year span ≡ Accepted → Passed p k age year span
 unfolding refusalOf firstFailed tableTests
 all-passed p k age year span e =
-    let l = passed (inLimits p) (λ q. let z : _≡_ {A = ℕ} 0 1 = cc in omega arith) e in
-    let a = passed (ageInTable age) (λ q. let z : _≡_ {A = ℕ} 0 1 = cc in omega arith) (l .1) in
-    let y = passed (yearInTable (ruleOf k) year) (λ q. let z : _≡_ {A = ℕ} 0 1 = cc in omega arith) (a .1) in
-    let s = passed (spanInTable (ruleOf k) age span) (λ q. let z : _≡_ {A = ℕ} 0 1 = cc in omega arith) (y .1) in
-    let r = passed (pathInRange p (queryPath k age year span)) (λ q. let z : _≡_ {A = ℕ} 0 1 = cc in omega arith) (s .1) in
+    let l = passed (inLimits p) (λ q. clash cc) e in
+    let a = passed (ageInTable age) (λ q. clash cc) (l .1) in
+    let y = passed (yearInTable (ruleOf k) year) (λ q. clash cc) (a .1) in
+    let s = passed (spanInTable (ruleOf k) age span) (λ q. clash cc) (y .1) in
+    let r = passed (pathInRange p (queryPath k age year span)) (λ q. clash cc) (s .1) in
     record { limits = l .0; table = record { age-in = a .0; year-in = y .0; span-in = s .0 }; range = r .0 }
 
 -- ---- the numbers of a query in the table
-
--- a number between two that are at least 0
-pub within : (a b : ℕ) (z : ℤ) → T (between (pos a) (pos b) z) → (pos (natAbs z) ≡ z) × (a ≤ natAbs z) × (natAbs z ≤ b)
-within a b (pos n) t =
-    let k = and-yes (leZ (pos a) (pos n)) (leZ (pos n) (pos b)) t in
-    (refl, leb→le a n (k .0), leb→le n b (k .1))
-within a b (negsuc n) t = absurd (and-yes (leZ (pos a) (negsuc n)) (leZ (negsuc n) (pos b)) t .0)
 
 -- a kind's last year, and how long its path may be
 pub record KindWithin (k : Kind) : Type 0 where

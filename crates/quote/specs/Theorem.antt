@@ -6,6 +6,7 @@ use Prim.Native.Nat.{ℕ, suc, _+_, _-_, _≤_, _<_}
 use native.Mathlib.Omega.{arith}
 use lib.Dec.{lit<}
 use lib.IntN.{ℤ, natAbs}
+use Rattle.whole.specs.Clash.{clash}
 use Rattle.expo.specs.Billionths.{billionths}
 use Rattle.expo.specs.BillionthsFacts.{billionths-sound}
 use Rattle.params.specs.declared.Params.{Params}
@@ -31,9 +32,9 @@ use Rattle.kinds.specs.declared.Kind.{Kind}
 use Rattle.kinds.specs.declared.Fold.{Fold}
 use Rattle.kinds.specs.declared.Fold.the-variants.{Death, Survival, Expectancy}
 use Rattle.kinds.specs.Kinds.{ruleOf, foldIs, countOf, stepOf, widthOf}
-use Rattle.quote.specs.declared.Quote.{Quote}
-use Rattle.quote.specs.declared.Answer.{Answer}
-use Rattle.quote.specs.declared.Answer.the-variants.{Quoted, Refused}
+use Rattle.path_quotes.specs.declared.Quote.{Quote}
+use Rattle.path_quotes.specs.declared.Answer.{Answer}
+use Rattle.path_quotes.specs.declared.Answer.the-variants.{Quoted, Refused}
 use Rattle.quote.specs.Quote.{queryPath, queryEnds, exactQuery, refusalOf, quoteOf, answerBy, answerOf}
 use Rattle.quote.specs.Demand.{printed, markedOpen, noFigure, shownOf, numberOf, lowerOf, upperOf, figureShown, step, RoundsAt, Kept, Demand3}
 use Rattle.quote.specs.Tests.{Passed, all-passed, counted, path-ages, query-answered}
@@ -72,7 +73,7 @@ no-number Short q e = absurd (omega arith)
 
 -- and so is one with a figure
 no-refusal : {n : ℕ} → noFigure ≡ printed n → ⊥
-no-refusal e = let z : _≡_ {A = ℕ} 0 1 = cc in omega arith
+no-refusal e = clash cc
 
 printed-quote : (r : Refusal) (q : Quote) {n : ℕ} → figureShown (answerBy r q) ≡ printed n → (r ≡ Accepted) × (shownOf (q .figure) ≡ printed n)
 unfolding answerBy figureShown
@@ -88,11 +89,11 @@ printed-quote Short q e = absurd (no-refusal e)
 printed-figure : (f : Figure) {n : ℕ} → shownOf f ≡ printed n → f ≡ Printed n
 unfolding shownOf
 printed-figure (Printed m) {n} e = let k : m ≡ n = cc in ap Printed k
-printed-figure Open e = let z : _≡_ {A = ℕ} 0 1 = cc in absurd (omega arith)
+printed-figure Open e = clash cc
 
 open-figure : (f : Figure) → (shownOf f ≡ markedOpen) ↔ (f ≡ Open)
 unfolding shownOf
-open-figure (Printed m) = (λ e. let z : _≡_ {A = ℕ} 0 1 = cc in absurd (omega arith), λ e. let z : _≡_ {A = ℕ} 0 1 = cc in absurd (omega arith))
+open-figure (Printed m) = (λ e. clash cc, λ e. clash cc)
 open-figure Open = (λ e. refl, λ e. refl)
 
 step-positive : (f : Fold) → 0 < stepOf f

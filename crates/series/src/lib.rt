@@ -15,9 +15,9 @@ use params::Age;
 const RATE_UNIT: i64 = 100_000_000;
 
 // A needed cell's least lower end and greatest upper end.
-const LOWEST_FORCE: i64 = -30_000_000_000;
+pub const LOWEST_FORCE: i64 = -30_000_000_000;
 
-const HIGHEST_FORCE: i64 = -700_000_000;
+pub const HIGHEST_FORCE: i64 = -700_000_000;
 
 // K in year n, counted from the start year, of K in that year and theta.
 pub fn period_index(start: i64, theta: i64, n: u64) -> i64

@@ -13,6 +13,7 @@ use lib.Ieee.Bits.{is-true, is-false}
 use lib.Ieee.Fits.{and-i, and-l}
 use lib.IntN.{ℤ, pos, negsuc, natAbs}
 use lib.ListN.{length}
+use Rattle.whole.specs.Clash.{clash}
 use Rattle.tokens.specs.Text.{Parse, torn, taken}
 use Rattle.tokens.specs.Number.{zeroDigit, minusSign, isDigit, digits, afterDigits, valueFrom, value}
 use Rattle.tokens.specs.Number.{noLeadingZero, wellFormed, readUnsigned, negated, positive, readNumber}
@@ -166,7 +167,7 @@ value-decimal m (d ∷ e ∷ ds) a t h =
 -- ---- a number without its sign
 
 pub torn-not-taken : {A X : Type 0} {a : A} {rest : List ℕ} → torn ≡ taken a rest → X
-torn-not-taken e = let z : _≡_ {A = ℕ} 0 1 = cc in absurd (omega arith)
+torn-not-taken e = clash cc
 
 unsigned-reads : (n : ℕ) (rest : List ℕ) → n < 10 ^ 15 → T (noDigitFirst rest)
     → readUnsigned (unsignedText n ++ rest) ≡ taken n rest

@@ -29,7 +29,7 @@ fn line_at(bytes: &[u8], at: usize, name: &[u8], age: &[u8]) -> NumberRead
     if !tokens::text_at(bytes, after_key, b"=") {
         return NumberRead::Torn;
     }
-    let NumberRead::Number(v, after_number) = tokens::number_at(bytes, after_key + 1) else {
+    let NumberRead::Number(v, after_number) = numbers::number_at(bytes, after_key + 1) else {
         return NumberRead::Torn;
     };
     if !tokens::text_at(bytes, after_number, b"\n") {

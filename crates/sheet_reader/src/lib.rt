@@ -58,7 +58,7 @@ fn judged_set(bytes: &[u8], sex: Sex) -> Reading
     let got = sheet_set::set_at(bytes, sex);
     let set = got.set;
     let whole = ends(got.ok, got.next, bytes.len());
-    let refusal = refusal_of(whole, params::in_limits(set));
+    let refusal = refusal_of(whole, limits::in_limits(set));
     if params::refusal_number(refusal) != 0 {
         let nothing = params::blank();
         return Reading {

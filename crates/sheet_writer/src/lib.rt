@@ -42,7 +42,7 @@ fn put_sheet(buffer: &mut [u8], p: Params) -> usize
 pub fn write(p: Params, buffer: &mut [u8]) -> Written
     ensures { λ r. ⌜ (r ≡ writeAnswer p (length (now (buffer .entry)))) × (now (buffer .exit) ≡ writtenBuffer p (now (buffer .entry))) ⌝ }
 {
-    if !params::in_limits(p) {
+    if !limits::in_limits(p) {
         return Written {
             refusal: Refusal::OffScale,
             len: 0,

@@ -12,6 +12,7 @@ use lib.Seq.{take-all, getD-drop, drop-cons}
 use mir.Syntax.{w64}
 use mir.Val.{SFits, toZ, ofZ}
 use mir.Facts.{toZ-ofZ, toZ-pos}
+use Rattle.whole.specs.Clash.{clash}
 use Rattle.tokens.specs.declared.Digits.{Digits}
 use Rattle.tokens.specs.declared.UnsignedRead.{UnsignedRead}
 use Rattle.tokens.specs.declared.UnsignedRead.the-variants.{Torn as NoUnsigned, Unsigned}
@@ -120,7 +121,7 @@ unsigned-small bytes at {v} {next} e w = go (readUnsigned (drop at bytes)) refl 
   where
     go : (p : Parse ℕ) → readUnsigned (drop at bytes) ≡ p → placedUnsigned (length bytes) p ≡ Unsigned v next
         → v < 10 ^ mostDigits
-    go torn q u = let z : _≡_ {A = ℕ} 0 1 = cc in absurd (omega arith)
+    go torn q u = clash cc
     go (taken w rest) q u = let ev : w ≡ v = cc in omega (arith, unsigned-taken (drop at bytes) q .small)
 
 -- v and −v fit, and are read back from their bits

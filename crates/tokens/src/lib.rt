@@ -1,7 +1,7 @@
-// Reading the texts and numbers of which a sheet and a query line are made.
+// Reading the texts, and the numbers without their sign, of which a sheet and a query line are made.
 ghost use mathlib.Core.Path.{_≡_};
 ghost use Prim.Native.Nat.{_-_};
-ghost use Rattle.tokens.specs.Places.{textAt, numberAt};
+ghost use Rattle.tokens.specs.Places.{textAt};
 ghost use Rattle.tokens.specs.Unsigned.{DigitsRead, unsignedAt};
 
 // A number that was read, with the place after it.
@@ -11,7 +11,7 @@ pub enum NumberRead {
 }
 
 // A number without its sign that was read, with the place after it.
-enum UnsignedRead {
+pub enum UnsignedRead {
     Torn,
     Unsigned(u64, usize),
 }
@@ -71,7 +71,7 @@ fn digits_at(bytes: &[u8], at: usize) -> Digits
 }
 
 // The number without a sign at a place.
-fn unsigned_at(bytes: &[u8], at: usize) -> UnsignedRead
+pub fn unsigned_at(bytes: &[u8], at: usize) -> UnsignedRead
     ensures { λ r. ⌜ r ≡ unsignedAt (now (bytes .entry)) at ⌝ }
 {
     let run = digits_at(bytes, at);
@@ -82,29 +82,4 @@ fn unsigned_at(bytes: &[u8], at: usize) -> UnsignedRead
         return UnsignedRead::Torn;
     }
     UnsignedRead::Unsigned(run.value, at + run.count)
-}
-
-// The number at a place.
-pub fn number_at(bytes: &[u8], at: usize) -> NumberRead
-    ensures { λ r. ⌜ r ≡ numberAt (now (bytes .entry)) at ⌝ }
-{
-    if bytes.len() <= at {
-        return NumberRead::Torn;
-    }
-    if bytes[at] == b'-' {
-        return match unsigned_at(bytes, at + 1) {
-            UnsignedRead::Torn => NumberRead::Torn,
-            UnsignedRead::Unsigned(value, next) => {
-                if value == 0 {
-                    NumberRead::Torn
-                } else {
-                    NumberRead::Number(-(value as i64), next)
-                }
-            }
-        };
-    }
-    match unsigned_at(bytes, at) {
-        UnsignedRead::Torn => NumberRead::Torn,
-        UnsignedRead::Unsigned(value, next) => NumberRead::Number(value as i64, next),
-    }
 }

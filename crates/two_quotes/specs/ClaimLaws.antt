@@ -1,12 +1,12 @@
 -- The three answers, from what `quote_of` ensures of two answers to queries of one kind.
-use mathlib.Core.Path.{_≡_, refl, ap, sym, _∙_}
+use mathlib.Core.Path.{_≡_, ap, sym, _∙_}
 use mathlib.Core.Logic.{_↔_}
 use Prim.Native.Nat.{ℕ}
-use native.Mathlib.Omega.{arith}
 use lib.IntN.{ℤ}
+use Rattle.whole.specs.Clash.{clash}
 use Rattle.params.specs.declared.Params.{Params}
 use Rattle.kinds.specs.declared.Kind.{Kind}
-use Rattle.quote.specs.declared.Answer.{Answer}
+use Rattle.path_quotes.specs.declared.Answer.{Answer}
 use Rattle.quote.specs.Quote.{answerOf}
 use Rattle.quote.specs.Demand.{Shown, printed, markedOpen, noFigure, figureShown, Demand3}
 use Rattle.two_quotes.specs.declared.Same.the-variants.{NotPrinted, Equal, Different}
@@ -18,14 +18,14 @@ use Rattle.two_quotes.specs.Claim.{stepsShown, OneStepOf, Settled}
 shown-at : (s : Shown) {n : ℕ} → stepsShown s ≡ At n → s ≡ printed n
 unfolding stepsShown
 shown-at (printed m) e = cc
-shown-at markedOpen e = absurd (let z : _≡_ {A = ℕ} 0 1 = cc in omega arith)
-shown-at noFigure e = absurd (let z : _≡_ {A = ℕ} 0 1 = cc in omega arith)
+shown-at markedOpen e = clash cc
+shown-at noFigure e = clash cc
 
 shown-none : (s : Shown) {n : ℕ} → stepsShown s ≡ None → s ≡ printed n → ⊥
 unfolding stepsShown
-shown-none (printed m) e q = let z : _≡_ {A = ℕ} 0 1 = cc in omega arith
-shown-none markedOpen e q = let z : _≡_ {A = ℕ} 0 1 = cc in omega arith
-shown-none noFigure e q = let z : _≡_ {A = ℕ} 0 1 = cc in omega arith
+shown-none (printed m) e q = clash cc
+shown-none markedOpen e q = clash cc
+shown-none noFigure e q = clash cc
 
 -- ---- two answers
 
@@ -39,16 +39,16 @@ module _ {kind : Kind} {p : Params} {age year span : ℤ} {a : Answer} (h : Prom
   pub first-not-printed : stepsShown (figureShown a) ≡ None → Settled kind p age year span p′ age′ year′ span′ NotPrinted
   first-not-printed e =
       record {
-        equal = λ q. absurd (let z : _≡_ {A = ℕ} 0 1 = cc in omega arith);
-        different = λ q. absurd (let z : _≡_ {A = ℕ} 0 1 = cc in omega arith);
+        equal = λ q. clash cc;
+        different = λ q. clash cc;
         not-printed = λ q n n′ f f′. shown-none (figureShown a) e (ap figureShown (h .0) ∙ f);
       }
 
   pub second-not-printed : stepsShown (figureShown a′) ≡ None → Settled kind p age year span p′ age′ year′ span′ NotPrinted
   second-not-printed e =
       record {
-        equal = λ q. absurd (let z : _≡_ {A = ℕ} 0 1 = cc in omega arith);
-        different = λ q. absurd (let z : _≡_ {A = ℕ} 0 1 = cc in omega arith);
+        equal = λ q. clash cc;
+        different = λ q. clash cc;
         not-printed = λ q n n′ f f′. shown-none (figureShown a′) e (ap figureShown (h′ .0) ∙ f′);
       }
 
@@ -64,15 +64,15 @@ module _ {kind : Kind} {p : Params} {age year span : ℤ} {a : Answer} (h : Prom
   equal-printed e e′ s =
       record {
         equal = λ q. same e e′ .0 s;
-        different = λ q. absurd (let z : _≡_ {A = ℕ} 0 1 = cc in omega arith);
-        not-printed = λ q. absurd (let z : _≡_ {A = ℕ} 0 1 = cc in omega arith);
+        different = λ q. clash cc;
+        not-printed = λ q. clash cc;
       }
 
   pub different-printed : {n n′ : ℕ} → stepsShown (figureShown a) ≡ At n → stepsShown (figureShown a′) ≡ At n′ → (n ≡ n′ → ⊥)
       → Settled kind p age year span p′ age′ year′ span′ Different
   different-printed e e′ d =
       record {
-        equal = λ q. absurd (let z : _≡_ {A = ℕ} 0 1 = cc in omega arith);
+        equal = λ q. clash cc;
         different = λ q o. d (same e e′ .1 o);
-        not-printed = λ q. absurd (let z : _≡_ {A = ℕ} 0 1 = cc in omega arith);
+        not-printed = λ q. clash cc;
       }

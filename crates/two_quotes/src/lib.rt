@@ -6,7 +6,7 @@ ghost use Rattle.two_quotes.specs.Claim.{stepsShown, Settled};
 use exact::Figure;
 use kinds::Kind;
 use params::Params;
-use quote::Answer;
+use path_quotes::Answer;
 
 // Two figures compared, where both are printed.
 pub enum Same {

@@ -11,3 +11,4 @@ pub mod Order
 pub mod DivisionLaws
 pub mod Bound
 pub mod Table
+pub mod Clash

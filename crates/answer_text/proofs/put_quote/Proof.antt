@@ -7,7 +7,7 @@ use Prim.Native.Nat.{ℕ}
 use borrow.Author.Tests.{not-true, not-false}
 use Rattle.printing.specs.Put.{Room, Put}
 use Rattle.printing.specs.PutLaws.{put-as, room-as, room-first, room-rest, put-join}
-use Rattle.quote.specs.declared.Quote.{Quote}
+use Rattle.path_quotes.specs.declared.Quote.{Quote}
 use Rattle.answer_text.specs.AnswerText.{endsText, shownText, quoteText}
 use Rattle.answer_text.proofs.put_quote.Statement.{statement}
 use Rattle.answer_text.proofs.put_quote.Tie as tie

@@ -2,7 +2,7 @@
 use native.Mathlib.Omega.{arith}
 use lib.ListN.{length-set}
 use borrow.Author.Needs.{needs}
-use Rattle.mortality.specs.Answers.{chance-ends}
+use Rattle.cells.specs.Answers.{chance-ends}
 use Rattle.column_face.proofs.put_cell.Statement.{statement}
 use Rattle.column_face.proofs.put_cell.Tie as tie
 

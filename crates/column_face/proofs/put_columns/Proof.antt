@@ -3,14 +3,15 @@ use mathlib.Core.Path.{_≡_}
 use Prim.Native.Nat.{_≤_, _-_}
 use lib.ListN.{length}
 use borrow.Author.Needs.{needs}
+use Rattle.fitted_ages.specs.Code.{lent}
 use Rattle.column_face.proofs.put_columns.Statement.{statement}
 use Rattle.column_face.proofs.put_columns.Tie as tie
 
 abbrev Inv-loop : tie.InvT-loop
-Inv-loop p first count out₀ i₀ out i = (i ≤ count) × (length out ≡ length out₀)
+Inv-loop first count out₀ p i₀ out i = (i ≤ count) × (length out ≡ length out₀)
 
 abbrev μ-loop : tie.MeasureT-loop
-μ-loop p first count out₀ i₀ out i = count - i
+μ-loop first count out₀ p i₀ out i = count - i
 
 loop-holds : tie.Need-loop-holds Inv-loop μ-loop
 loop-holds c = search needs
@@ -28,7 +29,10 @@ fitted-in-requires : tie.Need-fitted-in-requires Inv-loop μ-loop
 fitted-in-requires c κs = search needs
 
 put-old-requires : tie.Need-put-old-requires Inv-loop μ-loop
-put-old-requires c κs = search needs
+put-old-requires c κs =
+    let y = c .before .before .before .before .before .before .before .before .before .before .before in
+    let f = c .before .fitted-in .ensures (lent (y .year-at .ensures .1)) in
+    search needs
 
 add-i : tie.Need-add-i Inv-loop μ-loop
 add-i c = search needs

@@ -8,7 +8,7 @@ use lib.ListN.{length, getD}
 use Rattle.weights.specs.Weights.{firstClosed, lastClosed, weightRow}
 use Rattle.weights.specs.WeightLaws.{table-row}
 use Rattle.closure.specs.Rows.{row-within}
-use Rattle.mortality.specs.Answers.{old-chance}
+use Rattle.cells.specs.Answers.{old-chance}
 use Rattle.column_face.proofs.put_old.Statement.{statement}
 use Rattle.column_face.proofs.put_old.Tie as tie
 

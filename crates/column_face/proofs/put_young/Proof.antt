@@ -5,8 +5,8 @@ use borrow.Author.Needs.{needs}
 use lib.ListN.{length}
 use Rattle.params.specs.Set.{ageOf, four-age}
 use Rattle.weights.specs.Weights.{firstClosed}
-use Rattle.mortality.specs.Years.{cell-within}
-use Rattle.mortality.specs.Answers.{young-chance}
+use Rattle.years.specs.YearLaws.{cell-within}
+use Rattle.cells.specs.Answers.{young-chance}
 use Rattle.column_face.proofs.put_young.Statement.{statement}
 use Rattle.column_face.proofs.put_young.Tie as tie
 

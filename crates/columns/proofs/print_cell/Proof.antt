@@ -1,6 +1,6 @@
 -- `print_cell` is safe: p is at most 1.
 use borrow.Author.Needs.{needs}
-use Rattle.mortality.specs.Answers.{chance-ends}
+use Rattle.cells.specs.Answers.{chance-ends}
 use Rattle.columns.proofs.print_cell.Statement.{statement}
 use Rattle.columns.proofs.print_cell.Tie as tie
 

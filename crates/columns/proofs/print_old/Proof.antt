@@ -8,7 +8,7 @@ use lib.ListN.{getD}
 use Rattle.weights.specs.Weights.{firstClosed, lastClosed, weightRow}
 use Rattle.weights.specs.WeightLaws.{table-row}
 use Rattle.closure.specs.Rows.{row-within}
-use Rattle.mortality.specs.Answers.{old-chance}
+use Rattle.cells.specs.Answers.{old-chance}
 use Rattle.columns.proofs.print_old.Statement.{statement}
 use Rattle.columns.proofs.print_old.Tie as tie
 

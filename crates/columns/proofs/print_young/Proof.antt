@@ -5,8 +5,8 @@ use Prim.Native.Nat.{_≤_, _-_}
 use borrow.Author.Needs.{needs}
 use Rattle.params.specs.Set.{ageOf, four-age}
 use Rattle.weights.specs.Weights.{firstClosed}
-use Rattle.mortality.specs.Years.{cell-within}
-use Rattle.mortality.specs.Answers.{young-chance}
+use Rattle.years.specs.YearLaws.{cell-within}
+use Rattle.cells.specs.Answers.{young-chance}
 use Rattle.columns.proofs.print_young.Statement.{statement}
 use Rattle.columns.proofs.print_young.Tie as tie
 

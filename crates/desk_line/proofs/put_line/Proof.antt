@@ -10,7 +10,7 @@ use Rattle.printing.specs.Put.{Room}
 use Rattle.printing.specs.PutLaws.{put-as, room-as}
 use Rattle.params.specs.declared.Refusal.the-variants.{Torn}
 use Rattle.kinds.specs.Kinds.{ruleOf, decimalsOf}
-use Rattle.quote.specs.declared.Answer.{Answer}
+use Rattle.path_quotes.specs.declared.Answer.{Answer}
 use Rattle.query.specs.declared.Query.{Query}
 use Rattle.query.specs.Query.{readQuery, queryText}
 use Rattle.query.specs.Code.{queryRead}

@@ -3,7 +3,7 @@ use mathlib.Core.Path.{_≡_}
 use mathlib.Core.Bool.{true, false}
 use native.Mathlib.Omega.{arith}
 use borrow.Author.Tests.{not-true, not-false}
-use Rattle.factors.proofs.Steps.{worked-all, out-all}
+use Rattle.factors.proofs.All.{worked-all, out-all}
 use Rattle.factors.proofs.factors_of.Statement.{statement}
 use Rattle.factors.proofs.factors_of.Tie as tie
 

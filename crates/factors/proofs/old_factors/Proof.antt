@@ -15,14 +15,17 @@ use Rattle.weights.specs.Weights.{firstClosed, lastClosed, weightRow}
 use Rattle.weights.specs.WeightLaws.{table-row}
 use Rattle.closure.specs.Rows.{row-within}
 use Rattle.folds.specs.Code.{mostFactors}
-use Rattle.mortality.specs.declared.Year.{Year}
-use Rattle.mortality.specs.declared.Fitted.{Fitted}
-use Rattle.mortality.specs.Code.{FittedOf, cellOf}
-use Rattle.mortality.specs.Answers.{old-cell}
+use Rattle.years.specs.declared.Year.{Year}
+use Rattle.fitted_ages.specs.declared.Fitted.{Fitted}
+use Rattle.years.specs.Code.{YearOf}
+use Rattle.fitted_ages.specs.Code.{FittedOf, lent}
+use Rattle.cells.specs.Code.{cellOf}
+use Rattle.cells.specs.Answers.{old-cell}
 use Rattle.paths.specs.Path.{placeAt}
-use Rattle.factors.specs.declared.Path.{Path}
-use Rattle.factors.specs.Code.{PathWithin, Worked, YearAt}
-use Rattle.factors.proofs.Steps.{along, cellAt, worked-more, worked-out, worked-all, out-all, year-may, year-step}
+use Rattle.walks.specs.declared.Path.{Path}
+use Rattle.walks.specs.Code.{PathWithin, Worked, YearAt}
+use Rattle.walks.proofs.Steps.{along, cellAt, worked-more, worked-out, year-may, year-step}
+use Rattle.factors.proofs.All.{worked-all, out-all}
 use Rattle.factors.proofs.old_factors.Statement.{statement}
 use Rattle.factors.proofs.old_factors.Tie as tie
 
@@ -41,13 +44,16 @@ Inv-loop p cohort age count table done₀ ends₀ year₀ fitted₀ done ends ye
 abbrev μ-loop : tie.MeasureT-loop
 μ-loop p cohort age count table done₀ ends₀ year₀ fitted₀ done ends year fitted = count - done
 
--- the function's start
+-- the table of weights, and the function's start
+abbrev tabled : tie.At-loop Inv-loop μ-loop → tie.After-table Inv-loop μ-loop
+tabled l = l .before .before .before .before .before .before .before .before .before
+
 abbrev begun : tie.At-loop Inv-loop μ-loop → tie.Start Inv-loop μ-loop
-begun l = l .before .before .before .before .before
+begun l = tabled l .before
 
 -- the cells so far and the year of the next, of the function's own path
 so-far : (l : tie.At-loop Inv-loop μ-loop) → let s = begun l in
-    Worked (s .args .p) (s .args .path) (l .loop .ends) (l .loop .done) × YearAt (s .args .p) (s .args .path) (l .loop .done) (l .loop .year)
+    Worked (s .args .t1) (s .args .path) (l .loop .ends) (l .loop .done) × YearAt (s .args .t1) (s .args .path) (l .loop .done) (l .loop .year)
 so-far l =
     let s = begun l in
     l .loop .inv .so-far (s .args .path .year) (s .pre .0) (s .pre .1 .worked (s .pre .2)) (s .pre .1 .next (s .pre .2))
@@ -63,11 +69,11 @@ closed t =
     (l .loop .inv .above, omega (arith, begun l .pre .0 .ages, t .loop-test .taken))
 
 row-is : (t : tie.In-loop Inv-loop μ-loop) → let l = t .before in let x = begun l .args .path .age + l .loop .done in
-    getD (l .before .before .before .before .table .result) (x - firstClosed) [] ≡ weightRow x
+    getD (tabled l .table .result) (x - firstClosed) [] ≡ weightRow x
 row-is t =
     let l = t .before in
     ap (λ (rows : List (List ℤ)). getD rows (begun l .args .path .age + l .loop .done - firstClosed) [])
-    (l .before .before .before .before .table .ensures)
+    (tabled l .table .ensures)
     ∙ table-row (closed t .0) (closed t .1)
 
 -- the path, had it begun in year n
@@ -76,30 +82,30 @@ from l n = let w = begun l .args .path in along (w .cohort) (w .age) n (w .count
 
 -- so the cell is the path's
 cell-read : (c : tie.After-old-cell Inv-loop μ-loop) (n : ℕ) → let l = c .before .before .before in let s = begun l in
-    YearAt (s .args .p) (from l n) (l .loop .done) (l .loop .year)
-    → cellAt (s .args .p) (from l n) (l .loop .done) ≡ c .old-cell .result
+    YearAt (s .args .t1) (from l n) (l .loop .done) (l .loop .year)
+    → cellAt (s .args .t1) (from l n) (l .loop .done) ≡ c .old-cell .result
 unfolding placeAt
 cell-read c n y =
     let t = c .before .before in
     let l = t .before in
     let s = begun l in
     let x = s .args .path .age + l .loop .done in
-    ap (cellOf (s .args .p) x) (sym (y .place (t .loop-test .taken)))
+    ap (cellOf (s .args .t1) x) (sym (y .place (t .loop-test .taken)))
     ∙ sym (rw (row-is t) at (c .old-cell .ensures) ∙ old-cell (l .loop .inv .heights) (closed t .0))
 
 table-requires : tie.Need-table-requires Inv-loop μ-loop
 table-requires c κs = search needs
 
 fitted-in-requires : tie.Need-fitted-in-requires Inv-loop μ-loop
-fitted-in-requires c κs = let s = c .before .before .before in s .pre .1 .next (s .pre .2) .year
+fitted-in-requires c κs = let s = c .before .before .before .before .before .before .before .before in lent (s .pre .1 .next (s .pre .2) .year)
 
 loop-holds : tie.Need-loop-holds Inv-loop μ-loop
 loop-holds c =
-    let s = c .before .before .before .before in
+    let s = c .before .before .before .before .before .before .before .before .before in
     record {
       so-far = λ n k a b. (a, b);
       above = s .pre .1 .old (s .pre .2) (s .pre .3);
-      heights = c .fitted-in .ensures;
+      heights = c .fitted-in .ensures (lent (s .pre .1 .next (s .pre .2) .year));
     }
 
 add-row : tie.Need-add-row Inv-loop μ-loop
@@ -130,7 +136,7 @@ returns c =
     let k = c .before .before in
     let t = k .before .before in
     let s = begun (t .before) in
-    out-all (worked-out (s .args .p) (s .args .path) (t .loop-test .taken)
+    out-all (worked-out (s .args .t1) (s .args .path) (t .loop-test .taken)
     (cell-read k (s .args .path .year) (so-far (t .before) .1) ∙ c .enum-told .given .1))
 
 -- the turn after its cell was in range
@@ -154,16 +160,16 @@ year-after-requires c κs =
     let g = c .before .before in
     let t = turn (g .before) in
     let s = begun (t .before) in
-    let i = in-limits-series (s .args .p) (s .pre .0 .limits) in
+    let i = in-limits-series (s .args .t1) (s .pre .0 .limits) in
     λ on. rw (back (i .a) tt, back (i .index .theta) tt)
     (year-may (s .pre .0) (so-far (t .before) .1) (t .loop-test .taken) (g .goes-on .ensures) on)
 
 -- one cell more, whichever year the path began in
 further : (c : tie.After-year-after Inv-loop μ-loop) → let g = c .before .before .before in let k = g .before in let t = turn k in
-    let l = t .before in let s = begun l in (n : ℕ) → PathWithin (s .args .p) (from l n)
-    → Worked (s .args .p) (from l n) (s .args .walk .ends) (s .args .walk .done) → YearAt (s .args .p) (from l n) (s .args .walk .done) (s .args .walk .year)
-    → Worked (s .args .p) (from l n) (set (l .loop .ends) (l .loop .done) (k .before .e .given .0 .0)) (l .loop .done + 1)
-    × YearAt (s .args .p) (from l n) (l .loop .done + 1) (c .year-after .result)
+    let l = t .before in let s = begun l in (n : ℕ) → PathWithin (s .args .t1) (from l n)
+    → Worked (s .args .t1) (from l n) (s .args .walk .ends) (s .args .walk .done) → YearAt (s .args .t1) (from l n) (s .args .walk .done) (s .args .walk .year)
+    → Worked (s .args .t1) (from l n) (set (l .loop .ends) (l .loop .done) (k .before .e .given .0 .0)) (l .loop .done + 1)
+    × YearAt (s .args .t1) (from l n) (l .loop .done + 1) (c .year-after .result)
 further c n h a b =
     let g = c .before .before .before in
     let k = g .before in
@@ -171,26 +177,36 @@ further c n h a b =
     let l = t .before in
     let s = begun l in
     let v = l .loop .inv .so-far n h a b in
-    let i = in-limits-series (s .args .p) (h .limits) in
+    let i = in-limits-series (s .args .t1) (h .limits) in
     let y = rw (back (i .a) tt, back (i .index .theta) tt) at (c .year-after .ensures) in (
       worked-more (v .0) (short s) (t .loop-test .taken) (cell-read (k .before .before .before) n (v .1) ∙ k .before .e .given .1),
       year-step h (v .1) (t .loop-test .taken) (g .goes-on .result) (g .goes-on .ensures) y,
     )
 
+-- the year after is the set's
+next-year : (c : tie.After-year-after Inv-loop μ-loop) → let s = begun (turn (c .before .before .before .before) .before) in
+    YearOf (s .args .t1) (c .year-after .result)
+next-year c =
+    let s = begun (turn (c .before .before .before .before) .before) in
+    further c (s .args .path .year) (s .pre .0) (s .pre .1 .worked (s .pre .2)) (s .pre .1 .next (s .pre .2)) .1 .year
+
 fitted-in-requires-2 : tie.Need-fitted-in-requires-2 Inv-loop μ-loop
 fitted-in-requires-2 c κs =
-    let y = c .before in
-    let s = begun (turn (y .before .before .before .before) .before) in
-    further y (s .args .path .year) (s .pre .0) (s .pre .1 .worked (s .pre .2)) (s .pre .1 .next (s .pre .2)) .1 .year
+    let y = c .before .before .before .before .before .before in
+    lent (next-year y)
+
+-- before the runs are lent for the year after
+abbrev stepped : tie.After-fitted-in2 Inv-loop μ-loop → tie.After-year-after Inv-loop μ-loop
+stepped c = c .before .before .before .before .before .before .before
 
 loop-less : tie.Need-loop-less Inv-loop μ-loop
-loop-less c = omega (arith, turn (c .before .before .before .before .before .before) .loop-test .taken)
+loop-less c = omega (arith, turn (stepped c .before .before .before .before) .loop-test .taken)
 
 loop-again : tie.Need-loop-again Inv-loop μ-loop
 loop-again c =
-    let y = c .before .before in
+    let y = stepped c in
     let t = turn (y .before .before .before .before) in
-    record { so-far = further y; above = omega (arith, t .before .loop .inv .above); heights = c .fitted-in2 .ensures }
+    record { so-far = further y; above = omega (arith, t .before .loop .inv .above); heights = c .fitted-in2 .ensures (lent (next-year y)) }
 
 loop-less-2 : tie.Need-loop-less-2 Inv-loop μ-loop
 loop-less-2 c = omega (arith, turn (c .before .before .before .before .before) .loop-test .taken)

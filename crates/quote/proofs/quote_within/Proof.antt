@@ -11,8 +11,10 @@ use Rattle.whole.specs.Bound.{bits, under-pos, fits}
 use Rattle.params.specs.Limits.{startYear, lastYears}
 use Rattle.kinds.specs.declared.Rule.{Rule}
 use Rattle.kinds.specs.Kinds.{ruleOf, countOf}
-use Rattle.quote.specs.Quote.{queryPath, firstFailed, tableTests}
-use Rattle.quote.specs.Tests.{InTable, in-table, Counted, counted, path-ages, path-first, path-in}
+use Rattle.table_tests.specs.TableTests.{firstFailed, tableTests}
+use Rattle.table_tests.specs.TableLaws.{InTable, in-table}
+use Rattle.quote.specs.Quote.{queryPath}
+use Rattle.quote.specs.Tests.{Counted, counted, path-ages, path-first, path-in}
 use Rattle.quote.proofs.Steps.{accepted, table-answer, along-answer, years-under, cast-whole, years-from}
 use Rattle.quote.proofs.quote_within.Statement.{statement}
 use Rattle.quote.proofs.quote_within.Tie as tie

@@ -1,7 +1,7 @@
 -- `steps_of` meets its contract: a refusal has none, and a quote those of its figure.
 use borrow.Author.Needs.{needs}
 use mathlib.Core.Path.{sym, ap, _∙_}
-use Rattle.quote.specs.declared.Answer.{Answer}
+use Rattle.path_quotes.specs.declared.Answer.{Answer}
 use Rattle.quote.specs.Demand.{figureShown}
 use Rattle.two_quotes.specs.Claim.{stepsShown}
 use Rattle.two_quotes.proofs.steps_of.Statement.{statement}

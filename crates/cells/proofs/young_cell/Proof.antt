@@ -1,0 +1,64 @@
+-- `young_cell` meets its contract: out of range the cell is steep, and in range p is that of the force.
+use mathlib.Core.Path.{_≡_, ap, sym, _∙_}
+use mathlib.Core.Bool.{true}
+use borrow.Author.Needs.{needs}
+use borrow.Author.Tests.{not-true, not-false}
+use Rattle.expo.specs.Grid.{Ends}
+use Rattle.expo.specs.Exponential.{expBetween}
+use Rattle.expo.specs.Billionths.{billionths}
+use Rattle.whole.specs.SignedEnds.{SignedEnds}
+use Rattle.ends.specs.Code.{endsOf}
+use Rattle.series.specs.Series.{cellForce, inRange}
+use Rattle.series.specs.RangeLaws.{cell-negated}
+use Rattle.force.specs.Force.{negated}
+use Rattle.cells.specs.declared.Cell.the-variants.{Of}
+use Rattle.cells.specs.Code.{coded, youngCell}
+use Rattle.cells.proofs.young_cell.Statement.{statement}
+use Rattle.cells.proofs.young_cell.Tie as tie
+
+-- the log force of the cell
+abbrev force : tie.Start → SignedEnds
+force s = cellForce (s .args .age) (s .args .y .period) (endsOf (s .args .y .kappas))
+
+-- the code's test, of the definition's log force
+tested : (c : tie.After-in-range) → c .in-range .result ≡ inRange (force (c .before .before))
+tested c = c .in-range .ensures ∙ ap inRange (c .before .log-force-at .ensures)
+
+in-range : (c : tie.Else1) → inRange (force (c .before .before .before)) ≡ true
+in-range c = sym (tested (c .before)) ∙ not-false _ (c .if1 .left)
+
+log-force-at-requires : tie.Need-log-force-at-requires
+log-force-at-requires c κs = c .pre .limits
+
+in-range-requires : tie.Need-in-range-requires
+in-range-requires c κs = search needs
+
+returns : tie.Need-returns
+unfolding youngCell
+returns c = let e = sym (tested (c .before)) ∙ not-true _ (c .if1 .taken) in rw e
+
+survival-to-90-requires : tie.Need-survival-to-90-requires
+survival-to-90-requires c κs =
+    let m = c .before .before in
+    let p = m .before .pre in
+    rw (m .log-force-at .ensures) (cell-negated (p .limits) (p .wide) (rw (in-range c) tt))
+
+returns-2 : tie.Need-returns-2
+unfolding youngCell
+returns-2 c =
+    let e = c .before in
+    let m = e .before .before in
+    rw (in-range e)
+    (ap (λ (q : Ends). Of (coded q))
+    (c .survival-to-90 .ensures
+    ∙ ap (λ (k : SignedEnds). expBetween billionths (expBetween billionths (negated k))) (m .log-force-at .ensures)))
+
+pub young-cell-spec : {M : Type 1} → statement M
+young-cell-spec =
+    tie.close
+    (tie.spec
+    log-force-at-requires
+    in-range-requires
+    returns
+    survival-to-90-requires
+    returns-2)

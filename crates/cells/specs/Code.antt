@@ -1,0 +1,42 @@
+-- What the code's contracts say beside the definitions: the answer at a cell.
+use mathlib.Core.Bool.{cond}
+use mathlib.Core.List.{List}
+use Prim.Native.Nat.{ℕ, _≤_}
+use lib.IntN.{ℤ}
+use Rattle.whole.specs.SignedEnds.{SignedEnds}
+use Rattle.expo.specs.Grid.{Ends}
+use Rattle.expo.specs.Exponential.{expBetween}
+use Rattle.expo.specs.Billionths.{billionths}
+use Rattle.expo.specs.declared.Ends as code
+use Rattle.params.specs.declared.Params.{Params}
+use Rattle.series.specs.Series.{inRange}
+use Rattle.logistic.specs.Logistic.{logistic}
+use Rattle.closure.specs.Closure.{weightedMean}
+use Rattle.closure.specs.Code.{listOf, weightOf}
+use Rattle.force.specs.Force.{negated}
+use Rattle.mortality.specs.Cell.{survival, neededInRange}
+use Rattle.fitted_ages.specs.declared.Fitted.{Fitted}
+use Rattle.cells.specs.declared.Cell.{Cell}
+use Rattle.cells.specs.declared.Cell.the-variants.{Steep, Of}
+
+-- the grid's two ends as the code's
+abbrev pub coded : Ends → code.Ends
+coded e = record { lower = e .lower; upper = e .upper }
+
+-- both ends of p are at most 1
+pub data Chance : Cell → Type 0 where
+  steep : Chance Steep
+  of : {e : code.Ends} → e .lower ≤ billionths .unit → e .upper ≤ billionths .unit → Chance (Of e)
+
+-- the answer at an age to 90, from its log force
+unfoldable pub youngCell : SignedEnds → Cell
+youngCell m = cond (inRange m) (Of (coded (expBetween billionths (expBetween billionths (negated m))))) Steep
+
+-- the answer at an age above 90, from its weights and the ends of H
+unfoldable pub oldCell : List ℤ → Fitted → Cell
+oldCell row f =
+    cond (f .ok) (Of (coded (expBetween billionths (logistic billionths (weightedMean (weightOf row) (listOf (f .ends))))))) Steep
+
+-- the answer at age x in year n: p's ends where every needed cell is in range
+unfoldable pub cellOf : Params → ℕ → ℕ → Cell
+cellOf p x n = cond (neededInRange p x n) (Of (coded (survival billionths p x n))) Steep

@@ -1,0 +1,57 @@
+-- `exp_lower` meets its contract: below the cut-off the product of the lower sum and the constant, which below 1 is the sum
+-- itself, and from the cut-off on 0.
+use Prim.Native.Nat.{_≤_, _<_}
+use native.Mathlib.Nat.{mul-div-cancel}
+use native.Mathlib.Omega.{arith}
+use lib.Dec.{lit<}
+use borrow.Author.Needs.{needs}
+use borrow.Author.Tests.{lt-ltb, le-ltb}
+use Rattle.expo.specs.Exponential.{cutoffUnits, constantLower, expLower}
+use Rattle.expo.specs.Billionths.{billionths, wholeParts}
+use Rattle.expo.specs.BillionthsFacts.{billionths-sound}
+use Rattle.exp_ends.proofs.Constants.{lower-product}
+use Rattle.exp_ends.proofs.exp_lower.Statement.{statement}
+use Rattle.exp_ends.proofs.exp_lower.Tie as tie
+
+below : (c : tie.Then1) → c .before .args .z < cutoffUnits billionths
+below c = omega arith
+
+past : (c : tie.Else1) → cutoffUnits billionths ≤ c .before .args .z
+past c = omega arith
+
+sum-lower-requires : tie.Need-sum-lower-requires
+sum-lower-requires c κs = search needs
+
+returns : tie.Need-returns
+unfolding expLower
+returns c =
+    rw (
+      lt-ltb _ _ (below (c .before .before)),
+      c .if2 .taken,
+      billionths-sound .constant-first,
+      mul-div-cancel _ (lit< tt),
+      c .before .sum-lower .ensures,
+    )
+
+mul-result : tie.Need-mul-result
+mul-result c = search needs
+
+array-read-result : tie.Need-array-read-result
+array-read-result c = search needs
+
+mul-result-2 : tie.Need-mul-result-2
+unfolding constantLower wholeParts
+mul-result-2 c = omega (arith, lower-product _ _ (below (c .before .before)) (c .before .sum-lower .ensures))
+
+returns-2 : tie.Need-returns-2
+unfolding expLower constantLower wholeParts
+returns-2 c = rw (lt-ltb _ _ (below (c .before .before)), c .before .sum-lower .ensures)
+
+returns-3 : tie.Need-returns-3
+unfolding expLower
+returns-3 c = rw (le-ltb _ _ (past c))
+
+pub exp-lower-spec : {M : Type 1} → statement M
+exp-lower-spec =
+    tie.close
+    (tie.spec sum-lower-requires returns mul-result array-read-result mul-result-2 returns-2 returns-3)

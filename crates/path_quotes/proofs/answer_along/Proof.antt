@@ -1,0 +1,79 @@
+-- `answer_along` meets its contract: a cell out of range is refused, and else the fold over the factors has its ends.
+use mathlib.Core.Path.{_≡_, ap, sym, _∙_}
+use mathlib.Core.Bool.{true}
+use borrow.Author.Needs.{needs}
+use borrow.Author.Tests.{not-true, not-false}
+use native.Mathlib.Omega.{arith}
+use Rattle.expo.specs.Grid.{Ends}
+use Rattle.expo.specs.Billionths.{billionths}
+use Rattle.expo.specs.Code.{endsOf}
+use Rattle.paths.specs.Values.{foldOver, gridValue}
+use Rattle.walks.specs.Code.{pathIs}
+use Rattle.kinds.specs.Kinds.{foldIs, stepOf}
+use Rattle.path_quotes.specs.Code.{pathAnswer}
+use Rattle.path_quotes.proofs.Value.{path-chances, first-of, value-fits, step-small, quoted}
+use Rattle.path_quotes.proofs.answer_along.Statement.{statement}
+use Rattle.path_quotes.proofs.answer_along.Tie as tie
+
+factors-of-requires : tie.Need-factors-of-requires
+factors-of-requires c κs = c .pre
+
+returns : tie.Need-returns
+unfolding pathAnswer
+returns c =
+    let f = c .before .before in
+    let e = sym (f .factors-of .ensures .ok) ∙ not-true _ (c .if1 .taken) in
+    rw e
+
+-- the factors are there
+worked : (c : tie.Else1) → c .before .before .factors-of .result .ok ≡ true
+worked c = not-false _ (c .if1 .left)
+
+folded-requires : tie.Need-folded-requires
+folded-requires c κs =
+    let e = c .before in
+    let f = e .before .before in
+    path-chances (f .before .pre) (f .factors-of .ensures .ends (rw (worked e) tt))
+
+-- the fold's ends are the path's
+ends-read : (c : tie.After-folded) → let s = c .before .before .before .before .before in
+    endsOf (c .folded .result) ≡ gridValue (foldIs (s .args .fold)) billionths (s .args .p) (pathIs (s .args .path))
+unfolding gridValue
+ends-read c =
+    let e = c .before .before in
+    let f = e .before .before in
+    let s = f .before in
+    c .folded .ensures
+    ∙ ap (foldOver (foldIs (s .args .fold)) billionths)
+    (first-of (s .args .path .count) (f .factors-of .result .ends) ∙ f .factors-of .ensures .ends (rw (worked e) tt))
+
+step-of-requires : tie.Need-step-of-requires
+step-of-requires c κs = search needs
+
+figure-of-requires : tie.Need-figure-of-requires
+figure-of-requires c κs =
+    let d = c .before in
+    let s = d .before .before .before .before .before in
+    let v = value-fits (s .args .fold) (s .pre) in
+    let e = ends-read d in
+    let l = ap (λ (k : Ends). k .lower) e in
+    let u = ap (λ (k : Ends). k .upper) e in
+    let g = step-small (s .args .fold) in
+    let h = c .step-of .ensures in
+    (omega arith, omega arith, omega arith, omega arith)
+
+returns-2 : tie.Need-returns-2
+unfolding pathAnswer
+returns-2 c =
+    let g = c .before in
+    let d = g .before in
+    let e = d .before .before in
+    let f = e .before .before in
+    let s = f .before in
+    let r = sym (f .factors-of .ensures .ok) ∙ worked e in
+    rw r (quoted (stepOf (s .args .fold)) (ends-read d) (rw (g .step-of .ensures) at (c .figure-of .ensures)))
+
+pub answer-along-spec : {M : Type 1} → statement M
+answer-along-spec =
+    tie.close
+    (tie.spec factors-of-requires returns folded-requires step-of-requires figure-of-requires returns-2)

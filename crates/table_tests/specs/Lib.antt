@@ -1,0 +1,4 @@
+-- definitions
+pub mod TableTests
+-- laws
+pub mod TableLaws

@@ -1,0 +1,39 @@
+// The tests of an age, a year and a span against the table: refusals 3 to 5.
+ghost use mathlib.Core.Path.{_≡_};
+ghost use Rattle.whole.specs.Bound.{Under};
+ghost use Rattle.params.specs.Limits.{lastYears};
+ghost use Rattle.table_tests.specs.TableTests.{between, tableTests, firstFailed};
+use kinds::Rule;
+use params::FIRST_YEARS;
+use params::Refusal;
+use params::START_YEAR;
+use weights::LAST_CLOSED;
+
+// Whether v is at least low and at most high.
+fn between(low: i64, high: i64, v: i64) -> bool
+    ensures { λ r. ⌜ r ≡ between low high v ⌝ }
+{
+    if v < low {
+        return false;
+    }
+    v <= high
+}
+
+// The refusal that the table gives an age, a year and a span, in the numbers' order.
+pub fn table_refusal(rule: Rule, age: i64, year: i64, span: i64) -> Refusal
+    requires { ⌜ Under (rule .years) lastYears ⌝ }
+    ensures { λ r. ⌜ r ≡ firstFailed (tableTests rule age year span) ⌝ }
+{
+    let fold = rule.fold;
+    let last = START_YEAR + rule.years;
+    if !between(0, LAST_CLOSED as i64, age) {
+        return Refusal::NoSuchAge;
+    }
+    if !between(START_YEAR + FIRST_YEARS, last, year) {
+        return Refusal::NoSuchYear;
+    }
+    if !between(0, kinds::most_span(fold, age as usize) as i64, span) {
+        return Refusal::NoSuchSpan;
+    }
+    Refusal::Accepted
+}
