@@ -5,8 +5,8 @@ use lib.Dec.{lit≤}
 use lib.IntN.{ℤ}
 use Rattle.whole.specs.Bound.{under-weaken, under-floor, under-ceil}
 use Rattle.whole.specs.SignedEnds.{outward}
-use Rattle.ends.specs.declared.SignedEnds as code
-use Rattle.ends.specs.EndLaws.{Within}
+use Rattle.signed_ends.specs.declared.SignedEnds as code
+use Rattle.signed_ends.specs.EndLaws.{Within}
 use Rattle.weights.specs.Weights.{fitted, weightUnit}
 use Rattle.logistic.specs.Code.{closedLimit}
 use Rattle.closure.specs.Closure.{weightedMean}

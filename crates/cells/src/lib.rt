@@ -2,7 +2,7 @@
 // parameters at ages to 90 and by the closure above.
 ghost use mathlib.Core.Path.{_≡_};
 ghost use lib.Dec.{T};
-ghost use Rattle.ends.specs.Code.{endsOf};
+ghost use Rattle.signed_ends.specs.Code.{endsOf};
 ghost use Rattle.series.specs.Series.{cellForce};
 ghost use Rattle.closure.specs.Code.{InLimit, RowWithin};
 ghost use Rattle.years.specs.Code.{CellWithin};

@@ -10,10 +10,10 @@ use mir.Syntax.{w64}
 use mir.Val.{SFits}
 use Rattle.whole.specs.Bound.{bits, Under, under-lit, under-weaken, under-add, fits, back}
 use Rattle.whole.specs.SignedEnds.{SignedEnds, leastProduct, greatestProduct}
-use Rattle.ends.specs.declared.SignedEnds as code
-use Rattle.ends.specs.Code.{endsOf}
-use Rattle.ends.specs.EndLaws.{Within, least-under, greatest-under}
-use Rattle.ends.proofs.Signed.{read, sum}
+use Rattle.signed_ends.specs.declared.SignedEnds as code
+use Rattle.signed_ends.specs.Code.{endsOf}
+use Rattle.signed_ends.specs.EndLaws.{Within, least-under, greatest-under}
+use Rattle.signed_ends.proofs.Signed.{read, sum}
 use Rattle.weights.specs.Weights.{fitted}
 use Rattle.weights.specs.Totals.{weightLimit}
 use Rattle.closure.specs.Closure.{endsAt, leastSum, greatestSum}

@@ -6,9 +6,9 @@ use lib.IntN.{ℤ, pos, _+ℤ_}
 use lib.ListN.{getD}
 use Rattle.whole.specs.Bound.{Under}
 use Rattle.whole.specs.SignedEnds.{SignedEnds, leastProduct, greatestProduct}
-use Rattle.ends.specs.declared.SignedEnds as code
-use Rattle.ends.specs.Code.{endsOf}
-use Rattle.ends.specs.EndLaws.{Within}
+use Rattle.signed_ends.specs.declared.SignedEnds as code
+use Rattle.signed_ends.specs.Code.{endsOf}
+use Rattle.signed_ends.specs.EndLaws.{Within}
 use Rattle.weights.specs.Weights.{fitted}
 use Rattle.weights.specs.Totals.{weightLimit}
 use Rattle.closure.specs.Closure.{endsAt}

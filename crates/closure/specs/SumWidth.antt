@@ -11,7 +11,7 @@ use Rattle.whole.specs.Order.{≤ℤ-trans, +ℤ-mono}
 use Rattle.whole.specs.SignedEnds.{SignedEnds, leastProduct, greatestProduct, outward}
 use Rattle.whole.specs.Division.{floorDiv, ceilDiv}
 use Rattle.whole.specs.DivisionLaws.{split-floor, split-ceil, floor-mono, floor-le-ceil}
-use Rattle.ends.specs.EndLaws.{product-spread, product-ordered}
+use Rattle.signed_ends.specs.EndLaws.{product-spread, product-ordered}
 use Rattle.weights.specs.Weights.{fitted, firstClosed, lastClosed, weightUnit, weight}
 use Rattle.weights.specs.Totals.{mostSize, sizeTotal}
 use Rattle.weights.specs.WeightLaws.{weights-size}

@@ -1,12 +1,12 @@
 // G at ages 91 to 120 on the grid: the weighted sum of H at ages 80 to 90, over 110, by a row of weights.
 ghost use mathlib.Core.Path.{_≡_};
 ghost use Rattle.whole.specs.Bound.{Under};
-ghost use Rattle.ends.specs.Code.{endsOf};
-ghost use Rattle.ends.specs.EndLaws.{Within};
+ghost use Rattle.signed_ends.specs.Code.{endsOf};
+ghost use Rattle.signed_ends.specs.EndLaws.{Within};
 ghost use Rattle.weights.specs.Totals.{weightLimit};
 ghost use Rattle.closure.specs.Closure.{weightedMean};
 ghost use Rattle.closure.specs.Code.{listOf, endLimit, sumsLimit, InLimit, weightOf, RowWithin, withProduct};
-use ends::SignedEnds;
+use signed_ends::SignedEnds;
 use weights::FITTED;
 use weights::WEIGHT_UNIT;
 
@@ -15,8 +15,8 @@ fn add_product(sums: SignedEnds, w: i64, e: SignedEnds) -> SignedEnds
     requires { ⌜ Within sumsLimit (endsOf sums) × Under w weightLimit × Within endLimit (endsOf e) ⌝ }
     ensures { λ r. ⌜ endsOf r ≡ withProduct (endsOf sums) w (endsOf e) ⌝ }
 {
-    let least = ends::least_product(w, e);
-    let greatest = ends::greatest_product(w, e);
+    let least = signed_ends::least_product(w, e);
+    let greatest = signed_ends::greatest_product(w, e);
     SignedEnds {
         lower: sums.lower + least,
         upper: sums.upper + greatest,
@@ -38,7 +38,7 @@ pub fn closed_sum(row: [i64; 11], h: [SignedEnds; 11]) -> SignedEnds
     let least = sums.lower;
     let greatest = sums.upper;
     SignedEnds {
-        lower: ends::outward_div(least, WEIGHT_UNIT, false),
-        upper: ends::outward_div(greatest, WEIGHT_UNIT, true),
+        lower: signed_ends::outward_div(least, WEIGHT_UNIT, false),
+        upper: signed_ends::outward_div(greatest, WEIGHT_UNIT, true),
     }
 }

@@ -18,9 +18,9 @@ use Rattle.expo.specs.Billionths.{billionths}
 use Rattle.expo.specs.Exponential.{expBetween}
 use Rattle.params.specs.declared.Params.{Params}
 use Rattle.params.specs.Limits.{inLimits, lastYears}
-use Rattle.ends.specs.declared.SignedEnds as code
-use Rattle.ends.specs.Code.{endsOf}
-use Rattle.ends.specs.EndLaws.{Within}
+use Rattle.signed_ends.specs.declared.SignedEnds as code
+use Rattle.signed_ends.specs.Code.{endsOf}
+use Rattle.signed_ends.specs.EndLaws.{Within}
 use Rattle.series.specs.Series.{logForce, inRange}
 use Rattle.series.specs.WidthLaws.{logForceWidth}
 use Rattle.series.specs.RangeLaws.{Negated}

@@ -1,6 +1,6 @@
 // The ages 80 to 90 of a year, to which the closure is fitted: the ends of H on the grid of 10^-9.
 ghost use Rattle.fitted_ages.specs.Code.{LentIn, FittedIn};
-use ends::SignedEnds;
+use signed_ends::SignedEnds;
 use params::AGES;
 use weights::FIRST_FITTED;
 use weights::FITTED;

@@ -20,7 +20,7 @@ use Rattle.expo.specs.Exponential.{expBetween}
 use Rattle.expo.specs.Billionths.{billionths}
 use Rattle.expo.specs.BillionthsFacts.{billionths-sound}
 use Rattle.expo.specs.AtMostOne.{exp-lower-one, exp-upper-one}
-use Rattle.ends.proofs.Signed.{sum}
+use Rattle.signed_ends.proofs.Signed.{sum}
 use Rattle.series.specs.Series.{lowestForce}
 use Rattle.series.specs.RangeLaws.{Negated}
 use Rattle.logarithm.specs.Logarithm.{powerLower, powerUpper, logTermsLower, logTermsUpper, logRest, logLower, logUpper}

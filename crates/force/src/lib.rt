@@ -5,12 +5,12 @@ ghost use Prim.Native.Nat.{_≤_};
 ghost use Rattle.expo.specs.Billionths.{billionths};
 ghost use Rattle.expo.specs.Exponential.{expBetween};
 ghost use Rattle.expo.specs.Code.{endsOf as gridEnds};
-ghost use Rattle.ends.specs.Code.{endsOf};
+ghost use Rattle.signed_ends.specs.Code.{endsOf};
 ghost use Rattle.series.specs.WidthLaws.{logForceWidth};
 ghost use Rattle.series.specs.RangeLaws.{Negated};
 ghost use Rattle.logarithm.specs.Logarithm.{inverseLogistic};
 ghost use Rattle.force.specs.Force.{negated, deathOf};
-use ends::SignedEnds;
+use signed_ends::SignedEnds;
 use expo::Ends;
 use expo::UNIT;
 

@@ -7,11 +7,11 @@ ghost use Rattle.whole.specs.Bound.{Under};
 ghost use Rattle.expo.specs.Exponential.{expLower, expUpper};
 ghost use Rattle.expo.specs.Billionths.{billionths};
 ghost use Rattle.expo.specs.Code.{endsOf as gridEnds};
-ghost use Rattle.ends.specs.Code.{endsOf};
-ghost use Rattle.ends.specs.EndLaws.{Within};
+ghost use Rattle.signed_ends.specs.Code.{endsOf};
+ghost use Rattle.signed_ends.specs.EndLaws.{Within};
 ghost use Rattle.logistic.specs.Logistic.{logisticLower, logisticUpper, logistic};
 ghost use Rattle.logistic.specs.Code.{closedLimit};
-use ends::SignedEnds;
+use signed_ends::SignedEnds;
 use expo::Ends;
 use expo::UNIT;
 

@@ -12,7 +12,7 @@ use Rattle.params.specs.declared.Age.{Age}
 use Rattle.params.specs.Set.{ages, ageOf}
 use Rattle.params.specs.Limits.{levelLimit, slopeLimit, aLimit, periodLimit, kappaLimit, lastYears, inLimits}
 use Rattle.params.specs.LimitsLaws.{PeriodWithin, AgeWithin, in-limits-series, in-limits-age}
-use Rattle.ends.specs.EndLaws.{Within, least-under, greatest-under, outward-under}
+use Rattle.signed_ends.specs.EndLaws.{Within, least-under, greatest-under, outward-under}
 use Rattle.series.specs.Series.{periodIn, periodIndex, kappaStep, kappaIn, kappa, cellForce}
 
 -- k + n·t lies between k and k + m·t

@@ -15,7 +15,7 @@ use Rattle.params.specs.declared.Params.{Params}
 use Rattle.params.specs.declared.Age.{Age}
 use Rattle.params.specs.Set.{ages}
 use Rattle.params.specs.Limits.{lastYears, inLimits}
-use Rattle.ends.specs.EndLaws.{Holds, Wide}
+use Rattle.signed_ends.specs.EndLaws.{Holds, Wide}
 use Rattle.series.specs.Series.{cellForce, logForce, lowestForce, highestForce, inRange}
 use Rattle.series.specs.BoundLaws.{CellLimits}
 use Rattle.series.specs.WidthLaws.{logForceWidth, cellForce-wide, logForce-wide}

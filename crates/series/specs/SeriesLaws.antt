@@ -8,7 +8,7 @@ use Rattle.fraction.specs.FractionLaws.{≤ℚ-refl, ≤ℚ-trans, +ℚ-mono, w
 use Rattle.params.specs.declared.Params.{Params}
 use Rattle.params.specs.declared.Age.{Age}
 use Rattle.params.specs.Set.{ageOf}
-use Rattle.ends.specs.EndLaws.{Holds, least-product, greatest-product, outward-holds}
+use Rattle.signed_ends.specs.EndLaws.{Holds, least-product, greatest-product, outward-holds}
 use Rattle.series.specs.Series.{rateUnit, periodIndex, kappaStep, kappaIn, kappa, cellForce, logForce}
 use Rattle.series.specs.Exact.{perRate, exactKappa, exactLogForce}
 

@@ -13,7 +13,7 @@ use Rattle.params.specs.declared.Age.{Age}
 use Rattle.params.specs.Set.{ages, ageOf}
 use Rattle.params.specs.Limits.{slopeLimit, aLimit, lastYears, inLimits}
 use Rattle.params.specs.LimitsLaws.{in-limits-series, in-limits-age}
-use Rattle.ends.specs.EndLaws.{Wide, product-width, outward-width}
+use Rattle.signed_ends.specs.EndLaws.{Wide, product-width, outward-width}
 use Rattle.series.specs.Series.{rateUnit, periodIndex, kappaStep, kappaIn, kappa, cellForce, logForce}
 
 -- the greatest width of a log force in the years of a quote, in units

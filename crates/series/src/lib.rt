@@ -4,11 +4,11 @@ ghost use Prim.Native.Nat.{_≤_};
 ghost use Rattle.whole.specs.Bound.{Under};
 ghost use Rattle.params.specs.Limits.{aLimit, kappaLimit, lastYears};
 ghost use Rattle.params.specs.LimitsLaws.{PeriodWithin};
-ghost use Rattle.ends.specs.Code.{endsOf};
-ghost use Rattle.ends.specs.EndLaws.{Within};
+ghost use Rattle.signed_ends.specs.Code.{endsOf};
+ghost use Rattle.signed_ends.specs.EndLaws.{Within};
 ghost use Rattle.series.specs.Series.{periodIn, kappaStep, kappaIn, cellForce, inRange};
 ghost use Rattle.series.specs.BoundLaws.{CellLimits};
-use ends::SignedEnds;
+use signed_ends::SignedEnds;
 use params::Age;
 
 // The unit of a, B and beta.
@@ -32,11 +32,11 @@ pub fn kappa_step(a: i64, e: SignedEnds) -> SignedEnds
     requires { ⌜ Under a aLimit × Within kappaLimit (endsOf e) ⌝ }
     ensures { λ r. ⌜ endsOf r ≡ kappaStep a (endsOf e) ⌝ }
 {
-    let least = ends::least_product(a, e);
-    let greatest = ends::greatest_product(a, e);
+    let least = signed_ends::least_product(a, e);
+    let greatest = signed_ends::greatest_product(a, e);
     SignedEnds {
-        lower: ends::outward_div(least, RATE_UNIT, false),
-        upper: ends::outward_div(greatest, RATE_UNIT, true),
+        lower: signed_ends::outward_div(least, RATE_UNIT, false),
+        upper: signed_ends::outward_div(greatest, RATE_UNIT, true),
     }
 }
 
@@ -65,10 +65,10 @@ pub fn log_force(age: Age, period: i64, kappas: SignedEnds) -> SignedEnds
     let fixed = age.level + age.alpha;
     let trend = age.slope * period;
     let beta = age.beta;
-    let least = trend + ends::least_product(beta, kappas);
-    let greatest = trend + ends::greatest_product(beta, kappas);
-    let lower = fixed + ends::outward_div(least, RATE_UNIT, false);
-    let upper = fixed + ends::outward_div(greatest, RATE_UNIT, true);
+    let least = trend + signed_ends::least_product(beta, kappas);
+    let greatest = trend + signed_ends::greatest_product(beta, kappas);
+    let lower = fixed + signed_ends::outward_div(least, RATE_UNIT, false);
+    let upper = fixed + signed_ends::outward_div(greatest, RATE_UNIT, true);
     SignedEnds { lower, upper }
 }
 

@@ -7,8 +7,8 @@ use Rattle.whole.specs.Bound.{Under}
 use Rattle.params.specs.declared.Params.{Params}
 use Rattle.params.specs.declared.Age.{Age}
 use Rattle.params.specs.Limits.{aLimit, thetaLimit, periodLimit, kappaLimit, inLimits, lastYears}
-use Rattle.ends.specs.Code.{endsOf}
-use Rattle.ends.specs.EndLaws.{Within, Wide}
+use Rattle.signed_ends.specs.Code.{endsOf}
+use Rattle.signed_ends.specs.EndLaws.{Within, Wide}
 use Rattle.series.specs.Series.{periodIndex, kappaStep, kappa}
 use Rattle.series.specs.BoundLaws.{CellLimits}
 use Rattle.years.specs.declared.Year.{Year}

@@ -9,8 +9,8 @@ use Rattle.params.specs.declared.Params.{Params}
 use Rattle.params.specs.Set.{ages, ageOf}
 use Rattle.params.specs.Limits.{lastYears, periodLimit, kappaLimit}
 use Rattle.params.specs.LimitsLaws.{in-limits-series}
-use Rattle.ends.specs.Code.{endsOf}
-use Rattle.ends.specs.EndLaws.{Within, Wide}
+use Rattle.signed_ends.specs.Code.{endsOf}
+use Rattle.signed_ends.specs.EndLaws.{Within, Wide}
 use Rattle.series.specs.Series.{periodIn, periodIndex, kappaIn, cellForce, logForce}
 use Rattle.series.specs.BoundLaws.{period-under, kappa-under, cell-limits}
 use Rattle.series.specs.WidthLaws.{kappa-wide, wide-more}

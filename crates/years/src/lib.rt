@@ -3,11 +3,11 @@ ghost use mathlib.Core.Path.{_≡_};
 ghost use Prim.Native.Nat.{_≤_};
 ghost use lib.Dec.{T};
 ghost use Rattle.params.specs.Limits.{inLimits, lastYears};
-ghost use Rattle.ends.specs.Code.{endsOf};
+ghost use Rattle.signed_ends.specs.Code.{endsOf};
 ghost use Rattle.series.specs.Series.{cellForce};
 ghost use Rattle.series.specs.BoundLaws.{CellLimits};
 ghost use Rattle.years.specs.Code.{YearOf, YearWithin, NextOf};
-use ends::SignedEnds;
+use signed_ends::SignedEnds;
 use params::Age;
 use params::Params;
 

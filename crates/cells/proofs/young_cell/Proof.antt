@@ -7,7 +7,7 @@ use Rattle.expo.specs.Grid.{Ends}
 use Rattle.expo.specs.Exponential.{expBetween}
 use Rattle.expo.specs.Billionths.{billionths}
 use Rattle.whole.specs.SignedEnds.{SignedEnds}
-use Rattle.ends.specs.Code.{endsOf}
+use Rattle.signed_ends.specs.Code.{endsOf}
 use Rattle.series.specs.Series.{cellForce, inRange}
 use Rattle.series.specs.RangeLaws.{cell-negated}
 use Rattle.force.specs.Force.{negated}

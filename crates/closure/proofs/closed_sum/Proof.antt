@@ -6,9 +6,9 @@ use native.Mathlib.Omega.{arith}
 use borrow.Author.Needs.{needs}
 use Rattle.whole.specs.Bound.{bits, fits, back}
 use Rattle.whole.specs.SignedEnds.{SignedEnds, outward}
-use Rattle.ends.specs.Code.{endsOf}
-use Rattle.ends.specs.EndLaws.{Within}
-use Rattle.ends.proofs.Signed.{read, read-floor, read-ceil, ends}
+use Rattle.signed_ends.specs.Code.{endsOf}
+use Rattle.signed_ends.specs.EndLaws.{Within}
+use Rattle.signed_ends.proofs.Signed.{read, read-floor, read-ceil, ends}
 use Rattle.weights.specs.Weights.{fitted, weightUnit}
 use Rattle.closure.specs.Closure.{leastSum, greatestSum, weightedMean}
 use Rattle.closure.specs.Code.{listOf, sumsLimit, weightOf}

@@ -11,7 +11,7 @@ use Rattle.whole.specs.SignedEnds.{SignedEnds}
 use Rattle.expo.specs.Billionths.{billionths}
 use Rattle.expo.specs.Exponential.{expBetween}
 use Rattle.params.specs.Set.{ageOf, four-age}
-use Rattle.ends.specs.Code.{endsOf}
+use Rattle.signed_ends.specs.Code.{endsOf}
 use Rattle.series.specs.Series.{logForce, inRange}
 use Rattle.series.specs.RangeLaws.{logForce-negated}
 use Rattle.logarithm.specs.Logarithm.{inverseLogistic}

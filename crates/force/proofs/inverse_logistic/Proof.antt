@@ -8,8 +8,8 @@ use Rattle.expo.specs.Grid.{Ends}
 use Rattle.expo.specs.Billionths.{billionths}
 use Rattle.expo.specs.Exponential.{expBetween}
 use Rattle.expo.specs.Code.{endsOf as gridEnds}
-use Rattle.ends.specs.Code.{endsOf}
-use Rattle.ends.proofs.Signed.{ends}
+use Rattle.signed_ends.specs.Code.{endsOf}
+use Rattle.signed_ends.proofs.Signed.{ends}
 use Rattle.logarithm.specs.Logarithm.{logLower, logUpper, inverseLogistic}
 use Rattle.force.specs.Force.{negated}
 use Rattle.force.proofs.Ends.{logLimit, under-lower, under-upper, exp-small, log-lower-small, log-upper-small, end-sum}

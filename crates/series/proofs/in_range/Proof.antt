@@ -1,7 +1,7 @@
 -- `in_range` meets its contract: the test of the lower end, and then that of the upper one.
 use borrow.Author.Needs.{needs}
 use mir.Facts.{toZ-ofZ}
-use Rattle.ends.proofs.Signed.{EndsFit}
+use Rattle.signed_ends.proofs.Signed.{EndsFit}
 use Rattle.series.specs.Series.{inRange}
 use Rattle.series.proofs.in_range.Statement.{statement}
 use Rattle.series.proofs.in_range.Tie as tie

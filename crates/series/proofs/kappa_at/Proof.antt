@@ -8,7 +8,7 @@ use mir.Syntax.{w64}
 use mir.Val.{toZ}
 use Rattle.whole.specs.Bound.{bits, Under, back}
 use Rattle.params.specs.Limits.{aLimit, kappaLimit}
-use Rattle.ends.specs.Code.{endsOf}
+use Rattle.signed_ends.specs.Code.{endsOf}
 use Rattle.series.specs.Series.{kappaIn}
 use Rattle.series.specs.BoundLaws.{kappa-under}
 use Rattle.series.proofs.kappa_at.Statement.{statement}

@@ -5,9 +5,9 @@ use mir.Val.{SFits}
 use mir.Facts.{toZ-ofZ}
 use Rattle.whole.specs.Bound.{fits}
 use Rattle.whole.specs.SignedEnds.{leastProduct, greatestProduct, outward}
-use Rattle.ends.specs.Code.{endsOf}
-use Rattle.ends.specs.EndLaws.{least-under, greatest-under}
-use Rattle.ends.proofs.Signed.{read, read-floor, read-ceil, ends}
+use Rattle.signed_ends.specs.Code.{endsOf}
+use Rattle.signed_ends.specs.EndLaws.{least-under, greatest-under}
+use Rattle.signed_ends.proofs.Signed.{read, read-floor, read-ceil, ends}
 use Rattle.series.specs.Series.{rateUnit, kappaStep}
 use Rattle.series.proofs.kappa_step.Statement.{statement}
 use Rattle.series.proofs.kappa_step.Tie as tie

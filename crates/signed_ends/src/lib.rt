@@ -7,7 +7,7 @@ ghost use mir.Syntax.{w64};
 ghost use mir.Val.{SFits};
 ghost use Rattle.whole.specs.Division.{floorDiv, ceilDiv};
 ghost use Rattle.whole.specs.SignedEnds.{leastProduct, greatestProduct};
-ghost use Rattle.ends.specs.Code.{endsOf};
+ghost use Rattle.signed_ends.specs.Code.{endsOf};
 
 // Two ends, in units.
 pub struct SignedEnds {

@@ -11,7 +11,7 @@ use Rattle.whole.specs.Division.{floorDiv, ceilDiv}
 use Rattle.whole.specs.Bound.{bits, fits-floor, fits-ceil}
 use Rattle.whole.specs.Sign.{Sign, minus, plain, sign}
 use Rattle.whole.specs.SignedEnds.{SignedEnds}
-use Rattle.ends.specs.declared.SignedEnds as code
+use Rattle.signed_ends.specs.declared.SignedEnds as code
 
 -- a number that is z is read as z, and so are its floor and its ceiling
 pub read : {r z : ℤ} → r ≡ z → SFits w64 z → bits r ≡ z
