@@ -1,4 +1,5 @@
-// The library's face for programs in other languages: a sheet read into numbers, and numbers written as a sheet.
+// The library's face for programs in other languages: a sheet read into numbers, numbers written as a sheet, and a query of
+// a sheet answered.
 ghost use mathlib.Core.Path.{_≡_};
 ghost use Prim.Native.Nat.{_+_, _≤_, _<_};
 ghost use mathlib.Core.List.{[], _∷_};
@@ -6,6 +7,7 @@ ghost use lib.ListN.{length, drop};
 ghost use Rattle.sheet.specs.Sheet.{runFrom};
 ghost use Rattle.kulfizan.specs.Face.{setLength, sexNumber, sexOf, areSet, setOf, over, setOver};
 ghost use Rattle.kulfizan.specs.Face.{readNo, numbersAfter, writeNo, bufferAfter, lengthAfter};
+ghost use Rattle.sheet_quote.specs.SheetQuote.{sheetAnswer, quoteNo, quoteAfter};
 use params::AGES;
 use params::Params;
 use params::Refusal;
@@ -160,4 +162,23 @@ pub extern "C" fn kulfizan_write(values: &[i64], buffer: &mut [u8], len: &mut u6
         *len = got.len as u64;
     }
     number
+}
+
+// Answers a query of a sheet in the first four numbers: the two ends in units of 10^-9, 1 where the figure is printed and 0
+// where it is open, and its steps. The refusal's number, or 0; refused, the call leaves every number as it was.
+#[no_mangle]
+pub extern "C" fn kulfizan_quote(
+    sheet: &[u8],
+    kind: &[u8],
+    age: i64,
+    year: i64,
+    span: i64,
+    quote: &mut [u64],
+) -> u8
+    ensures { λ r. ⌜ r ≡ quoteNo (sheetAnswer (now (sheet .entry)) (now (kind .entry)) age year span)
+        (length (now (quote .entry))) ⌝ }
+    ensures { λ r. ⌜ now (quote .exit) ≡ quoteAfter (sheetAnswer (now (sheet .entry)) (now (kind .entry)) age year span)
+        (now (quote .entry)) ⌝ }
+{
+    sheet_quote::quote_into(sheet, kind, age, year, span, quote)
 }

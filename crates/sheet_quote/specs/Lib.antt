@@ -1,0 +1,4 @@
+-- definitions
+pub mod SheetQuote
+-- laws
+pub mod AnswerLaws
