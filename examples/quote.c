@@ -1,11 +1,11 @@
-/* quote SHEET: the life expectancy at 65 in 2020 of the cohort, by the parameters of a sheet. Prints its two ends and its
+/* quote SHEET: the life expectancy at 65 in 2015 of the cohort, by the parameters of a sheet. Prints its two ends and its
    figure, or the refusal's number. `make examples` builds it. */
 #include <inttypes.h>
 #include <stdio.h>
 #include "kulfizan.h"
 
 #define AGE 65
-#define YEAR 2020
+#define YEAR 2015
 
 /* A file of more bytes than the longest sheet is torn, however many there are. */
 static uint8_t sheet[KULFIZAN_LONGEST_SHEET + 1];

@@ -1,5 +1,5 @@
-/* Kulfizan for C: the AG2014 table with the parameters of a sheet. A sheet read and written, and a query of it answered.
-   `make lib` writes libkulfizan.a and libkulfizan.so into target/lib.
+/* Kulfizan for C: the AG2014 table with the parameters of a sheet. A sheet read and written, a query of it answered,
+   and the whole run of the desk. `make lib` writes libkulfizan.a and libkulfizan.so into target/lib.
 
    A set is 369 numbers: the sex (0 for M, 1 for F), a, theta, K, k, and then for ages 0 to 90 A, B, alpha, beta, in
    the sheet's order and its units.
@@ -21,6 +21,9 @@
 
 /* The longest sheet. */
 #define KULFIZAN_LONGEST_SHEET 65536
+
+/* The room that a run of n bytes of input wants. */
+#define KULFIZAN_RUN_ROOM(n) (5 * (size_t)(n) + 139)
 
 /* The refusals, and none. */
 enum kulfizan_refusal {
@@ -55,6 +58,13 @@ uint8_t kulfizan_write(const int64_t *values, size_t values_length, uint8_t *buf
    short where there are fewer than four numbers. */
 uint8_t kulfizan_quote(const uint8_t *sheet, size_t sheet_length, const uint8_t *kind, size_t kind_length, int64_t age,
                        int64_t year, int64_t span, uint64_t *quote, size_t quote_length);
+
+/* Writes the whole run of the desk into the buffer, and its length; bytes after the output keep their values. The input is
+   a sheet and then query lines, as the programs take it from standard input; with `ends` 0 the output is what the program
+   `quotes` prints, with any other number what `ends` prints. A refused sheet and a refused query are lines of the output.
+   Short where the buffer has fewer than KULFIZAN_RUN_ROOM(input_length) bytes, and no other refusal. */
+uint8_t kulfizan_run(const uint8_t *input, size_t input_length, uint8_t ends, uint8_t *buffer, size_t buffer_length,
+                     uint64_t *length);
 
 #ifdef __cplusplus
 }

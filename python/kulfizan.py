@@ -15,7 +15,7 @@ import pathlib
 
 SET_LENGTH = 369
 QUOTE_LENGTH = 4
-UNIT = 10**9
+LONGEST_SHEET = 65_536
 
 REFUSALS = {
     1: "torn: the sheet, the kind's word or the list of numbers breaks its form",
@@ -58,7 +58,8 @@ def load(where):
     library.kulfizan_read.argtypes = [data, size, numbers, size]
     library.kulfizan_write.argtypes = [numbers, size, data, size, counts]
     library.kulfizan_quote.argtypes = [data, size, data, size, signed, signed, signed, counts, size]
-    for call in (library.kulfizan_read, library.kulfizan_write, library.kulfizan_quote):
+    library.kulfizan_run.argtypes = [data, size, ctypes.c_uint8, data, size, counts]
+    for call in (library.kulfizan_read, library.kulfizan_write, library.kulfizan_quote, library.kulfizan_run):
         call.restype = ctypes.c_uint8
     return library
 
@@ -78,6 +79,13 @@ def signed(values):
     return (ctypes.c_int64 * max(1, len(checked)))(*checked), len(checked)
 
 
+def written(call, *given, room):
+    """What a call writes into a buffer of so many bytes."""
+    buffer, length = ctypes.create_string_buffer(room), ctypes.c_uint64()
+    accepted(call(*given, buffer, room, ctypes.byref(length)))
+    return buffer.raw[: length.value]
+
+
 def read(sheet):
     """The set of a sheet's bytes."""
     sheet = bytes(sheet)
@@ -89,10 +97,7 @@ def read(sheet):
 def write(values):
     """The one sheet of a set, as bytes."""
     numbers, count = signed(values)
-    room = 24 * (SET_LENGTH + 2)
-    buffer, length = ctypes.create_string_buffer(room), ctypes.c_uint64()
-    accepted(LIBRARY.kulfizan_write(numbers, count, buffer, room, ctypes.byref(length)))
-    return buffer.raw[:length.value]
+    return written(LIBRARY.kulfizan_write, numbers, count, room=LONGEST_SHEET)
 
 
 def quote(sheet, kind, age, year, span=0):
@@ -103,3 +108,9 @@ def quote(sheet, kind, age, year, span=0):
     accepted(LIBRARY.kulfizan_quote(sheet, len(sheet), word, len(word), age, year, span, numbers, QUOTE_LENGTH))
     lower, upper, printed, steps = numbers
     return Quote(lower, upper, steps if printed else None)
+
+
+def run(data, ends=False):
+    """The whole run of the desk: a sheet and then query lines, as bytes, to what the program `quotes` prints, or `ends`."""
+    data = bytes(data)
+    return written(LIBRARY.kulfizan_run, data, len(data), bool(ends), room=5 * len(data) + 139)

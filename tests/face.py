@@ -60,12 +60,20 @@ def read(library, sheet, before):
     return number, kept(values, before)
 
 
-def write(library, numbers, before, length):
-    """The number that writing a set gives, and the length and the bytes after it."""
+def into(call, *given, before, length):
+    """The number that a writing call gives, and the length and the bytes after it."""
     buffer, told = ctypes.create_string_buffer(before + bytes([GUARD]), len(before) + 1), ctypes.c_uint64(length)
-    number = library.kulfizan_write(held("q", numbers), len(numbers), buffer, len(before), ctypes.byref(told))
+    number = call(*given, buffer, len(before), ctypes.byref(told))
     after = buffer.raw
     return number, told.value, after[:-1] if after[-1] == GUARD else "written past the end"
+
+
+def write(library, numbers, before, length):
+    return into(library.kulfizan_write, held("q", numbers), len(numbers), before=before, length=length)
+
+
+def run(library, data, ends, before, length):
+    return into(library.kulfizan_run, data, len(data), ends, before=before, length=length)
 
 
 def quote(library, sheet, word, age, year, span, before):

@@ -20,7 +20,7 @@ use Rattle.sheet.specs.declared.Reading.{Reading}
 use Rattle.sheet.specs.declared.Written.{Written}
 use Rattle.sheet.specs.Sheet.{readSheet, sheetText, writeRefusal, writtenLength, writeAnswer, writtenBuffer}
 use Rattle.kulfizan.specs.Face.{setLength, isSex, sexOf, areSet, setOf, setOver, readNo, numbersAfter}
-use Rattle.kulfizan.specs.Face.{writeNo, bufferAfter, lengthAfter}
+use Rattle.kulfizan.specs.Face.{toldLength, writeNo, bufferAfter, lengthAfter}
 
 -- ---- the sex
 
@@ -115,38 +115,38 @@ pub write-torn : (ns : List ℤ) (buffer : List ℕ) (len : ℕ) → areSet ns �
 unfolding writeNo bufferAfter lengthAfter refusalNumber
 write-torn ns buffer len e n = (n ∙ rw e, (rw e, rw e))
 
--- an accepted writing tells the length of the sheet
-told-length : (p : Params) (room : ℕ) → refusalNumber (writeRefusal p room) ≡ 0
-    → writtenLength p room ≡ length (sheetText p)
-unfolding writeRefusal writtenLength refusalNumber
-told-length p room = go (inLimits p) (leb (length (sheetText p)) room)
+-- the number of a writer's answer, and the length told
+abbrev pub Told : Written → ℕ → ℕ → ℕ → Type 0
+Told got before number told = (number ≡ refusalNumber (got .refusal)) × (told ≡ toldLength got before)
+
+module _ (got : Written) (before : ℕ) {number : ℕ} (n : number ≡ refusalNumber (got .refusal)) where
+  pub told-accepted : number ≡ 0 → Told got before number (got .len)
+  unfolding toldLength
+  told-accepted h = (n, rw (← n, h))
+
+  pub told-refused : (number ≡ 0 → ⊥) → Told got before number before
+  unfolding toldLength
+  told-refused h = (n, rw (← n, ne-eqb number 0 h))
+
+-- the writer's length is told where the call is accepted
+told-length : (p : Params) (room before : ℕ) → toldLength (writeAnswer p room) before
+    ≡ cond (eqb (refusalNumber (writeRefusal p room)) 0) (length (sheetText p)) before
+unfolding toldLength writeAnswer writeRefusal writtenLength refusalNumber
+told-length p room before = go (inLimits p) (leb (length (sheetText p)) room)
   where
-    go : (a b : Bool) → refusalNumber (cond a (cond b Accepted Short) OffScale) ≡ 0
-        → cond a (cond b (length (sheetText p)) 0) 0 ≡ length (sheetText p)
-    go true true e = refl
-    go true false e = absurd (omega arith)
-    go false b e = absurd (omega arith)
+    go : (a b : Bool) → let no = refusalNumber (cond a (cond b Accepted Short) OffScale) in
+        cond (eqb no 0) (cond a (cond b (length (sheetText p)) 0) 0) before ≡ cond (eqb no 0) (length (sheetText p)) before
+    go true true = refl
+    go true false = refl
+    go false b = refl
 
-module _ (ns : List ℤ) (buffer : List ℕ) (len : ℕ) (t : areSet ns ≡ true) {p : Params} (e : p ≡ setOf ns) {got : Written}
-    {after : List ℕ} (w : (got ≡ writeAnswer p (length buffer)) × (after ≡ writtenBuffer p buffer)) {no : ℕ}
-    (n : no ≡ refusalNumber (got .refusal)) where
-  -- the number and the bytes are the call's, accepted or not
-  number : no ≡ writeNo ns (length buffer)
-  unfolding writeNo writeAnswer
-  number = n ∙ rw (t, ← e) (ap (λ (g : Written). refusalNumber (g .refusal)) (w .0))
-
-  bytes : after ≡ bufferAfter ns buffer
-  unfolding bufferAfter
-  bytes = rw (t, ← e) (w .1)
-
-  pub write-refused : (no ≡ 0 → ⊥) → Wrote ns buffer len no after len
-  unfolding lengthAfter
-  write-refused h = (number, (bytes, rw (← number, ne-eqb no 0 h)))
-
-  pub write-accepted : no ≡ 0 → Wrote ns buffer len no after (got .len)
-  unfolding lengthAfter writeNo writeAnswer
-  write-accepted h =
-      let z : refusalNumber (writeRefusal p (length buffer)) ≡ 0 =
-      sym (ap (λ (g : Written). refusalNumber (g .refusal)) (w .0)) ∙ sym n ∙ h in
-      let k = ap (λ (g : Written). g .len) (w .0) ∙ told-length p (length buffer) z in
-      (number, (bytes, k ∙ rw (← number, h, e)))
+pub write-told : (ns : List ℤ) (buffer : List ℕ) (len : ℕ) → areSet ns ≡ true → {p : Params} → p ≡ setOf ns
+    → {got : Written} {after : List ℕ}
+    → (got ≡ writeAnswer p (length buffer)) × (after ≡ writtenBuffer p buffer) → {number told : ℕ}
+    → Told got len number told → Wrote ns buffer len number after told
+unfolding writeNo bufferAfter lengthAfter writeAnswer
+write-told ns buffer len t {p} e w n =
+    let k = n .1 ∙ ap (λ (g : Written). toldLength g len) (w .0) ∙ told-length p (length buffer) len in (
+      n .0 ∙ rw (t, ← e) (ap (λ (g : Written). refusalNumber (g .refusal)) (w .0)),
+      (rw (t, ← e) (w .1), rw (t, ← e) k),
+    )

@@ -11,6 +11,7 @@ use Rattle.params.specs.declared.Sex.{Sex}
 use Rattle.params.specs.declared.Sex.the-variants.{M, F}
 use Rattle.params.specs.declared.Refusal.the-variants.{Torn, Short}
 use Rattle.params.specs.Refusals.{refusalNumber}
+use Rattle.sheet.specs.declared.Written.{Written}
 use Rattle.sheet.specs.Sheet.{values, paramsOf, sheetText, readSheet, writeRefusal, writtenBuffer}
 
 -- ---- a set's numbers
@@ -65,6 +66,10 @@ unfoldable pub numbersAfter : List ℕ → List ℤ → List ℤ
 numbersAfter sheet before = cond (eqb (readNo sheet (length before)) 0) (setOver (readSheet sheet .set) before) before
 
 -- ---- writing numbers into a sheet
+
+-- a writer's length where it accepts, else what stood there
+unfoldable pub toldLength : Written → ℕ → ℕ
+toldLength got before = cond (eqb (refusalNumber (got .refusal)) 0) (got .len) before
 
 -- torn where the numbers are no set's, else the writer's refusal
 unfoldable pub writeNo : List ℤ → ℕ → ℕ

@@ -1,17 +1,21 @@
-// The library's face for programs in other languages: a sheet read into numbers, numbers written as a sheet, and a query of
-// a sheet answered.
+// The library's face for programs in other languages: a sheet read into numbers, numbers written as a sheet, a query of a
+// sheet answered, and the whole run of the desk.
 ghost use mathlib.Core.Path.{_≡_};
 ghost use Prim.Native.Nat.{_+_, _≤_, _<_};
 ghost use mathlib.Core.List.{[], _∷_};
 ghost use lib.ListN.{length, drop};
+ghost use Rattle.params.specs.Refusals.{refusalNumber};
 ghost use Rattle.sheet.specs.Sheet.{runFrom};
 ghost use Rattle.kulfizan.specs.Face.{setLength, sexNumber, sexOf, areSet, setOf, over, setOver};
-ghost use Rattle.kulfizan.specs.Face.{readNo, numbersAfter, writeNo, bufferAfter, lengthAfter};
+ghost use Rattle.kulfizan.specs.Face.{readNo, numbersAfter, toldLength, writeNo};
+ghost use Rattle.kulfizan.specs.Face.{bufferAfter, lengthAfter};
+ghost use Rattle.kulfizan.specs.Run.{runNo, runBuffer, runLength};
 ghost use Rattle.sheet_quote.specs.SheetQuote.{sheetAnswer, quoteNo, quoteAfter};
 use params::AGES;
 use params::Params;
 use params::Refusal;
 use params::Sex;
+use sheet::Written;
 
 // The sex, a, theta, K and k.
 const HEAD: usize = 5;
@@ -144,6 +148,19 @@ fn set_of(values: &[i64]) -> Params
     }
 }
 
+// The number of a writer's answer, with its length told where it is accepted.
+fn tell(got: Written, len: &mut u64) -> u8
+    ensures { λ r. ⌜ r ≡ refusalNumber (got .refusal) ⌝ }
+    ensures { λ r. ⌜ now (len .exit) ≡ toldLength got (now (len .entry)) ⌝ }
+{
+    let refusal = got.refusal;
+    let number = params::refusal_number(refusal);
+    if number == 0 {
+        *len = got.len as u64;
+    }
+    number
+}
+
 // Writes the sheet of a set's 369 numbers into the buffer, and its length. The refusal's number, or 0; refused, the call
 // leaves every byte and the length as they were.
 #[no_mangle]
@@ -155,13 +172,7 @@ pub extern "C" fn kulfizan_write(values: &[i64], buffer: &mut [u8], len: &mut u6
     if !are_set(values) {
         return params::refusal_number(Refusal::Torn);
     }
-    let got = sheet_writer::write(set_of(values), buffer);
-    let refusal = got.refusal;
-    let number = params::refusal_number(refusal);
-    if number == 0 {
-        *len = got.len as u64;
-    }
-    number
+    tell(sheet_writer::write(set_of(values), buffer), len)
 }
 
 // Answers a query of a sheet in the first four numbers: the two ends in units of 10^-9, 1 where the figure is printed and 0
@@ -181,4 +192,16 @@ pub extern "C" fn kulfizan_quote(
         (now (quote .entry)) ⌝ }
 {
     sheet_quote::quote_into(sheet, kind, age, year, span, quote)
+}
+
+// Writes the whole run of the desk on an input into the buffer, and its length: as the program `quotes` prints it where
+// `ends` is 0, else as `ends` does. 0, or 7 where the buffer has fewer than 5·n + 139 bytes for n bytes of input; refused, the
+// call leaves every byte and the length as they were.
+#[no_mangle]
+pub extern "C" fn kulfizan_run(input: &[u8], ends: u8, out: &mut [u8], len: &mut u64) -> u8
+    ensures { λ r. ⌜ r ≡ runNo (now (input .entry)) (length (now (out .entry))) ⌝ }
+    ensures { λ r. ⌜ now (out .exit) ≡ runBuffer (now (input .entry)) ends (now (out .entry)) ⌝ }
+    ensures { λ r. ⌜ now (len .exit) ≡ runLength (now (input .entry)) ends (length (now (out .entry))) (now (len .entry)) ⌝ }
+{
+    tell(desk::run(ends != 0, input, out), len)
 }

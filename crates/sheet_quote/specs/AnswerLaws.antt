@@ -18,7 +18,7 @@ use Rattle.quote.specs.declared.Quote.{Quote}
 use Rattle.quote.specs.declared.Answer.{Answer}
 use Rattle.quote.specs.declared.Answer.the-variants.{Quoted, Refused}
 use Rattle.quote.specs.Quote.{answerOf}
-use Rattle.query.specs.Query.{onOffer, readWord, alone}
+use Rattle.query.specs.Query.{onOffer, readWord}
 use Rattle.query.proofs.QuerySteps.{followed, at-end}
 use Rattle.sheet_quote.specs.SheetQuote.{kindOf, answerTo, sheetAnswer, quoteLength, printedNumber, stepsNumber}
 use Rattle.sheet_quote.specs.SheetQuote.{quoteNumbers, quoteOver, quotedNo, quotedAfter, quoteNo, quoteAfter}

@@ -1,10 +1,9 @@
 -- `kulfizan_write` meets its contract: torn where the numbers are no set's, else what the writer answers.
 use mathlib.Core.Path.{_≡_, sym, _∙_}
 use mathlib.Core.Bool.{true}
-use native.Mathlib.Omega.{arith}
 use borrow.Author.Tests.{not-true, not-false}
 use Rattle.kulfizan.specs.Face.{areSet}
-use Rattle.kulfizan.specs.AnswerLaws.{as-many, write-torn, write-refused, write-accepted}
+use Rattle.kulfizan.specs.AnswerLaws.{as-many, write-torn, write-told}
 use borrow.Author.Needs.{needs}
 use Rattle.kulfizan.proofs.kulfizan_write.Statement.{statement}
 use Rattle.kulfizan.proofs.kulfizan_write.Tie as tie
@@ -31,30 +30,17 @@ set-of-requires c κs = as-many _ (a-set c)
 write-requires : tie.Need-write-requires
 write-requires c κs = search needs
 
-refusal-number-requires-2 : tie.Need-refusal-number-requires-2
-refusal-number-requires-2 c κs = search needs
+tell-requires : tie.Need-tell-requires
+tell-requires c κs = search needs
 
 same-length : tie.Need-same-length
 same-length c = search needs
 
 returns-2 : tie.Need-returns-2
 returns-2 c =
-    let n = c .before in
-    let w = n .before .before .before in
+    let w = c .before .before .before .before in
     let s = w .before .before in
-    write-accepted _ _ _ (a-set (s .before)) (s .set-of .ensures) (w .write .ensures) (n .refusal-number2 .ensures)
-    (omega (arith, c .if2 .taken))
-
-same-length-2 : tie.Need-same-length-2
-same-length-2 c = search needs
-
-returns-3 : tie.Need-returns-3
-returns-3 c =
-    let n = c .before in
-    let w = n .before .before .before in
-    let s = w .before .before in
-    write-refused _ _ _ (a-set (s .before)) (s .set-of .ensures) (w .write .ensures) (n .refusal-number2 .ensures)
-    (λ e. omega (arith, e, c .if2 .left))
+    write-told _ _ _ (a-set (s .before)) (s .set-of .ensures) (w .write .ensures) (c .tell .ensures)
 
 pub kulfizan-write-spec : {M : Type 1} → statement M
 kulfizan-write-spec =
@@ -65,8 +51,6 @@ kulfizan-write-spec =
     returns
     set-of-requires
     write-requires
-    refusal-number-requires-2
+    tell-requires
     same-length
-    returns-2
-    same-length-2
-    returns-3)
+    returns-2)

@@ -1,6 +1,6 @@
 -- `sheet_answer` meets its contract: torn where the word is no kind's, else the sheet's refusal, else the answer of its set.
 use borrow.Author.Needs.{needs}
-use mathlib.Core.Path.{_≡_, _∙_}
+use mathlib.Core.Path.{_≡_}
 use Prim.Native.Nat.{ℕ}
 use native.Mathlib.Omega.{arith}
 use mathlib.Core.List.{[]}
