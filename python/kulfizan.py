@@ -28,8 +28,8 @@ REFUSALS = {
 }
 
 Quote = collections.namedtuple("Quote", "lower upper steps")
-Quote.__doc__ = """The two ends in units of 10^-9, and the figure's number of steps (of 0.00001, for an expectancy 0.1), None where
-it is open."""
+Quote.__doc__ = """The two ends in units of 10^-9, and the figure's number of steps (of 0.00001, for an expectancy 0.1),
+None where it is open."""
 
 
 class Refused(Exception):

@@ -16,9 +16,8 @@ SET_LENGTH, QUOTE_LENGTH = 369, 4
 
 def built():
     """The module of python/kulfizan.py over the library as it is built from the sources, or None."""
-    done = subprocess.run(
-        ["make", "--no-print-directory", "lib", "examples"], cwd=ROOT, stdout=subprocess.PIPE, stderr=subprocess.STDOUT, check=False
-    )
+    make = ["make", "--no-print-directory", "lib", "examples"]
+    done = subprocess.run(make, cwd=ROOT, stdout=subprocess.PIPE, stderr=subprocess.STDOUT, check=False)
     if done.returncode:
         print(done.stdout.decode(errors="replace"))
         return None

@@ -1,5 +1,6 @@
 """The library's calls from other languages: every answer to a query of a sheet against a second implementation, the refusal,
-both ends and the figure, with every number that was lent; the Python module's own functions; and the example in C.
+both ends and the figure, with every number that was lent; the whole run of the desk, with every byte that was lent; the Python
+module's own functions; and the example in C.
 
 Sheets, sets and the two calls between them are tests/test_sheets.py. An argument is taken as the seed.
 """
@@ -12,13 +13,14 @@ import subprocess
 import sys
 import tempfile
 
+import desk
 import face
 import sheets
 import test_quotes
 from face import GREATEST, LEAST, QUOTE_LENGTH, ROOT
 from grid import flat
 from quotes import KINDS, OPEN, Quotes, figure
-from reader import KEYS, LIMITS, SHORT, SIZES, TORN, numbers_of, params_of, read
+from reader import KEYS, LIMITS, LONGEST, SHORT, SIZES, TORN, numbers_of, params_of, read
 
 SEED = 20142065
 PLACES = (QUOTE_LENGTH, QUOTE_LENGTH, QUOTE_LENGTH, QUOTE_LENGTH + 1, 9, QUOTE_LENGTH - 1, 2, 1, 0)
@@ -26,8 +28,26 @@ PLACES = (QUOTE_LENGTH, QUOTE_LENGTH, QUOTE_LENGTH, QUOTE_LENGTH + 1, 9, QUOTE_L
 
 # ---- queries of sheets
 
+AGES = (LEAST, LEAST + 1, -(2**32) + 65, -1, 0, 65, 120, 121, 2**32 + 65, GREATEST)
+YEARS = (LEAST, 2013, 2014, 2064, 2065, 2184, 2185, 2**32 + 2020, GREATEST)
+SPANS = (LEAST, -1, 0, 1, 2**32, 2**32 + 1, GREATEST)
+
+
+def any_number(draw):
+    """A number of 64 bits, of any length."""
+    return draw.randint(LEAST, GREATEST) >> draw.randrange(64)
+
+
+def at_ends(draw):
+    """Numbers at and past the limits of the table and at both ends of 64 bits, in all combinations, and any others."""
+    yield from ((kind, age, year, span) for kind in KINDS for age in AGES for year in YEARS for span in SPANS)
+    for _ in range(300):
+        yield (draw.choice(KINDS), *(draw.choice((65, 2020, 0, any_number(draw))) for _ in range(3)))
+
+
 def cases(draw):
     """Sheets with queries: all limits, every refusal, realistic and extreme sets, and figures that are open."""
+    yield test_quotes.case("64 bits", flat(), list(at_ends(draw)))
     yield from test_quotes.fixed_cases()
     yield from test_quotes.limit_cases(draw)
     yield from test_quotes.refused_cases(draw)
@@ -112,6 +132,39 @@ def compare_words(count, draw, library):
         count.take(got == (TORN, before), f"the kind {word}: {got[0]}")
 
 
+# ---- the whole run
+
+def inputs(draw):
+    """Sheets with lines after them: good, torn and refused ones, many, and none; refused sheets; and inputs at the longest."""
+    sheet = sheets.text(flat())
+    queries = (("ecoh", 65, 2020, 0), ("q", 65, 2020, 0), ("coh", 119, 2020, 2), ("q", 121, 1, -1), ("per", 0, 2064, 122))
+    lines = [test_quotes.line_of(query) for query in queries]
+    good = lines[0]
+    lines += [b"\n", b"kind=q\n", good[:-1] + b" \n", good.upper(), draw.randbytes(50) + b"\n"]
+    yield from (b"", b"\n", sheet, sheet[:-1], b"\n" + sheet, sheets.text(dict(flat(), a=SIZES["a"] + 1)) + good)
+    yield sheets.text(dict(flat(), A=[0] * 91)) + good
+    for size in (LONGEST - 1, LONGEST, LONGEST + 1):
+        yield (sheet + good * size)[:size]
+        yield sheet.ljust(size, b"\n")
+    for _ in range(60):
+        given = draw.choice((sheet, sheets.text(sheets.realistic(draw))))
+        data = given + b"".join(draw.choices(lines, k=draw.randrange(12)))
+        yield draw.choice((data, data, data[:-1], data[draw.randrange(20):], data + good[: draw.randrange(len(good))]))
+
+
+def compare_runs(count, draw, module):
+    for data in inputs(draw):
+        for ends in (0, draw.choice((1, 2, 128, 255))):
+            wanted = desk.run(data, ends != 0)
+            count.take(module.run(data, ends != 0) == wanted, f"a run of {len(data)} bytes gives something else")
+            need = 5 * len(data) + 139
+            for room in (need, need - 1, need + draw.randrange(1, 300), draw.randrange(need)):
+                before, length = draw.randbytes(room), draw.getrandbits(64)
+                got = face.run(module.LIBRARY, data, ends, before, length)
+                after = (SHORT, length, before) if room < need else (0, len(wanted), wanted + before[len(wanted):])
+                count.take(got == after, f"a run of {len(data)} bytes, ends {ends}, room {room}: {got[:2]} and not {after[:2]}")
+
+
 # ---- the Python module
 
 def raised(call, *given):
@@ -137,14 +190,16 @@ def compare_module(count, draw, module):
         wanted = None if no else (*numbers[:2], numbers[3] if numbers[2] else None)
         got = raised(module.quote, sheet, kind, age, year) or tuple(module.quote(sheet, kind, age, year))
         count.take(got == (no or wanted), f"quote gives {got} and not {no or wanted}")
+    off_scale, steep = sheets.text(dict(flat(), a=SIZES["a"] + 1)), sheets.text(dict(flat(), A=[0] * 91))
     refusals = [
-        (TORN, module.read, b""), (2, module.read, sheets.text(dict(flat(), a=SIZES["a"] + 1))), (TORN, module.write, []),
-        (TORN, module.write, values + [0]), (TORN, module.write, [2] + values[1:]), (2, module.write, [0, GREATEST] + values[2:]),
-        (TORN, module.quote, sheet, "", 65, 2020), (TORN, module.quote, sheet, "é", 65, 2020), (3, module.quote, sheet, "q", 121, 2020),
-        (4, module.quote, sheet, "q", 65, 2185), (5, module.quote, sheet, "q", 65, 2020, 1),
-        (6, module.quote, sheets.text(dict(flat(), A=[0] * 91)), "q", 65, 2020), (3, module.quote, sheet, "q", LEAST, LEAST, LEAST),
-        ("OverflowError", module.quote, sheet, "q", GREATEST + 1, 2020), ("OverflowError", module.write, [0, LEAST - 1] + values[2:]),
-        ("TypeError", module.quote, sheet, "q", 65.5, 2020),
+        (TORN, module.read, b""), (2, module.read, off_scale), (TORN, module.write, []), (TORN, module.write, values + [0]),
+        (TORN, module.write, [2] + values[1:]), (2, module.write, [0, GREATEST] + values[2:]),
+        (TORN, module.quote, sheet, "", 65, 2020), (TORN, module.quote, sheet, "\u00e9", 65, 2020),
+        (2, module.quote, off_scale, "q", 121, 2020), (3, module.quote, sheet, "q", 121, 2020),
+        (3, module.quote, sheet, "q", LEAST, LEAST, LEAST), (4, module.quote, sheet, "q", 65, 2185),
+        (5, module.quote, sheet, "q", 65, 2020, 1), (6, module.quote, steep, "q", 65, 2020),
+        ("OverflowError", module.quote, sheet, "q", GREATEST + 1, 2020), ("TypeError", module.quote, sheet, "q", 65.5, 2020),
+        ("OverflowError", module.write, [0, LEAST - 1] + values[2:]),
     ]
     for wanted, call, *rest in refusals:
         got = raised(call, *rest)
@@ -180,7 +235,7 @@ def compare_places(count, module):
 def shown(data):
     """What the example prints for a sheet, and its exit status."""
     no, which = read(data)
-    no, numbers = answer(None if no else Quotes(params_of(which)), no, ("ecoh", 65, 2020, 0))
+    no, numbers = answer(None if no else Quotes(params_of(which)), no, ("ecoh", 65, 2015, 0))
     if no:
         return 1, f"no={no}\n"
     lower, upper, printed, steps = numbers
@@ -214,6 +269,7 @@ def main():
             compare_queries(count, counts, draw, module.LIBRARY, one)
         met(count, counts)
         compare_words(count, draw, module.LIBRARY)
+        compare_runs(count, draw, module)
         compare_module(count, draw, module)
         compare_places(count, module)
         compare_example(count, draw)
