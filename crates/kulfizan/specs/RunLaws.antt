@@ -10,8 +10,8 @@ use Rattle.params.specs.Refusals.{refusalNumber}
 use Rattle.sheet.specs.declared.Written.{Written}
 use Rattle.desk_line.specs.Into.{textAnswer, Into}
 use Rattle.desk.specs.Desk.{runOf, runRoom}
-use Rattle.kulfizan.specs.Face.{toldLength}
-use Rattle.kulfizan.specs.AnswerLaws.{Told}
+use Rattle.set_numbers.specs.SetNumbers.{toldLength}
+use Rattle.set_numbers.specs.AnswerLaws.{Told}
 use Rattle.kulfizan.specs.Run.{withEnds, runNo, runBuffer, runLength}
 
 -- the number, the buffer and the length after a run

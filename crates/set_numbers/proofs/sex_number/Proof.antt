@@ -1,9 +1,9 @@
 -- `sex_number` meets its contract.
 use borrow.Author.Needs.{needs}
 use mathlib.Core.Path.{sym, ap}
-use Rattle.kulfizan.specs.Face.{sexNumber}
-use Rattle.kulfizan.proofs.sex_number.Statement.{statement}
-use Rattle.kulfizan.proofs.sex_number.Tie as tie
+use Rattle.set_numbers.specs.SetNumbers.{sexNumber}
+use Rattle.set_numbers.proofs.sex_number.Statement.{statement}
+use Rattle.set_numbers.proofs.sex_number.Tie as tie
 
 enum-told : tie.Need-enum-told
 enum-told c = search needs

@@ -1,9 +1,9 @@
 -- `tell` meets its contract: the length is told where the number is 0.
 use borrow.Author.Needs.{needs}
 use native.Mathlib.Omega.{arith}
-use Rattle.kulfizan.specs.AnswerLaws.{told-accepted, told-refused}
-use Rattle.kulfizan.proofs.tell.Statement.{statement}
-use Rattle.kulfizan.proofs.tell.Tie as tie
+use Rattle.set_numbers.specs.AnswerLaws.{told-accepted, told-refused}
+use Rattle.set_numbers.proofs.tell.Statement.{statement}
+use Rattle.set_numbers.proofs.tell.Tie as tie
 
 refusal-number-requires : tie.Need-refusal-number-requires
 refusal-number-requires c κs = search needs

@@ -1,12 +1,12 @@
--- `kulfizan_write` meets its contract: torn where the numbers are no set's, else what the writer answers.
+-- `write_from` meets its contract: torn where the numbers are no set's, else what the writer answers.
 use mathlib.Core.Path.{_≡_, sym, _∙_}
 use mathlib.Core.Bool.{true}
 use borrow.Author.Tests.{not-true, not-false}
-use Rattle.kulfizan.specs.Face.{areSet}
-use Rattle.kulfizan.specs.AnswerLaws.{as-many, write-torn, write-told}
+use Rattle.set_numbers.specs.SetNumbers.{areSet}
+use Rattle.set_numbers.specs.AnswerLaws.{as-many, write-torn, write-told}
 use borrow.Author.Needs.{needs}
-use Rattle.kulfizan.proofs.kulfizan_write.Statement.{statement}
-use Rattle.kulfizan.proofs.kulfizan_write.Tie as tie
+use Rattle.set_numbers.proofs.write_from.Statement.{statement}
+use Rattle.set_numbers.proofs.write_from.Tie as tie
 
 -- past the first test
 a-set : (c : tie.Else1) → areSet (c .before .before .before .args .values .now) ≡ true
@@ -42,8 +42,8 @@ returns-2 c =
     let s = w .before .before in
     write-told _ _ _ (a-set (s .before)) (s .set-of .ensures) (w .write .ensures) (c .tell .ensures)
 
-pub kulfizan-write-spec : {M : Type 1} → statement M
-kulfizan-write-spec =
+pub write-from-spec : {M : Type 1} → statement M
+write-from-spec =
     tie.close
     (tie.spec
     are-set-requires

@@ -22,9 +22,9 @@ use Rattle.sheet.specs.declared.Reading.{Reading}
 use Rattle.sheet.specs.Sheet.{paramsOf, sheetText, readSheet, writeRefusal}
 use Rattle.sheet.specs.SetTrip.{params-whole, values-length, values-params, params-values}
 use Rattle.sheet.specs.SheetTrip.{written-reads-back, read-writes-back}
-use Rattle.kulfizan.specs.Face.{setLength, sexNumber, setNumbers, isSex, sexOf, areSet, setOf, setOver}
-use Rattle.kulfizan.specs.Face.{readNo, numbersAfter, writeNo}
-use Rattle.kulfizan.specs.AnswerLaws.{as-many, first-sex, read-accepted}
+use Rattle.set_numbers.specs.SetNumbers.{setLength, sexNumber, setNumbers, isSex, sexOf, areSet, setOf, setOver}
+use Rattle.set_numbers.specs.SetNumbers.{readNo, numbersAfter, writeNo}
+use Rattle.set_numbers.specs.AnswerLaws.{as-many, first-sex, read-accepted}
 
 -- ---- a set and its numbers
 

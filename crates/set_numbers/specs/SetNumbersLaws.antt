@@ -12,7 +12,7 @@ use Rattle.params.specs.Set.{ages, ageOf}
 use Rattle.sheet.specs.Sheet.{forAges, ageValues, values, runFrom, paramsOf}
 use Rattle.sheet_ages.specs.Ages.{run}
 use Rattle.sheet_ages.specs.RunLaws.{Run, run-end}
-use Rattle.kulfizan.specs.Face.{setLength, sexNumber, setNumbers, sexOf, setOf, over, setOver}
+use Rattle.set_numbers.specs.SetNumbers.{setLength, sexNumber, setNumbers, sexOf, setOf, over, setOver}
 
 -- ---- a set's numbers in front
 

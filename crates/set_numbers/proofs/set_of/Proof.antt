@@ -5,11 +5,11 @@ use lib.ListN.{getD}
 use mir.Syntax.{w64}
 use mir.Val.{SFits}
 use mir.Facts.{toZ-ofZ}
-use Rattle.kulfizan.specs.Face.{sexOf}
-use Rattle.kulfizan.specs.FaceLaws.{set-taken}
+use Rattle.set_numbers.specs.SetNumbers.{sexOf}
+use Rattle.set_numbers.specs.SetNumbersLaws.{set-taken}
 use borrow.Author.Needs.{needs}
-use Rattle.kulfizan.proofs.set_of.Statement.{statement}
-use Rattle.kulfizan.proofs.set_of.Tie as tie
+use Rattle.set_numbers.proofs.set_of.Statement.{statement}
+use Rattle.set_numbers.proofs.set_of.Tie as tie
 
 shared-slice-copy-out-sex-of : tie.Need-shared-slice-copy-out-sex-of
 shared-slice-copy-out-sex-of c = search needs

@@ -2,10 +2,10 @@
 use native.Mathlib.Omega.{arith}
 use lib.ListN.{length-set}
 use mir.Facts.{toZ-ofZ}
-use Rattle.kulfizan.specs.FaceLaws.{four-stores}
+use Rattle.set_numbers.specs.SetNumbersLaws.{four-stores}
 use borrow.Author.Needs.{needs}
-use Rattle.kulfizan.proofs.put_four.Statement.{statement}
-use Rattle.kulfizan.proofs.put_four.Tie as tie
+use Rattle.set_numbers.proofs.put_four.Statement.{statement}
+use Rattle.set_numbers.proofs.put_four.Tie as tie
 
 mul-first : tie.Need-mul-first
 mul-first c = search needs

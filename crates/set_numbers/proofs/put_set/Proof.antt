@@ -8,11 +8,11 @@ use native.Mathlib.Numerals.{add-one}
 use lib.ListN.{length-set}
 use mir.Facts.{toZ-ofZ}
 use Rattle.params.specs.Set.{ages, ageOf, four-age}
-use Rattle.kulfizan.specs.Face.{setLength}
-use Rattle.kulfizan.specs.FaceLaws.{Front, front-length, front-self, front-over}
-use Rattle.kulfizan.specs.FaceLaws.{firstAges, head-put, age-put, ages-all}
-use Rattle.kulfizan.proofs.put_set.Statement.{statement}
-use Rattle.kulfizan.proofs.put_set.Tie as tie
+use Rattle.set_numbers.specs.SetNumbers.{setLength}
+use Rattle.set_numbers.specs.SetNumbersLaws.{Front, front-length, front-self, front-over}
+use Rattle.set_numbers.specs.SetNumbersLaws.{firstAges, head-put, age-put, ages-all}
+use Rattle.set_numbers.proofs.put_set.Statement.{statement}
+use Rattle.set_numbers.proofs.put_set.Tie as tie
 
 abbrev Inv-loop : tie.InvT-loop
 Inv-loop values₀ p x₀ values x = (x ≤ ages) × Front (firstAges p x) (5 + 4 * x) values₀ values

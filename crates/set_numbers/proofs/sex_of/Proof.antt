@@ -1,8 +1,8 @@
 -- `sex_of` meets its contract: the test is of the number's bits.
 use mathlib.Core.Path.{sym}
-use Rattle.kulfizan.specs.AnswerLaws.{sex-zero, sex-other}
-use Rattle.kulfizan.proofs.sex_of.Statement.{statement}
-use Rattle.kulfizan.proofs.sex_of.Tie as tie
+use Rattle.set_numbers.specs.AnswerLaws.{sex-zero, sex-other}
+use Rattle.set_numbers.proofs.sex_of.Statement.{statement}
+use Rattle.set_numbers.proofs.sex_of.Tie as tie
 
 returns : tie.Need-returns
 returns c = sym (sex-zero _ (c .before .fits .label) (c .if1 .taken))

@@ -13,9 +13,9 @@ use mir.Val.{SFits, toZ, ofZ}
 use mir.Facts.{toZ-ofZ}
 use Rattle.params.specs.Set.{ages}
 use Rattle.sheet_ages.specs.RunLaws.{Run, run-start}
-use Rattle.kulfizan.specs.FaceLaws.{run-put, run-all}
-use Rattle.kulfizan.proofs.run.Statement.{statement}
-use Rattle.kulfizan.proofs.run.Tie as tie
+use Rattle.set_numbers.specs.SetNumbersLaws.{run-put, run-all}
+use Rattle.set_numbers.proofs.run.Statement.{statement}
+use Rattle.set_numbers.proofs.run.Tie as tie
 
 abbrev Inv-loop : tie.InvT-loop
 Inv-loop values from out₀ age₀ out age = (age ≤ ages) × Run out from (drop 1 values) age

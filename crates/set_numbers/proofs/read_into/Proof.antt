@@ -1,9 +1,9 @@
--- `kulfizan_read` meets its contract: the sheet's refusal, else short, else the set's numbers.
+-- `read_into` meets its contract: the sheet's refusal, else short, else the set's numbers.
 use native.Mathlib.Omega.{arith}
-use Rattle.kulfizan.specs.AnswerLaws.{read-refused, read-short, read-accepted}
+use Rattle.set_numbers.specs.AnswerLaws.{read-refused, read-short, read-accepted}
 use borrow.Author.Needs.{needs}
-use Rattle.kulfizan.proofs.kulfizan_read.Statement.{statement}
-use Rattle.kulfizan.proofs.kulfizan_read.Tie as tie
+use Rattle.set_numbers.proofs.read_into.Statement.{statement}
+use Rattle.set_numbers.proofs.read_into.Tie as tie
 
 read-requires : tie.Need-read-requires
 read-requires c κs = search needs
@@ -43,8 +43,8 @@ returns-3 c =
     read-accepted _ _ (r .read .ensures) (n .refusal-number .ensures) (omega (arith, t .before .if1 .left))
     (omega (arith, t .if2 .left)) (p .put-set .ensures)
 
-pub kulfizan-read-spec : {M : Type 1} → statement M
-kulfizan-read-spec =
+pub read-into-spec : {M : Type 1} → statement M
+read-into-spec =
     tie.close
     (tie.spec
     read-requires

@@ -19,8 +19,8 @@ use Rattle.params.specs.Limits.{inLimits}
 use Rattle.sheet.specs.declared.Reading.{Reading}
 use Rattle.sheet.specs.declared.Written.{Written}
 use Rattle.sheet.specs.Sheet.{readSheet, sheetText, writeRefusal, writtenLength, writeAnswer, writtenBuffer}
-use Rattle.kulfizan.specs.Face.{setLength, isSex, sexOf, areSet, setOf, setOver, readNo, numbersAfter}
-use Rattle.kulfizan.specs.Face.{toldLength, writeNo, bufferAfter, lengthAfter}
+use Rattle.set_numbers.specs.SetNumbers.{setLength, isSex, sexOf, areSet, setOf, setOver, readNo, numbersAfter}
+use Rattle.set_numbers.specs.SetNumbers.{toldLength, writeNo, bufferAfter, lengthAfter}
 
 -- ---- the sex
 

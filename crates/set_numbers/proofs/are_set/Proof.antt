@@ -2,9 +2,9 @@
 use borrow.Author.Needs.{needs}
 use native.Mathlib.Omega.{arith}
 use mathlib.Core.Path.{sym}
-use Rattle.kulfizan.specs.AnswerLaws.{not-as-many, first-zero, first-other}
-use Rattle.kulfizan.proofs.are_set.Statement.{statement}
-use Rattle.kulfizan.proofs.are_set.Tie as tie
+use Rattle.set_numbers.specs.AnswerLaws.{not-as-many, first-zero, first-other}
+use Rattle.set_numbers.proofs.are_set.Statement.{statement}
+use Rattle.set_numbers.proofs.are_set.Tie as tie
 
 returns : tie.Need-returns
 returns c = sym (not-as-many _ (λ e. omega (arith, e, c .if1 .taken)))
