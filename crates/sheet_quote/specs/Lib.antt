@@ -2,3 +2,4 @@
 pub mod SheetQuote
 -- laws
 pub mod AnswerLaws
+pub mod Kept
