@@ -1,15 +1,15 @@
-/* Kulfizan for C: parameter sheets of the AG2014 table, read and written. Link libkulfizan.a, which `rt staticlib
-   kulfizan` writes.
+/* Kulfizan for C: the AG2014 table with the parameters of a sheet. A sheet read and written, a query of it answered,
+   and the whole run of the desk. `make lib` writes libkulfizan.a and libkulfizan.so into target/lib.
 
    A set is 369 numbers: the sex (0 for M, 1 for F), a, theta, K, k, and then for ages 0 to 90 A, B, alpha, beta, in
    the sheet's order and its units.
 
-   A call gives 0, or the number of its refusal and then leaves everything that it is lent as it was:
-     1  torn: the sheet, or the list of numbers, breaks its form
-     2  off scale: a parameter, or K + 171*theta, is past its size
-     7  short: what is lent has too little room
-   The lowest number that applies is given. No pointer is null, also where its length is 0, and nothing that is written
-   overlaps anything else that is lent. */
+   A call gives 0, or the number of its refusal and then leaves everything that it is lent as it was. The lowest number
+   that applies is given.
+
+   The caller sees to it that no pointer is null, also where its length is 0; that each points to as many elements as its
+   length says; and that nothing that is written overlaps anything else that is lent. Nothing else is asked: each call
+   answers every input. */
 #ifndef KULFIZAN_H
 #define KULFIZAN_H
 
@@ -17,6 +17,25 @@
 #include <stdint.h>
 
 #define KULFIZAN_SET_LENGTH 369
+#define KULFIZAN_QUOTE_LENGTH 4
+
+/* The longest sheet. */
+#define KULFIZAN_LONGEST_SHEET 65536
+
+/* The room that a run of n bytes of input wants. */
+#define KULFIZAN_RUN_ROOM(n) (5 * (size_t)(n) + 139)
+
+/* The refusals, and none. */
+enum kulfizan_refusal {
+    KULFIZAN_ACCEPTED = 0,
+    KULFIZAN_TORN = 1,         /* the sheet, the kind's word or the list of numbers breaks its form */
+    KULFIZAN_OFF_SCALE = 2,    /* a parameter, or K + 171*theta, is past its size */
+    KULFIZAN_NO_SUCH_AGE = 3,  /* the age is outside 0 to 120 */
+    KULFIZAN_NO_SUCH_YEAR = 4, /* the year is outside the kind's range */
+    KULFIZAN_NO_SUCH_SPAN = 5, /* the span is outside 0 to 121 - age; for q and expectancies, not 0 */
+    KULFIZAN_STEEP = 6,        /* a needed cell's log force leaves its range */
+    KULFIZAN_SHORT = 7         /* what is lent has too little room */
+};
 
 #ifdef __cplusplus
 extern "C" {
@@ -31,6 +50,21 @@ uint8_t kulfizan_read(const uint8_t *sheet, size_t sheet_length, int64_t *values
    take the sheet. */
 uint8_t kulfizan_write(const int64_t *values, size_t values_length, uint8_t *buffer, size_t buffer_length,
                        uint64_t *length);
+
+/* Answers one query of a sheet. The kind is one of the words q, coh, per, ecoh and eper, with no byte after it. The first
+   four numbers of the quote are then the lower end and the upper end in units of 10^-9, 1 where the figure is printed and
+   0 where it is open, and the figure's number of steps (of 0.00001, for an expectancy 0.1), 0 where it is open; numbers
+   after them keep their values. Torn where the sheet or the kind is, off scale, no such age, year or span, steep, and
+   short where there are fewer than four numbers. */
+uint8_t kulfizan_quote(const uint8_t *sheet, size_t sheet_length, const uint8_t *kind, size_t kind_length, int64_t age,
+                       int64_t year, int64_t span, uint64_t *quote, size_t quote_length);
+
+/* Writes the whole run of the desk into the buffer, and its length; bytes after the output keep their values. The input is
+   a sheet and then query lines, as the programs take it from standard input; with `ends` 0 the output is what the program
+   `quotes` prints, with any other number what `ends` prints. A refused sheet and a refused query are lines of the output.
+   Short where the buffer has fewer than KULFIZAN_RUN_ROOM(input_length) bytes, and no other refusal. */
+uint8_t kulfizan_run(const uint8_t *input, size_t input_length, uint8_t ends, uint8_t *buffer, size_t buffer_length,
+                     uint64_t *length);
 
 #ifdef __cplusplus
 }

@@ -1,64 +1,21 @@
 """The sheet's reader and writer against a second reader and writer, written from paper 01.
 
-It hands sheets and raw sets by the thousand to the program of crates/sheets, on its standard input, and compares what
-the program prints: the refusal, the set, the length and every byte of the buffer. An argument is taken as the seed, so
-that a run can be repeated. With --write it writes the program's stored input and output anew.
+It hands sheets and sets by the thousand to the library's calls and compares the refusal, every number or byte that was lent,
+and the length. An argument is taken as the seed, so that a run can be repeated.
 """
-import collections
-import functools
-import pathlib
 import random
-import subprocess
 import sys
 import time
 
+import face
+from face import GREATEST, LEAST, SET_LENGTH
 from grid import flat
-from reader import BLANK, KEYS, LIMITS, LONGEST, SIZES, YEARS, Set, in_limits, lines_of, numbers_of, read, sheet_of, text, write
-
-ROOT = pathlib.Path(__file__).resolve().parent.parent
-PROGRAM = ROOT / "target" / "bin" / "sheets"
-CRATE = ROOT / "crates" / "sheets"
-
-# ---- records of the program
+from reader import KEYS, LIMITS, LONGEST, SHORT, SIZES, TORN, YEARS, Set, in_limits, lines_of, numbers_of, read, sheet_of
+from reader import text, write
 
 FILL = b"\xaa"
 LARGEST_ROOM, LARGEST_SHEET = 16_384, 70_000
-LARGEST = 2**63 - 1
-
-# no: the refusal of a sheet; given: the set to be written
-Record = collections.namedtuple("Record", "name mode data room no given")
-
-
-def sheet_record(name, data, room):
-    return Record(name, 0, data, room, *read(data))
-
-
-def raw_number(v):
-    return bytes([v < 0]) + (-1 - v if v < 0 else v).to_bytes(8, "big")
-
-
-def raw_record(name, which, room):
-    data = bytes([which.sex == "F"]) + b"".join(map(raw_number, which.numbers))
-    return Record(name, 1, data, room, None, which)
-
-
-def stored(record):
-    return bytes([record.mode]) + len(record.data).to_bytes(4, "big") + record.room.to_bytes(4, "big") + record.data
-
-
-@functools.lru_cache(100)
-def printed_set(which):
-    return f" {which.sex} {' '.join(map(str, which.numbers))}\n".encode()
-
-
-def expected(record):
-    """What the program is to print for a record, in its parts."""
-    parts = []
-    if record.mode == 0:
-        parts = [("refusal of reading", b"R %d" % record.no), ("set", printed_set(record.given))]
-    no, length, buffer = write(record.given, FILL * record.room)
-    return parts + [("refusal of writing", b"W %d" % no), ("length", b" %d\n" % length), ("buffer", buffer + b"\n")]
-
+UNTOLD = 2**64 - 2
 
 # ---- sets
 
@@ -94,10 +51,15 @@ def edge_set(sign):
 
 # ---- the sheets of the test
 
-def with_room(draw, record):
-    """With a room of exactly what is written, one less, some more, or none."""
-    length = len(sheet_of(record.given))
-    return record._replace(room=draw.choice((length, length - 1, length + 1, length + draw.randrange(300), length, 0)))
+def any_room(draw, which):
+    """A room of exactly what is written, one less, some more, or none."""
+    length = len(sheet_of(which))
+    return draw.choice((length, length - 1, length + 1, length + draw.randrange(300), length, 0))
+
+
+def any_places(draw):
+    """Some more numbers than a set has, one less, or any."""
+    return draw.choice((SET_LENGTH + 1, SET_LENGTH + draw.randrange(30), SET_LENGTH - 1, 0, draw.randrange(SET_LENGTH)))
 
 
 def torn_at(draw, name, sheet):
@@ -244,119 +206,75 @@ def raw_sets(draw):
             yield f"edge set {sign}", which, room
     base = random_set(draw)
     for key, most in zip(KEYS, LIMITS):
-        extremes = (LARGEST, -LARGEST - 1, most + 1, -most - 1, draw.randint(-LARGEST - 1, LARGEST))
+        extremes = (GREATEST, LEAST, most + 1, -most - 1, draw.randint(LEAST, GREATEST))
         for v in extremes:
             yield f"{key} is {v}", changed(base, key, v), draw.choice((0, 5000, 9000))
     zero = Set("M", (0,) * len(KEYS))
-    most = LARGEST // YEARS
-    for theta in (LARGEST, -LARGEST - 1, most, most + 1, -most, -most - 1, 2_923_976_608, -2_923_976_609):
-        for period in (0, LARGEST, -LARGEST - 1, SIZES["K"], -SIZES["K"], 400):
+    most = GREATEST // YEARS
+    for theta in (GREATEST, LEAST, most, most + 1, -most, -most - 1, 2_923_976_608, -2_923_976_609):
+        for period in (0, GREATEST, LEAST, SIZES["K"], -SIZES["K"], 400):
             yield f"K is {period} and theta {theta}", changed(zero, "K", period, "theta", theta), 9000
     for i in range(100):
-        numbers = tuple(draw.randint(-LARGEST - 1, LARGEST) for _ in KEYS)
+        numbers = tuple(draw.randint(LEAST, GREATEST) for _ in KEYS)
         yield f"random numbers {i}", Set(draw.choice("MF"), numbers), draw.choice((0, 9000))
 
 
-def records(draw):
-    for name, data in sheets(draw):
-        yield with_room(draw, sheet_record(name, data, 0))
-    for name, which, room in raw_sets(draw):
-        yield raw_record(name, which, room)
+def no_sets(draw):
+    """Lists that are no set: too few or too many numbers, or a first that is no sex."""
+    numbers = numbers_in(random_set(draw))
+    for count in (0, 1, 4, 5, SET_LENGTH - 1, SET_LENGTH + 1, SET_LENGTH + 4, 2 * SET_LENGTH):
+        yield f"{count} numbers", (numbers * 2)[:count]
+    for first in (2, -1, 3, 256, 2**32, 2**32 + 1, 2**62, GREATEST, LEAST, LEAST + 1, draw.randint(2, GREATEST)):
+        yield f"the sex is {first}", [first] + numbers[1:]
+        yield f"the sex is {first}, and a number is off scale", [first] + numbers[1:-1] + [GREATEST]
 
 
 # ---- comparing
 
-def run(data):
-    return subprocess.run([PROGRAM], input=data, stdout=subprocess.PIPE, check=True).stdout
+def numbers_in(which):
+    """A set as the library has it."""
+    return ["MF".index(which.sex), *which.numbers]
 
 
-class Count:
-    passed = failed = 0
-
-    def take(self, good, said):
-        self.passed, self.failed = self.passed + good, self.failed + (not good)
-        if not good and self.failed <= 20:
-            print(said)
-
-
-def printed(out, at, record):
-    """The output of a record from a place on, in the parts of `expected`, and the place after it."""
-    parts = []
-    for line in "RW"[record.mode:]:
-        end = out.find(b"\n", at) + 1
-        parts += [out[at:at + len("R 0")], out[at + len("R 0"):end]]
-        at = end
-    end = at + record.room + 1
-    return parts + [out[at:end]], end
+def compare_reading(count, library, name, data, places):
+    no, which = read(data)
+    before = list(range(-3, places - 3))
+    if not no and places < SET_LENGTH:
+        no = SHORT
+    after = before if no else numbers_in(which) + before[SET_LENGTH:]
+    got = face.read(library, data, before)
+    count.take(got == (no, after), f"{name}, {places} places: read as {got[0]} and not {no}, or other numbers")
 
 
-def compare(count, batch):
-    out, at = run(b"".join(map(stored, batch))), 0
-    for record in batch:
-        got, at = printed(out, at, record)
-        wrong = [f"{name} is {g[:60]} and not {e[:60]}" for g, (name, e) in zip(got, expected(record)) if g != e]
-        count.take(not wrong, f"{record.name}, room {record.room}: {', '.join(wrong)}")
-    count.take(at == len(out), f"more or less was printed than for {len(batch)} records")
+def compare_writing(count, library, name, which, room):
+    no, length, buffer = write(which, FILL * room)
+    got = face.write(library, numbers_in(which), FILL * room, UNTOLD)
+    good = got == (no, UNTOLD if no else length, buffer)
+    count.take(good, f"{name}, room {room}: written as {got[:2]} and not {no, length}, or other bytes")
 
 
-def ends(count):
-    """A record that is none ends the program, and prints nothing."""
-    blank = raw_record("blank", BLANK, 10)
-    part = b"".join(part for _, part in expected(blank))
-    good = stored(blank)
-    none = {
-        "too long a sheet": stored(sheet_record("", b"0" * (LARGEST_SHEET + 1), 0)) + good,
-        "too large a room": stored(sheet_record("", b"0", LARGEST_ROOM + 1)) + good,
-        "too short a set": stored(Record("", 1, b"0", 0, None, None)) + good,
-        "no such mode": bytes([2]) + good[1:] + good,
-        "a set cut short": good[:-1],
-        "a sheet cut short": stored(sheet_record("", b"0" * 10, 0))[:-1],
-        "a head cut short": good[:8],
-    }
-    for name, data in none.items():
-        count.take(run(good + data) == part, f"{name} does not end the program")
-
-
-def cases():
-    """The stored input: the flat sheet, a torn one, one off scale, and a short buffer."""
-    which = flat_set()
-    sheet = sheet_of(which)
-    return [
-        sheet_record("flat", sheet, len(sheet) + 3),
-        sheet_record("torn", sheet[:100], 0),
-        sheet_record("off scale", text(lines_of(changed(which, "theta", 2_923_976_609))), 2),
-        raw_record("short", which, 8),
-    ]
+def compare_none(count, library, name, numbers):
+    for room in (0, LARGEST_ROOM):
+        got = face.write(library, numbers, FILL * room, UNTOLD)
+        count.take(got == (TORN, UNTOLD, FILL * room), f"{name}, room {room}: written as {got[:2]}")
 
 
 def main():
-    kept = cases()
-    files = {
-        CRATE / "stdin": b"".join(map(stored, kept)),
-        CRATE / "stdout": b"".join(part for record in kept for _, part in expected(record)),
-    }
-    if "--write" in sys.argv:
-        for path, data in files.items():
-            path.write_bytes(data)
-        return 0
     seed = int(sys.argv[1]) if len(sys.argv) > 1 else time.time_ns() % 10**9
     print(f"seed {seed}")
-    count = Count()
-    for path, data in files.items():
-        count.take(path.read_bytes() == data, f"{path.name} is not what the sheets give")
-    if PROGRAM.exists():
-        batch = []
-        for record in records(random.Random(seed)):
-            batch.append(record)
-            if len(batch) == 1000:
-                compare(count, batch)
-                batch = []
-        compare(count, batch)
-        ends(count)
-    else:
-        count.take(False, f"{PROGRAM} is not there")
-    print(f"{count.passed} passed, {count.failed} failed")
-    return 1 if count.failed else 0
+    count, draw, module = face.Count(), random.Random(seed), face.built()
+    count.take(module is not None, "the library is not built")
+    if module:
+        for name, data in sheets(draw):
+            for places in (SET_LENGTH, any_places(draw)):
+                compare_reading(count, module.LIBRARY, name, data, places)
+            which = read(data)[1]
+            compare_writing(count, module.LIBRARY, name, which, any_room(draw, which))
+        for name, which, room in raw_sets(draw):
+            compare_writing(count, module.LIBRARY, name, which, room)
+        for name, numbers in no_sets(draw):
+            compare_none(count, module.LIBRARY, name, numbers)
+    return count.close()
 
 
 if __name__ == "__main__":

@@ -1,65 +1,10 @@
-// The library's face for programs in other languages: a sheet read into numbers, and numbers written as a sheet.
+// The library's face for programs in other languages: a sheet read into numbers, numbers written as a sheet, a query of a
+// sheet answered, and the whole run of the desk.
 ghost use mathlib.Core.Path.{_≡_};
-ghost use Prim.Native.Nat.{_+_, _≤_, _<_};
-ghost use mathlib.Core.List.{[], _∷_};
-ghost use lib.ListN.{length, drop};
-ghost use Rattle.sheet.specs.Sheet.{runFrom};
-ghost use Rattle.kulfizan.specs.Face.{setLength, sexNumber, sexOf, areSet, setOf, over, setOver};
-ghost use Rattle.kulfizan.specs.Face.{readNo, numbersAfter, writeNo, bufferAfter, lengthAfter};
-use params::AGES;
-use params::Params;
-use params::Refusal;
-use params::Sex;
-
-// The sex, a, theta, K and k.
-const HEAD: usize = 5;
-
-// These, and four numbers for each age.
-const SET_LENGTH: usize = HEAD + 4 * AGES;
-
-// 0 for M and 1 for F.
-fn sex_number(sex: Sex) -> i64
-    ensures { λ r. ⌜ r ≡ sexNumber sex ⌝ }
-{
-    match sex {
-        Sex::M => 0,
-        Sex::F => 1,
-    }
-}
-
-// Puts four numbers from a place on.
-fn put_four(values: &mut [i64], at: usize, first: i64, second: i64, third: i64, fourth: i64)
-    requires { ⌜ at + 4 ≤ length (now values) ⌝ }
-    ensures { λ r. ⌜ now (values .exit) ≡ over (now (values .entry)) at (first ∷ second ∷ third ∷ fourth ∷ []) ⌝ }
-{
-    values[at] = first;
-    values[at + 1] = second;
-    values[at + 2] = third;
-    values[at + 3] = fourth;
-}
-
-// Puts a set's numbers into the first places.
-fn put_set(values: &mut [i64], p: Params)
-    requires { ⌜ setLength ≤ length (now values) ⌝ }
-    ensures { λ r. ⌜ now (values .exit) ≡ setOver p (now (values .entry)) ⌝ }
-{
-    let sex = p.sex;
-    values[0] = sex_number(sex);
-    put_four(values, 1, p.a, p.theta, p.period, p.kappa);
-    let mut x: usize = 0;
-    while x < AGES {
-        let age = params::age_of_runs(&p.level, &p.slope, &p.alpha, &p.beta, x);
-        put_four(
-            values,
-            HEAD + 4 * x,
-            age.level,
-            age.slope,
-            age.alpha,
-            age.beta,
-        );
-        x += 1;
-    }
-}
+ghost use lib.ListN.{length};
+ghost use Rattle.set_numbers.specs.SetNumbers.{readNo, numbersAfter, writeNo, bufferAfter, lengthAfter};
+ghost use Rattle.sheet_quote.specs.SheetQuote.{sheetAnswer, quoteNo, quoteAfter};
+ghost use Rattle.kulfizan.specs.Run.{runNo, runBuffer, runLength};
 
 // Reads a sheet into the first 369 numbers: the sex, a, theta, K and k, and then A, B, alpha and beta of each age. The
 // refusal's number, or 0; refused, the call leaves every number as it was.
@@ -68,78 +13,7 @@ pub extern "C" fn kulfizan_read(sheet: &[u8], values: &mut [i64]) -> u8
     ensures { λ r. ⌜ r ≡ readNo (now (sheet .entry)) (length (now (values .entry))) ⌝ }
     ensures { λ r. ⌜ now (values .exit) ≡ numbersAfter (now (sheet .entry)) (now (values .entry)) ⌝ }
 {
-    let got = sheet_reader::read(sheet);
-    let refusal = got.refusal;
-    let set = got.set;
-    let number = params::refusal_number(refusal);
-    if number != 0 {
-        return number;
-    }
-    if values.len() < SET_LENGTH {
-        return params::refusal_number(Refusal::Short);
-    }
-    put_set(values, set);
-    number
-}
-
-// Whether these numbers are a set's.
-fn are_set(values: &[i64]) -> bool
-    ensures { λ r. ⌜ r ≡ areSet (now (values .entry)) ⌝ }
-{
-    if values.len() != SET_LENGTH {
-        return false;
-    }
-    if values[0] == 0 {
-        return true;
-    }
-    values[0] == 1
-}
-
-// The sex of a number.
-fn sex_of(label: i64) -> Sex
-    ensures { λ r. ⌜ r ≡ sexOf label ⌝ }
-{
-    if label == 0 {
-        return Sex::M;
-    }
-    Sex::F
-}
-
-// A run of parameters: of the numbers after the sex, from a place on, every fourth.
-fn run(values: &[i64], from: usize) -> [i64; AGES]
-    requires { ⌜ (length (now values) ≡ setLength) × (from < 8) ⌝ }
-    ensures { λ r. ⌜ r ≡ runFrom from (drop 1 (now (values .entry))) ⌝ }
-{
-    let mut out = [0i64; AGES];
-    let mut age: usize = 0;
-    while age < AGES {
-        out[age] = values[1 + from + 4 * age];
-        age += 1;
-    }
-    out
-}
-
-// The set of its numbers.
-fn set_of(values: &[i64]) -> Params
-    requires { ⌜ length (now values) ≡ setLength ⌝ }
-    ensures { λ r. ⌜ r ≡ setOf (now (values .entry)) ⌝ }
-{
-    let sex = sex_of(values[0]);
-    let level = run(values, 4);
-    let slope = run(values, 5);
-    let alpha = run(values, 6);
-    let beta = run(values, 7);
-    Params {
-        sex,
-        a: values[1],
-        theta: values[2],
-        period: values[3],
-        kappa: values[4],
-        level,
-        slope,
-        alpha,
-        beta,
-    }
+    set_numbers::read_into(sheet, values)
 }
 
 // Writes the sheet of a set's 369 numbers into the buffer, and its length. The refusal's number, or 0; refused, the call
@@ -150,14 +24,36 @@ pub extern "C" fn kulfizan_write(values: &[i64], buffer: &mut [u8], len: &mut u6
     ensures { λ r. ⌜ now (buffer .exit) ≡ bufferAfter (now (values .entry)) (now (buffer .entry)) ⌝ }
     ensures { λ r. ⌜ now (len .exit) ≡ lengthAfter (now (values .entry)) (length (now (buffer .entry))) (now (len .entry)) ⌝ }
 {
-    if !are_set(values) {
-        return params::refusal_number(Refusal::Torn);
-    }
-    let got = sheet_writer::write(set_of(values), buffer);
-    let refusal = got.refusal;
-    let number = params::refusal_number(refusal);
-    if number == 0 {
-        *len = got.len as u64;
-    }
-    number
+    set_numbers::write_from(values, buffer, len)
+}
+
+// Answers a query of a sheet in the first four numbers: the two ends in units of 10^-9, 1 where the figure is printed and 0
+// where it is open, and its steps. The refusal's number, or 0; refused, the call leaves every number as it was.
+#[no_mangle]
+pub extern "C" fn kulfizan_quote(
+    sheet: &[u8],
+    kind: &[u8],
+    age: i64,
+    year: i64,
+    span: i64,
+    quote: &mut [u64],
+) -> u8
+    ensures { λ r. ⌜ r ≡ quoteNo (sheetAnswer (now (sheet .entry)) (now (kind .entry)) age year span)
+        (length (now (quote .entry))) ⌝ }
+    ensures { λ r. ⌜ now (quote .exit) ≡ quoteAfter (sheetAnswer (now (sheet .entry)) (now (kind .entry)) age year span)
+        (now (quote .entry)) ⌝ }
+{
+    sheet_quote::quote_into(sheet, kind, age, year, span, quote)
+}
+
+// Writes the whole run of the desk on an input into the buffer, and its length: as the program `quotes` prints it where
+// `ends` is 0, else as `ends` does. 0, or 7 where the buffer has fewer than 5·n + 139 bytes for n bytes of input; refused, the
+// call leaves every byte and the length as they were.
+#[no_mangle]
+pub extern "C" fn kulfizan_run(input: &[u8], ends: u8, out: &mut [u8], len: &mut u64) -> u8
+    ensures { λ r. ⌜ r ≡ runNo (now (input .entry)) (length (now (out .entry))) ⌝ }
+    ensures { λ r. ⌜ now (out .exit) ≡ runBuffer (now (input .entry)) ends (now (out .entry)) ⌝ }
+    ensures { λ r. ⌜ now (len .exit) ≡ runLength (now (input .entry)) ends (length (now (out .entry))) (now (len .entry)) ⌝ }
+{
+    set_numbers::tell(desk::run(ends != 0, input, out), len)
 }

@@ -45,13 +45,13 @@ unfolding readQuery
 start-taken line e = goes _ e
 
 -- something follows, or nothing
-pub followed : (q : Query) (line : List ℕ) (n : ℕ) → n < length line → alone q (drop n line) ≡ torn
+pub followed : {A : Type 0} (a : A) (line : List ℕ) (n : ℕ) → n < length line → alone a (drop n line) ≡ torn
 unfolding alone
-followed q line n h = rw (drop-cons line n 0 h)
+followed a line n h = rw (drop-cons line n 0 h)
 
-pub at-end : (q : Query) (line : List ℕ) (n : ℕ) → length line ≤ n → alone q (drop n line) ≡ taken q []
+pub at-end : {A : Type 0} (a : A) (line : List ℕ) (n : ℕ) → length line ≤ n → alone a (drop n line) ≡ taken a []
 unfolding alone
-at-end q line n h = rw (drop-of-length-le line h)
+at-end a line n h = rw (drop-of-length-le line h)
 
 -- ---- what a result of the code says was read of a kind
 

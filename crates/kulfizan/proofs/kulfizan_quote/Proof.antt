@@ -1,0 +1,20 @@
+-- `kulfizan_quote` meets its contract, which is that of the call below it.
+use borrow.Author.Needs.{needs}
+use mir.Facts.{toZ-ofZ}
+use Rattle.kulfizan.proofs.kulfizan_quote.Statement.{statement}
+use Rattle.kulfizan.proofs.kulfizan_quote.Tie as tie
+
+quote-into-requires : tie.Need-quote-into-requires
+quote-into-requires c κs = search needs
+
+same-length : tie.Need-same-length
+same-length c = search needs
+
+returns : tie.Need-returns
+returns c =
+    let q = c .before .before in
+    let f = q .before .before .before .before .before .fits in
+    rw (toZ-ofZ (f .age), toZ-ofZ (f .year), toZ-ofZ (f .span)) at (q .quote-into .ensures)
+
+pub kulfizan-quote-spec : {M : Type 1} → statement M
+kulfizan-quote-spec = tie.close (tie.spec quote-into-requires same-length returns)

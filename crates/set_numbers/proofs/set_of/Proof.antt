@@ -1,0 +1,75 @@
+-- `set_of` meets its contract: each number is where the set's definition looks for it.
+use mathlib.Core.Path.{sym, ap, _∙_}
+use lib.IntN.{pos}
+use lib.ListN.{getD}
+use mir.Syntax.{w64}
+use mir.Val.{SFits}
+use mir.Facts.{toZ-ofZ}
+use Rattle.set_numbers.specs.SetNumbers.{sexOf}
+use Rattle.set_numbers.specs.SetNumbersLaws.{set-taken}
+use borrow.Author.Needs.{needs}
+use Rattle.set_numbers.proofs.set_of.Statement.{statement}
+use Rattle.set_numbers.proofs.set_of.Tie as tie
+
+shared-slice-copy-out-sex-of : tie.Need-shared-slice-copy-out-sex-of
+shared-slice-copy-out-sex-of c = search needs
+
+sex-of-requires : tie.Need-sex-of-requires
+sex-of-requires c κs = search needs
+
+run-requires : tie.Need-run-requires
+run-requires c κs = search needs
+
+run-requires-2 : tie.Need-run-requires-2
+run-requires-2 c κs = search needs
+
+run-requires-3 : tie.Need-run-requires-3
+run-requires-3 c κs = search needs
+
+run-requires-4 : tie.Need-run-requires-4
+run-requires-4 c κs = search needs
+
+shared-slice-copy-out-t8 : tie.Need-shared-slice-copy-out-t8
+shared-slice-copy-out-t8 c = search needs
+
+shared-slice-copy-out-t11 : tie.Need-shared-slice-copy-out-t11
+shared-slice-copy-out-t11 c = search needs
+
+shared-slice-copy-out-t13 : tie.Need-shared-slice-copy-out-t13
+shared-slice-copy-out-t13 c = search needs
+
+shared-slice-copy-out-t15 : tie.Need-shared-slice-copy-out-t15
+shared-slice-copy-out-t15 c = search needs
+
+returns : tie.Need-returns
+returns c =
+    let r₄ = c .before .before .before .before in
+    let r₃ = r₄ .before in
+    let r₂ = r₃ .before in
+    let r₁ = r₂ .before in
+    let s = r₁ .before in
+    let ns = s .before .before .args .values .now in
+    let a = c .before .before .before .t8 .given in
+    let theta = c .before .before .t11 .given in
+    let period = c .before .t13 .given in
+    let f : SFits w64 (getD ns 0 (pos 0)) = search needs in
+    sym
+    (set-taken ns (s .sex-of .ensures ∙ ap sexOf (toZ-ofZ f)) (toZ-ofZ (search needs)) (toZ-ofZ (search needs))
+    (toZ-ofZ (search needs)) (toZ-ofZ (search needs)) (r₁ .run .ensures) (r₂ .run2 .ensures) (r₃ .run3 .ensures)
+    (r₄ .run4 .ensures))
+
+pub set-of-spec : {M : Type 1} → statement M
+set-of-spec =
+    tie.close
+    (tie.spec
+    shared-slice-copy-out-sex-of
+    sex-of-requires
+    run-requires
+    run-requires-2
+    run-requires-3
+    run-requires-4
+    shared-slice-copy-out-t8
+    shared-slice-copy-out-t11
+    shared-slice-copy-out-t13
+    shared-slice-copy-out-t15
+    returns)

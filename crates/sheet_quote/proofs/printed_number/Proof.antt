@@ -1,0 +1,23 @@
+-- `printed_number` meets its contract.
+use borrow.Author.Needs.{needs}
+use mathlib.Core.Path.{sym, ap}
+use Rattle.sheet_quote.specs.SheetQuote.{printedNumber}
+use Rattle.sheet_quote.proofs.printed_number.Statement.{statement}
+use Rattle.sheet_quote.proofs.printed_number.Tie as tie
+
+enum-told : tie.Need-enum-told
+enum-told c = search needs
+
+enum-told-2 : tie.Need-enum-told-2
+enum-told-2 c = search needs
+
+returns : tie.Need-returns
+unfolding printedNumber
+returns c = sym (ap printedNumber (c .enum-told .given .1))
+
+returns-2 : tie.Need-returns-2
+unfolding printedNumber
+returns-2 c = sym (ap printedNumber (c .enum-told2 .given .1))
+
+pub printed-number-spec : {M : Type 1} → statement M
+printed-number-spec = tie.close (tie.spec enum-told enum-told-2 returns returns-2)

@@ -1,0 +1,5 @@
+-- definitions
+pub mod SheetQuote
+-- laws
+pub mod AnswerLaws
+pub mod Kept

@@ -1,0 +1,74 @@
+-- A query of a sheet: its answer, the answer's number, and the four numbers in which a quote is told.
+use mathlib.Core.Bool.{cond}
+use mathlib.Core.List.{List, [], _∷_, _++_}
+use Prim.Native.Nat.{ℕ}
+use lib.Dec.{eqb, leb}
+use lib.IntN.{ℤ}
+use lib.ListN.{length, drop}
+use Rattle.tokens.specs.Text.{Parse, torn, taken}
+use Rattle.tokens.specs.Steps.{andThen}
+use Rattle.params.specs.declared.Refusal.the-variants.{Accepted, Torn, Short}
+use Rattle.params.specs.Refusals.{refusalNumber}
+use Rattle.sheet.specs.declared.Reading.{Reading}
+use Rattle.sheet.specs.Sheet.{readSheet}
+use Rattle.exact.specs.declared.Figure.{Figure}
+use Rattle.exact.specs.declared.Figure.the-variants.{Printed, Open}
+use Rattle.kinds.specs.declared.Kind.{Kind}
+use Rattle.path_quotes.specs.declared.Quote.{Quote}
+use Rattle.path_quotes.specs.declared.Answer.{Answer}
+use Rattle.path_quotes.specs.declared.Answer.the-variants.{Quoted, Refused}
+use Rattle.quote.specs.Quote.{answerOf}
+use Rattle.query.specs.Query.{onOffer, readWord, alone}
+
+-- ---- the answer
+
+-- the kind of a word, and torn where the word is no kind's or goes on
+unfoldable pub kindOf : List ℕ → Parse Kind
+kindOf word = andThen (readWord onOffer word) (λ kind rest. alone kind rest)
+
+-- torn, which has the lowest number; else the sheet's refusal; else the answer of its set
+unfoldable pub answerTo : Parse Kind → Reading → ℤ → ℤ → ℤ → Answer
+answerTo torn got age year span = Refused Torn
+answerTo (taken kind rest) got age year span =
+    cond (eqb (refusalNumber (got .refusal)) 0) (answerOf (got .set) kind age year span) (Refused (got .refusal))
+
+unfoldable pub sheetAnswer : List ℕ → List ℕ → ℤ → ℤ → ℤ → Answer
+sheetAnswer sheet word age year span = answerTo (kindOf word) (readSheet sheet) age year span
+
+-- ---- a quote as four numbers: its ends, whether its figure is printed, and the figure's steps
+
+abbrev pub quoteLength : ℕ
+quoteLength = 4
+
+unfoldable pub printedNumber : Figure → ℕ
+printedNumber (Printed n) = 1
+printedNumber Open = 0
+
+unfoldable pub stepsNumber : Figure → ℕ
+stepsNumber (Printed n) = n
+stepsNumber Open = 0
+
+unfoldable pub quoteNumbers : Quote → List ℕ
+quoteNumbers q = q .lower ∷ q .upper ∷ printedNumber (q .figure) ∷ stepsNumber (q .figure) ∷ []
+
+-- the numbers with a quote's in their first places
+unfoldable pub quoteOver : Quote → List ℕ → List ℕ
+quoteOver q before = quoteNumbers q ++ drop quoteLength before
+
+-- ---- what a call gives, and the numbers after it
+
+-- of a quote: short where there are too few places, and then the numbers as they were
+unfoldable pub quotedNo : ℕ → ℕ
+quotedNo places = refusalNumber (cond (leb quoteLength places) Accepted Short)
+
+unfoldable pub quotedAfter : Quote → List ℕ → List ℕ
+quotedAfter q before = cond (leb quoteLength (length before)) (quoteOver q before) before
+
+-- of any answer: a refusal's number comes before short, and then "untouched buffers"
+unfoldable pub quoteNo : Answer → ℕ → ℕ
+quoteNo (Quoted q) places = quotedNo places
+quoteNo (Refused r) places = refusalNumber r
+
+unfoldable pub quoteAfter : Answer → List ℕ → List ℕ
+quoteAfter (Quoted q) before = quotedAfter q before
+quoteAfter (Refused r) before = before

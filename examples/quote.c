@@ -1,0 +1,47 @@
+/* quote SHEET: the life expectancy at 65 in 2015 of the cohort, by the parameters of a sheet. Prints its two ends and its
+   figure, or the refusal's number. `make examples` builds it. */
+#include <inttypes.h>
+#include <stdio.h>
+#include "kulfizan.h"
+
+#define AGE 65
+#define YEAR 2015
+
+/* A file of more bytes than the longest sheet is torn, however many there are. */
+static uint8_t sheet[KULFIZAN_LONGEST_SHEET + 1];
+
+/* An end in units of 10^-9, with all its decimals. */
+static void print_end(const char *name, uint64_t end)
+{
+    printf("%s %" PRIu64 ".%09" PRIu64 "\n", name, end / 1000000000, end % 1000000000);
+}
+
+int main(int argc, char **argv)
+{
+    static const uint8_t kind[] = {'e', 'c', 'o', 'h'};
+    uint64_t quote[KULFIZAN_QUOTE_LENGTH];
+    FILE *file = argc == 2 ? fopen(argv[1], "rb") : NULL;
+    if (file == NULL) {
+        fprintf(stderr, "usage: quote SHEET, a file that can be read\n");
+        return 2;
+    }
+    size_t length = fread(sheet, 1, sizeof sheet, file);
+    int failed = ferror(file);
+    fclose(file);
+    if (failed) {
+        fprintf(stderr, "quote: %s: not read to its end\n", argv[1]);
+        return 2;
+    }
+    uint8_t no = kulfizan_quote(sheet, length, kind, sizeof kind, AGE, YEAR, 0, quote, KULFIZAN_QUOTE_LENGTH);
+    if (no != KULFIZAN_ACCEPTED) {
+        printf("no=%d\n", no);
+        return 1;
+    }
+    print_end("lower", quote[0]);
+    print_end("upper", quote[1]);
+    if (quote[2] == 1)
+        printf("fig=%" PRIu64 ".%" PRIu64 "\n", quote[3] / 10, quote[3] % 10);
+    else
+        printf("fig=open\n");
+    return 0;
+}

@@ -1,0 +1,116 @@
+"""Kulfizan for Python: the AG2014 table with the parameters of a sheet, worked so that every printed digit is proved.
+
+It calls the proved library through the standard `ctypes`. The library is the file that the environment variable
+KULFIZAN_LIBRARY names, else libkulfizan.so beside this file, else the one that `make lib` writes into target/lib.
+
+A set is a list of 369 whole numbers: the sex (0 for M, 1 for F), a, theta, K, k, and then for ages 0 to 90 A, B, alpha and
+beta, in the sheet's order and its units. A refused call raises `Refused`, which has the refusal's number. A number that does
+not fit 64 bits raises OverflowError.
+"""
+import array
+import collections
+import ctypes
+import os
+import pathlib
+
+SET_LENGTH = 369
+QUOTE_LENGTH = 4
+LONGEST_SHEET = 65_536
+
+REFUSALS = {
+    1: "torn: the sheet, the kind's word or the list of numbers breaks its form",
+    2: "off scale: a parameter, or K + 171*theta, is past its size",
+    3: "no such age: the age is outside 0 to 120",
+    4: "no such year: the year is outside the kind's range",
+    5: "no such span: the span is outside 0 to 121 - age; for q and expectancies, not 0",
+    6: "steep: a needed cell's log force leaves its range",
+    7: "short: what is lent has too little room",
+}
+
+Quote = collections.namedtuple("Quote", "lower upper steps")
+Quote.__doc__ = """The two ends in units of 10^-9, and the figure's number of steps (of 0.00001, for an expectancy 0.1),
+None where it is open."""
+
+
+class Refused(Exception):
+    """A refused call, with the refusal's number."""
+
+    def __init__(self, number):
+        super().__init__(f"{number}, {REFUSALS[number]}")
+        self.number = number
+
+
+def path():
+    """Where the library is looked for."""
+    named = os.environ.get("KULFIZAN_LIBRARY")
+    if named:
+        return pathlib.Path(named)
+    here = pathlib.Path(__file__).resolve().parent
+    beside = here / "libkulfizan.so"
+    return beside if beside.exists() else here.parent / "target" / "lib" / "libkulfizan.so"
+
+
+def load(where):
+    """The library's calls, as include/kulfizan.h declares them."""
+    library = ctypes.CDLL(str(where))
+    data, numbers, size = ctypes.c_char_p, ctypes.POINTER(ctypes.c_int64), ctypes.c_size_t
+    counts, signed = ctypes.POINTER(ctypes.c_uint64), ctypes.c_int64
+    library.kulfizan_read.argtypes = [data, size, numbers, size]
+    library.kulfizan_write.argtypes = [numbers, size, data, size, counts]
+    library.kulfizan_quote.argtypes = [data, size, data, size, signed, signed, signed, counts, size]
+    library.kulfizan_run.argtypes = [data, size, ctypes.c_uint8, data, size, counts]
+    for call in (library.kulfizan_read, library.kulfizan_write, library.kulfizan_quote, library.kulfizan_run):
+        call.restype = ctypes.c_uint8
+    return library
+
+
+LIBRARY = load(path())
+
+
+def accepted(number):
+    """Raises a refusal."""
+    if number:
+        raise Refused(number)
+
+
+def signed(values):
+    """Numbers of 64 bits for a call, or OverflowError; never of no place, so that the pointer is none to nothing."""
+    checked = array.array("q", values)
+    return (ctypes.c_int64 * max(1, len(checked)))(*checked), len(checked)
+
+
+def written(call, *given, room):
+    """What a call writes into a buffer of so many bytes."""
+    buffer, length = ctypes.create_string_buffer(room), ctypes.c_uint64()
+    accepted(call(*given, buffer, room, ctypes.byref(length)))
+    return buffer.raw[: length.value]
+
+
+def read(sheet):
+    """The set of a sheet's bytes."""
+    sheet = bytes(sheet)
+    values = (ctypes.c_int64 * SET_LENGTH)()
+    accepted(LIBRARY.kulfizan_read(sheet, len(sheet), values, SET_LENGTH))
+    return list(values)
+
+
+def write(values):
+    """The one sheet of a set, as bytes."""
+    numbers, count = signed(values)
+    return written(LIBRARY.kulfizan_write, numbers, count, room=LONGEST_SHEET)
+
+
+def quote(sheet, kind, age, year, span=0):
+    """The quote of a query of a sheet. The kind is "q", "coh", "per", "ecoh" or "eper"."""
+    sheet, word = bytes(sheet), kind.encode()
+    (age, year, span), _ = signed((age, year, span))
+    numbers = (ctypes.c_uint64 * QUOTE_LENGTH)()
+    accepted(LIBRARY.kulfizan_quote(sheet, len(sheet), word, len(word), age, year, span, numbers, QUOTE_LENGTH))
+    lower, upper, printed, steps = numbers
+    return Quote(lower, upper, steps if printed else None)
+
+
+def run(data, ends=False):
+    """The whole run of the desk: a sheet and then query lines, as bytes, to what the program `quotes` prints, or `ends`."""
+    data = bytes(data)
+    return written(LIBRARY.kulfizan_run, data, len(data), bool(ends), room=5 * len(data) + 139)

@@ -1,0 +1,82 @@
+"""The library's calls, as tests use them: built by make, found by python/kulfizan.py, and handed numbers and bytes of which all
+are compared afterwards, with one more behind the last that is lent."""
+import array
+import ctypes
+import os
+import pathlib
+import subprocess
+import sys
+
+ROOT = pathlib.Path(__file__).resolve().parent.parent
+EXAMPLE = ROOT / "target" / "examples" / "quote"
+LEAST, GREATEST = -(2**63), 2**63 - 1
+GUARD = 0x5A
+SET_LENGTH, QUOTE_LENGTH = 369, 4
+
+
+def built():
+    """The module of python/kulfizan.py over the library as it is built from the sources, or None."""
+    make = ["make", "--no-print-directory", "lib", "examples"]
+    done = subprocess.run(make, cwd=ROOT, stdout=subprocess.PIPE, stderr=subprocess.STDOUT, check=False)
+    if done.returncode:
+        print(done.stdout.decode(errors="replace"))
+        return None
+    os.environ.pop("KULFIZAN_LIBRARY", None)
+    sys.path.insert(0, str(ROOT / "python"))
+    import kulfizan
+
+    return kulfizan
+
+
+class Count:
+    passed = failed = 0
+
+    def take(self, good, said):
+        self.passed, self.failed = self.passed + good, self.failed + (not good)
+        if not good and self.failed <= 20:
+            print(said)
+
+    def close(self):
+        print(f"{self.passed} passed, {self.failed} failed")
+        return 1 if self.failed else 0
+
+
+def held(code, values):
+    """Numbers of 64 bits, signed (q) or not (Q), to be lent, with a guard behind them."""
+    kind = ctypes.c_int64 if code == "q" else ctypes.c_uint64
+    return (kind * (len(values) + 1)).from_buffer(array.array(code, [*values, GUARD]))
+
+
+def kept(values, before):
+    """The numbers that were lent, as far as the guard is as it was."""
+    return list(values)[: len(before)] if values[len(before)] == GUARD else "written past the end"
+
+
+def read(library, sheet, before):
+    """The number that reading a sheet gives, and the numbers after it."""
+    values = held("q", before)
+    number = library.kulfizan_read(sheet, len(sheet), values, len(before))
+    return number, kept(values, before)
+
+
+def into(call, *given, before, length):
+    """The number that a writing call gives, and the length and the bytes after it."""
+    buffer, told = ctypes.create_string_buffer(before + bytes([GUARD]), len(before) + 1), ctypes.c_uint64(length)
+    number = call(*given, buffer, len(before), ctypes.byref(told))
+    after = buffer.raw
+    return number, told.value, after[:-1] if after[-1] == GUARD else "written past the end"
+
+
+def write(library, numbers, before, length):
+    return into(library.kulfizan_write, held("q", numbers), len(numbers), before=before, length=length)
+
+
+def run(library, data, ends, before, length):
+    return into(library.kulfizan_run, data, len(data), ends, before=before, length=length)
+
+
+def quote(library, sheet, word, age, year, span, before):
+    """The number that a query gives, and the numbers after it."""
+    values = held("Q", before)
+    number = library.kulfizan_quote(sheet, len(sheet), word, len(word), age, year, span, values, len(before))
+    return number, kept(values, before)

@@ -1,0 +1,280 @@
+"""The library's calls from other languages: every answer to a query of a sheet against a second implementation, the refusal,
+both ends and the figure, with every number that was lent; the whole run of the desk, with every byte that was lent; the Python
+module's own functions; and the example in C.
+
+Sheets, sets and the two calls between them are tests/test_sheets.py. An argument is taken as the seed.
+"""
+import collections
+import os
+import pathlib
+import random
+import shutil
+import subprocess
+import sys
+import tempfile
+
+import desk
+import face
+import sheets
+import test_quotes
+from face import GREATEST, LEAST, QUOTE_LENGTH, ROOT
+from grid import flat
+from quotes import KINDS, OPEN, Quotes, figure
+from reader import KEYS, LIMITS, LONGEST, SHORT, SIZES, TORN, numbers_of, params_of, read
+
+SEED = 20142065
+PLACES = (QUOTE_LENGTH, QUOTE_LENGTH, QUOTE_LENGTH, QUOTE_LENGTH + 1, 9, QUOTE_LENGTH - 1, 2, 1, 0)
+
+
+# ---- queries of sheets
+
+AGES = (LEAST, LEAST + 1, -(2**32) + 65, -1, 0, 65, 120, 121, 2**32 + 65, GREATEST)
+YEARS = (LEAST, 2013, 2014, 2064, 2065, 2184, 2185, 2**32 + 2020, GREATEST)
+SPANS = (LEAST, -1, 0, 1, 2**32, 2**32 + 1, GREATEST)
+
+
+def any_number(draw):
+    """A number of 64 bits, of any length."""
+    return draw.randint(LEAST, GREATEST) >> draw.randrange(64)
+
+
+def at_ends(draw):
+    """Numbers at and past the limits of the table and at both ends of 64 bits, in all combinations, and any others."""
+    yield from ((kind, age, year, span) for kind in KINDS for age in AGES for year in YEARS for span in SPANS)
+    for _ in range(300):
+        yield (draw.choice(KINDS), *(draw.choice((65, 2020, 0, any_number(draw))) for _ in range(3)))
+
+
+def cases(draw):
+    """Sheets with queries: all limits, every refusal, realistic and extreme sets, and figures that are open."""
+    yield test_quotes.case("64 bits", flat(), list(at_ends(draw)))
+    yield from test_quotes.fixed_cases()
+    yield from test_quotes.limit_cases(draw)
+    yield from test_quotes.refused_cases(draw)
+    yield from test_quotes.realistic_cases(draw, 8)
+    yield from test_quotes.extreme_cases(draw, 6)
+    yield from test_quotes.steep_cases(draw, 4)
+    for kind in KINDS:
+        yield from test_quotes.searched((kind, 2, draw.random()))
+
+
+def answer(given, no, query):
+    """The refusal of a query, and the four numbers of its quote."""
+    no = no or given.refusal(*query)
+    if no:
+        return no, None
+    ends = given.ends(*query)
+    steps = figure(ends, query[0])
+    return 0, [*ends, 0, 0] if steps == OPEN else [*ends, 1, steps]
+
+
+def lent(draw, places):
+    """Numbers to be lent, any of 64 bits."""
+    return [draw.choice((0, 1, draw.getrandbits(64), 2**64 - 1)) for _ in range(places)]
+
+
+def after(no, numbers, before):
+    """The number of a call and the numbers after it."""
+    if no or len(before) < QUOTE_LENGTH:
+        return no or SHORT, before
+    return 0, numbers + before[QUOTE_LENGTH:]
+
+
+def compare_queries(count, counts, draw, library, one):
+    no, which = read(one.data)
+    given = None if no else Quotes(params_of(which))
+    for query in one.queries:
+        kind, *numbers = query
+        refused, quoted = answer(given, no, query)
+        counts[f"refused {refused}" if refused else f"{kind} {'printed' if quoted[2] else 'open'}"] += 1
+        for places in {QUOTE_LENGTH, draw.choice(PLACES)}:
+            before = lent(draw, places)
+            wanted = after(refused, quoted, before)
+            counts["short"] += wanted[0] == SHORT
+            got = face.quote(library, one.data, kind.encode(), *numbers, before)
+            count.take(got == wanted, f"{one.name}, {query}, {places} places: {got} and not {wanted}")
+
+
+def met(count, counts):
+    """Every answer that there is was met."""
+    wanted = [f"{kind} {what}" for kind in KINDS for what in ("printed", "open")] + [f"refused {no}" for no in range(1, 7)]
+    for what in wanted + ["short"]:
+        count.take(counts[what] > 0, f"no case of: {what}")
+
+
+# ---- words that are no kind's
+
+def words(draw):
+    """Starts of the kinds' words, the words with a byte before, after or changed, and bytes of any kind."""
+    for kind in KINDS:
+        word = kind.encode()
+        yield from (word[:i] for i in range(len(word)))
+        yield from (word + bytes([b]) for b in range(256))
+        yield from (bytes([b]) + word for b in range(256))
+        yield from (word[:i] + bytes([b]) + word[i + 1:] for i in range(len(word)) for b in range(256))
+        yield from (word + other.encode() for other in KINDS)
+        yield word.upper()
+    for _ in range(200):
+        yield draw.randbytes(draw.randrange(6))
+
+
+def compare_words(count, draw, library):
+    """Such a word is torn whatever the sheet, the age and the places are."""
+    good = sheets.text(flat())
+    off_scale = sheets.text(dict(flat(), a=SIZES["a"] + 1))
+    known = {kind.encode() for kind in KINDS}
+    for word in words(draw):
+        if word in known:
+            continue
+        sheet, age = draw.choice((good, good, off_scale, b"")), draw.choice((65, 65, 121, LEAST))
+        before = lent(draw, draw.choice(PLACES))
+        got = face.quote(library, sheet, word, age, 2020, 0, before)
+        count.take(got == (TORN, before), f"the kind {word}: {got[0]}")
+
+
+# ---- the whole run
+
+def inputs(draw):
+    """Sheets with lines after them: good, torn and refused ones, many, and none; refused sheets; and inputs at the longest."""
+    sheet = sheets.text(flat())
+    queries = (("ecoh", 65, 2020, 0), ("q", 65, 2020, 0), ("coh", 119, 2020, 2), ("q", 121, 1, -1), ("per", 0, 2064, 122))
+    lines = [test_quotes.line_of(query) for query in queries]
+    good = lines[0]
+    lines += [b"\n", b"kind=q\n", good[:-1] + b" \n", good.upper(), draw.randbytes(50) + b"\n"]
+    yield from (b"", b"\n", sheet, sheet[:-1], b"\n" + sheet, sheets.text(dict(flat(), a=SIZES["a"] + 1)) + good)
+    yield sheets.text(dict(flat(), A=[0] * 91)) + good
+    for size in (LONGEST - 1, LONGEST, LONGEST + 1):
+        yield (sheet + good * size)[:size]
+        yield sheet.ljust(size, b"\n")
+    for _ in range(60):
+        given = draw.choice((sheet, sheets.text(sheets.realistic(draw))))
+        data = given + b"".join(draw.choices(lines, k=draw.randrange(12)))
+        yield draw.choice((data, data, data[:-1], data[draw.randrange(20):], data + good[: draw.randrange(len(good))]))
+
+
+def compare_runs(count, draw, module):
+    for data in inputs(draw):
+        for ends in (0, draw.choice((1, 2, 128, 255))):
+            wanted = desk.run(data, ends != 0)
+            count.take(module.run(data, ends != 0) == wanted, f"a run of {len(data)} bytes gives something else")
+            need = 5 * len(data) + 139
+            for room in (need, need - 1, need + draw.randrange(1, 300), draw.randrange(need)):
+                before, length = draw.randbytes(room), draw.getrandbits(64)
+                got = face.run(module.LIBRARY, data, ends, before, length)
+                after = (SHORT, length, before) if room < need else (0, len(wanted), wanted + before[len(wanted):])
+                count.take(got == after, f"a run of {len(data)} bytes, ends {ends}, room {room}: {got[:2]} and not {after[:2]}")
+
+
+# ---- the Python module
+
+def raised(call, *given):
+    """The number of the refusal that a call raises, the name of another error, or None."""
+    try:
+        call(*given)
+    except Exception as error:
+        return getattr(error, "number", type(error).__name__)
+    return None
+
+
+def compare_module(count, draw, module):
+    params = sheets.realistic(draw)
+    sheet, values = sheets.text(params), ["MF".index(params["sex"]), *numbers_of(params)]
+    count.take(module.read(sheet) == values, "read gives another set")
+    count.take(module.read(bytearray(sheet)) == values, "read gives another set for a bytearray")
+    count.take(module.write(values) == sheet, "write gives another sheet")
+    largest = [1] + [0 if key == "theta" else -most for key, most in zip(KEYS, LIMITS)]
+    count.take(module.read(module.write(largest)) == largest, "a set at its limits is not read back")
+    given = Quotes(params)
+    for kind, age, year in (("q", 65, 2020), ("ecoh", 65, 2020), ("per", 30, 2064)):
+        no, numbers = answer(given, 0, (kind, age, year, 0))
+        wanted = None if no else (*numbers[:2], numbers[3] if numbers[2] else None)
+        got = raised(module.quote, sheet, kind, age, year) or tuple(module.quote(sheet, kind, age, year))
+        count.take(got == (no or wanted), f"quote gives {got} and not {no or wanted}")
+    off_scale, steep = sheets.text(dict(flat(), a=SIZES["a"] + 1)), sheets.text(dict(flat(), A=[0] * 91))
+    refusals = [
+        (TORN, module.read, b""), (2, module.read, off_scale), (TORN, module.write, []), (TORN, module.write, values + [0]),
+        (TORN, module.write, [2] + values[1:]), (2, module.write, [0, GREATEST] + values[2:]),
+        (TORN, module.quote, sheet, "", 65, 2020), (TORN, module.quote, sheet, "\u00e9", 65, 2020),
+        (2, module.quote, off_scale, "q", 121, 2020), (3, module.quote, sheet, "q", 121, 2020),
+        (3, module.quote, sheet, "q", LEAST, LEAST, LEAST), (4, module.quote, sheet, "q", 65, 2185),
+        (5, module.quote, sheet, "q", 65, 2020, 1), (6, module.quote, steep, "q", 65, 2020),
+        ("OverflowError", module.quote, sheet, "q", GREATEST + 1, 2020), ("TypeError", module.quote, sheet, "q", 65.5, 2020),
+        ("OverflowError", module.write, [0, LEAST - 1] + values[2:]),
+    ]
+    for wanted, call, *rest in refusals:
+        got = raised(call, *rest)
+        count.take(got == wanted, f"{call.__name__} {str(rest[-3:])[:60]}: {got} and not {wanted}")
+    count.take("torn" in str(module.Refused(1)), "a refusal has no words")
+
+
+def compare_places(count, module):
+    """The library is found by the environment, or beside the module; else there is none."""
+    library, script = ROOT / "target" / "lib" / "libkulfizan.so", "import kulfizan; print(kulfizan.path())"
+    with tempfile.TemporaryDirectory() as folder:
+        here = pathlib.Path(folder).resolve()
+        (here / "module").mkdir()
+        shutil.copy(ROOT / "python" / "kulfizan.py", here / "module")
+
+        def found(**more):
+            run = [sys.executable, "-B", "-c", script]
+            done = subprocess.run(run, cwd=here / "module", env={**os.environ, **more}, capture_output=True, check=False)
+            return done.stdout.decode().strip() if done.returncode == 0 else "none"
+
+        count.take(found() == "none", "a library is found where there is none")
+        shutil.copy(library, here / "other.so")
+        wanted = str(here / "other.so")
+        count.take(found(KULFIZAN_LIBRARY=wanted) == wanted, "the library of the environment is not found")
+        shutil.copy(library, here / "module")
+        count.take(found() == str(here / "module" / "libkulfizan.so"), "the library beside the module is not found")
+        count.take(found(KULFIZAN_LIBRARY=wanted) == wanted, "the library of the environment does not come first")
+    count.take(module.path() == library, "the library of target/lib is not found")
+
+
+# ---- the example in C
+
+def shown(data):
+    """What the example prints for a sheet, and its exit status."""
+    no, which = read(data)
+    no, numbers = answer(None if no else Quotes(params_of(which)), no, ("ecoh", 65, 2015, 0))
+    if no:
+        return 1, f"no={no}\n"
+    lower, upper, printed, steps = numbers
+    ends = [f"{name} {end // 10**9}.{end % 10**9:09}" for name, end in (("lower", lower), ("upper", upper))]
+    return 0, "\n".join([*ends, f"fig={steps // 10}.{steps % 10}" if printed else "fig=open"]) + "\n"
+
+
+def compare_example(count, draw):
+    sheet = sheets.text(flat())
+    inputs = [sheet, sheets.text(sheets.realistic(draw)), sheets.text(test_quotes.mild(draw)), b"", sheet[:-1], sheet * 20]
+    inputs += [sheets.text(dict(flat(), a=SIZES["a"] + 1)), sheets.text(dict(flat(), A=[0] * 91)), sheet.ljust(2**20, b"\n")]
+    with tempfile.NamedTemporaryFile() as file:
+        for data in inputs:
+            pathlib.Path(file.name).write_bytes(data)
+            done = subprocess.run([face.EXAMPLE, file.name], capture_output=True, check=False)
+            got, wanted = (done.returncode, done.stdout.decode()), shown(data)
+            count.take(got == wanted, f"the example prints {got} and not {wanted}")
+        for words in ([], [file.name, file.name], [file.name + "-none"]):
+            done = subprocess.run([face.EXAMPLE, *words], capture_output=True, check=False)
+            count.take(done.returncode == 2 and not done.stdout, f"the example with {len(words)} files")
+
+
+def main():
+    seed = int(sys.argv[1]) if len(sys.argv) > 1 else SEED
+    print(f"seed {seed}")
+    count, draw, module = face.Count(), random.Random(seed), face.built()
+    count.take(module is not None, "the library is not built")
+    if module:
+        counts = collections.Counter()
+        for one in cases(draw):
+            compare_queries(count, counts, draw, module.LIBRARY, one)
+        met(count, counts)
+        compare_words(count, draw, module.LIBRARY)
+        compare_runs(count, draw, module)
+        compare_module(count, draw, module)
+        compare_places(count, module)
+        compare_example(count, draw)
+    return count.close()
+
+
+if __name__ == "__main__":
+    sys.exit(main())
