@@ -1,34 +1,21 @@
 -- How long what is printed after a query is.
 use mathlib.Core.Path.{_≡_}
 use mathlib.Core.Bool.{Bool, true, false}
-use Prim.Native.Nat.{ℕ, suc, _+_, _≤_, _<_}
+use Prim.Native.Nat.{ℕ, _+_, _≤_}
 use native.Mathlib.Omega.{arith}
 use lib.ListN.{length, length-append}
 use Rattle.tokens.specs.Text.{bytesOf}
-use Rattle.tokens.specs.Number.{mostDigits, unsignedText}
+use Rattle.tokens.specs.Number.{mostDigits}
 use Rattle.tokens.specs.DecimalLaws.{text-small, unsigned-length}
 use Rattle.params.specs.declared.Refusal.{Refusal}
-use Rattle.params.specs.declared.Refusal.the-variants.{Accepted, Torn, OffScale, NoSuchAge, NoSuchYear, NoSuchSpan, Steep, Short}
 use Rattle.params.specs.Refusals.{refusalNumber}
+use Rattle.params.specs.RefusalLaws.{number-small}
 use Rattle.exact.specs.declared.Figure.{Figure}
-use Rattle.figure_text.specs.FigureText.{figureText}
 use Rattle.figure_text.specs.FigureTextLaws.{figure-length}
 use Rattle.path_quotes.specs.declared.Quote.{Quote}
 use Rattle.path_quotes.specs.declared.Answer.{Answer}
 use Rattle.path_quotes.specs.declared.Answer.the-variants.{Quoted, Refused}
 use Rattle.answer_text.specs.AnswerText.{refusalLine, endsText, shownText, quoteText, answerText}
-
--- a refusal's number has one digit
-number-small : (r : Refusal) → refusalNumber r < 10
-unfolding refusalNumber
-number-small Accepted = omega arith
-number-small Torn = omega arith
-number-small OffScale = omega arith
-number-small NoSuchAge = omega arith
-number-small NoSuchYear = omega arith
-number-small NoSuchSpan = omega arith
-number-small Steep = omega arith
-number-small Short = omega arith
 
 -- the bytes of `no=1` and its line feed
 abbrev pub refusalBytes : ℕ

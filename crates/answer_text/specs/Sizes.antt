@@ -1,9 +1,9 @@
 -- How great the numbers of a quote are: each end and the steps have at most 15 digits.
-use mathlib.Core.Path.{_≡_, refl, ap}
+use mathlib.Core.Path.{_≡_, refl}
 use mathlib.Core.Bool.{Bool, true, false, cond}
-use Prim.Native.Nat.{ℕ, suc, _+_, _*_, _/_, _-_, _^_, _≤_, _<_}
+use Prim.Native.Nat.{ℕ, _-_, _^_, _≤_, _<_}
 use native.Mathlib.Omega.{arith}
-use lib.Dec.{eqb, lit<}
+use lib.Dec.{eqb}
 use lib.IntN.{ℤ, natAbs}
 use Rattle.tokens.specs.Number.{mostDigits}
 use Rattle.expo.specs.Grid.{Ends}
@@ -13,11 +13,8 @@ use Rattle.params.specs.declared.Params.{Params}
 use Rattle.params.specs.declared.Refusal.{Refusal}
 use Rattle.params.specs.declared.Refusal.the-variants.{Accepted, Torn, OffScale, NoSuchAge, NoSuchYear, NoSuchSpan, Steep, Short}
 use Rattle.params.specs.Limits.{startYear}
-use Rattle.weights.specs.Weights.{lastClosed}
-use Rattle.exact.specs.declared.Figure.{Figure}
 use Rattle.exact.specs.declared.Figure.the-variants.{Printed, Open}
 use Rattle.exact.specs.Figure.{halfUp, figureOf}
-use Rattle.folds.specs.Code.{mostFactors}
 use Rattle.paths.specs.Answers.{path-length}
 use Rattle.paths.specs.Width.{value-small}
 use Rattle.kinds.specs.declared.Kind.{Kind}

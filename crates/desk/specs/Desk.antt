@@ -1,15 +1,15 @@
 -- "Standard input is a sheet, then query lines": the whole run, from the input's bytes to the output's.
 use mathlib.Core.Bool.{Bool, cond}
-use mathlib.Core.List.{List, [], _∷_, _++_}
+use mathlib.Core.List.{List}
 use Prim.Native.Nat.{ℕ, _+_, _*_}
 use lib.Dec.{eqb, leb}
 use lib.ListN.{length}
-use Rattle.params.specs.declared.Params.{Params}
 use Rattle.params.specs.declared.Refusal.the-variants.{Torn}
 use Rattle.params.specs.Refusals.{refusalNumber}
 use Rattle.sheet.specs.declared.Reading.{Reading}
 use Rattle.sheet.specs.Sheet.{mostBytes, refused, readSheet}
 use Rattle.lines.specs.Lines.{firstLines, afterLines, lines}
+use Rattle.pieces.specs.Pieces.{answersTo}
 use Rattle.answer_text.specs.AnswerText.{refusalLine}
 use Rattle.desk_line.specs.Line.{lineAnswer, mostLine}
 
@@ -21,15 +21,10 @@ sheetLines = 370
 unfoldable pub inputSheet : List ℕ → Reading
 inputSheet input = cond (leb (length input) mostBytes) (readSheet (firstLines sheetLines input)) (refused Torn)
 
--- the answers to lines, one after the other
-unfoldable pub answersTo : Bool → Params → List (List ℕ) → List ℕ
-answersTo ends p [] = []
-answersTo ends p (l ∷ ls) = lineAnswer ends p l ++ answersTo ends p ls
-
 -- what follows a sheet is answered; "a refused sheet .. prints `no=` and its number as the one line of the run"
 unfoldable pub deskOf : Bool → Reading → List ℕ → List ℕ
 deskOf ends sheet rest =
-    cond (eqb (refusalNumber (sheet .refusal)) 0) (answersTo ends (sheet .set) (lines rest)) (refusalLine (sheet .refusal))
+    cond (eqb (refusalNumber (sheet .refusal)) 0) (answersTo (lineAnswer ends (sheet .set)) (lines rest)) (refusalLine (sheet .refusal))
 
 -- the whole run: every line after the sheet is a query, also what follows the last line feed
 unfoldable pub runOf : Bool → List ℕ → List ℕ

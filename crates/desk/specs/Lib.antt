@@ -1,5 +1,5 @@
 -- definitions
 pub mod Desk
-pub mod Pieces
 -- laws
-pub mod PieceLaws
+pub mod Sheets
+pub mod Answers

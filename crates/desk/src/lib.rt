@@ -2,13 +2,15 @@
 ghost use mathlib.Core.Path.{_≡_};
 ghost use Prim.Native.Nat.{_≤_};
 ghost use lib.Dec.{T, leb};
-ghost use lib.ListN.{length};
+ghost use lib.ListN.{length, drop};
 ghost use Rattle.params.specs.Limits.{inLimits};
 ghost use Rattle.lines.specs.Lines.{firstLines};
 ghost use Rattle.answer_text.specs.Lengths.{refusalBytes};
+ghost use Rattle.pieces.specs.Pieces.{Filled, Handed};
+ghost use Rattle.desk_line.specs.Line.{lineAnswer, mostLine};
 ghost use Rattle.desk_line.specs.Into.{textAnswer, textBuffer};
-ghost use Rattle.desk.specs.Desk.{sheetLines, inputSheet, runOf, runRoom};
-ghost use Rattle.desk.specs.Pieces.{Filled, ReadWell, Handed};
+ghost use Rattle.desk.specs.Desk.{sheetLines, inputSheet, deskOf, runOf, runRoom};
+ghost use Rattle.desk.specs.Sheets.{ReadWell};
 use desk_line::MOST_LINE;
 use params::Params;
 use params::Refusal;
@@ -51,7 +53,7 @@ pub fn begin(input: &[u8]) -> Begun
 // Answers the lines from a place on, as long as the buffer has room for one more.
 fn fill(p: Params, ends: bool, input: &[u8], at: usize, out: &mut [u8]) -> Piece
     requires { ⌜ T (inLimits p) × (at ≤ length (now input)) ⌝ }
-    ensures { λ r. ⌜ Filled ends p (now (input .entry)) at (now (out .entry)) (now (out .exit)) (r .next) (r .len) ⌝ }
+    ensures { λ r. ⌜ Filled mostLine (lineAnswer ends p) (now (input .entry)) at (now (out .entry)) (now (out .exit)) (r .next) (r .len) ⌝ }
 {
     let mut next = at;
     let mut len = 0;
@@ -66,7 +68,8 @@ fn fill(p: Params, ends: bool, input: &[u8], at: usize, out: &mut [u8]) -> Piece
 // The next piece of the output, from the place where the one before ended.
 pub fn part(sheet: Reading, ends: bool, input: &[u8], at: usize, out: &mut [u8]) -> Piece
     requires { ⌜ ReadWell sheet × (at ≤ length (now input)) × (refusalBytes ≤ length (now out)) ⌝ }
-    ensures { λ r. ⌜ Handed ends sheet (now (input .entry)) at (now (out .entry)) (now (out .exit)) (r .next) (r .len) ⌝ }
+    ensures { λ r. ⌜ Handed mostLine (lineAnswer ends (sheet .set)) (deskOf ends sheet (drop at (now (input .entry)))) (now (input .entry)) at
+        (now (out .entry)) (now (out .exit)) (r .next) (r .len) ⌝ }
 {
     let refusal = sheet.refusal;
     if params::refusal_number(refusal) != 0 {

@@ -1,6 +1,6 @@
 -- A text into a buffer that must have room for so many bytes: refused as short where it has not, and then no byte is written;
 -- else it stands at the front, and the bytes after it keep their values.
-use mathlib.Core.Path.{_≡_, refl, _∙_}
+use mathlib.Core.Path.{_≡_, _∙_}
 use mathlib.Core.Bool.{cond}
 use mathlib.Core.List.{List, _++_}
 use Prim.Native.Nat.{ℕ, _+_, _≤_, _<_}

@@ -1,7 +1,7 @@
 -- Laws of the answer to a line: by what the line reads as, and how long it is.
-use mathlib.Core.Path.{_≡_, refl, sym, ap, _∙_}
+use mathlib.Core.Path.{_≡_, refl, ap}
 use mathlib.Core.Bool.{Bool}
-use mathlib.Core.List.{List, [], _∷_, _++_}
+use mathlib.Core.List.{List}
 use Prim.Native.Nat.{ℕ, suc, _+_, _-_, _*_, _≤_, _<_}
 use native.Mathlib.Omega.{arith}
 use lib.ListN.{length, take, length-append}
@@ -16,7 +16,7 @@ use Rattle.path_quotes.specs.declared.Answer.{Answer}
 use Rattle.query.specs.declared.Query.{Query}
 use Rattle.query.specs.Query.{queryText, readQuery}
 use Rattle.query.specs.QueryLaws.{query-text, query-least, query-most}
-use Rattle.answer_text.specs.AnswerText.{refusalLine, answerText}
+use Rattle.answer_text.specs.AnswerText.{refusalLine}
 use Rattle.answer_text.specs.Lengths.{answerBytes, refusal-length, answer-length}
 use Rattle.desk_line.specs.Line.{queryAnswer, queryLine, lineAnswer, mostLine}
 

@@ -13,9 +13,9 @@ ghost use Rattle.desk_line.specs.Into.{textAnswer, textBuffer};
 use kinds::Kind;
 use params::Params;
 use params::Refusal;
+use path_quotes::Answer;
 use query::Query;
 use query::QueryRead;
-use path_quotes::Answer;
 use sheet::Written;
 
 // No answer is longer.

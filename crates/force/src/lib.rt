@@ -10,9 +10,9 @@ ghost use Rattle.series.specs.WidthLaws.{logForceWidth};
 ghost use Rattle.series.specs.RangeLaws.{Negated};
 ghost use Rattle.logarithm.specs.Logarithm.{inverseLogistic};
 ghost use Rattle.force.specs.Force.{negated, deathOf};
-use signed_ends::SignedEnds;
 use expo::Ends;
 use expo::UNIT;
+use signed_ends::SignedEnds;
 
 // The force at an age to 90, e^m.
 pub fn force_to_90(m: SignedEnds) -> Ends

@@ -11,9 +11,9 @@ ghost use Rattle.signed_ends.specs.Code.{endsOf};
 ghost use Rattle.signed_ends.specs.EndLaws.{Within};
 ghost use Rattle.logistic.specs.Logistic.{logisticLower, logisticUpper, logistic};
 ghost use Rattle.logistic.specs.Code.{closedLimit};
-use signed_ends::SignedEnds;
 use expo::Ends;
 use expo::UNIT;
+use signed_ends::SignedEnds;
 
 // An end of e^−z.
 fn exp_end(z: u64, upper: bool) -> u64

@@ -2,4 +2,5 @@ pub mod Refusals
 pub mod Set
 pub mod Limits
 pub mod LimitsLaws
+pub mod RefusalLaws
 pub mod Rows

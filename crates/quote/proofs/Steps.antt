@@ -49,17 +49,6 @@ refused NoSuchSpan q n = refl
 refused Steep q n = refl
 refused Short q n = refl
 
-pub accepted : (r : Refusal) → refusalNumber r ≡ 0 → r ≡ Accepted
-unfolding refusalNumber
-accepted Accepted e = refl
-accepted Torn e = absurd (omega arith)
-accepted OffScale e = absurd (omega arith)
-accepted NoSuchAge e = absurd (omega arith)
-accepted NoSuchYear e = absurd (omega arith)
-accepted NoSuchSpan e = absurd (omega arith)
-accepted Steep e = absurd (omega arith)
-accepted Short e = absurd (omega arith)
-
 -- tests after others count where those pass
 append-by : (b : Bool) (r : Refusal) {s t : Refusal} → (cond b s r ≡ Accepted → ⊥) → ((s ≡ Accepted → ⊥) → t ≡ s)
     → cond b t r ≡ cond b s r

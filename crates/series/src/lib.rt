@@ -8,8 +8,8 @@ ghost use Rattle.signed_ends.specs.Code.{endsOf};
 ghost use Rattle.signed_ends.specs.EndLaws.{Within};
 ghost use Rattle.series.specs.Series.{periodIn, kappaStep, kappaIn, cellForce, inRange};
 ghost use Rattle.series.specs.BoundLaws.{CellLimits};
-use signed_ends::SignedEnds;
 use params::Age;
+use signed_ends::SignedEnds;
 
 // The unit of a, B and beta.
 const RATE_UNIT: i64 = 100_000_000;

@@ -13,9 +13,10 @@ use Rattle.params.specs.declared.Params.{Params}
 use Rattle.params.specs.declared.Sex.{Sex}
 use Rattle.params.specs.declared.Sex.the-variants.{M, F}
 use Rattle.params.specs.declared.Refusal.{Refusal}
-use Rattle.params.specs.declared.Refusal.the-variants.{Accepted, Torn, OffScale, NoSuchAge, NoSuchYear}
-use Rattle.params.specs.declared.Refusal.the-variants.{NoSuchSpan, Steep, Short}
+use Rattle.params.specs.declared.Refusal.the-variants.{Accepted, Torn, OffScale}
+use Rattle.params.specs.declared.Refusal.the-variants.{Short}
 use Rattle.params.specs.Refusals.{refusalNumber}
+use Rattle.params.specs.RefusalLaws.{accepted}
 use Rattle.params.specs.Set.{Whole}
 use Rattle.params.specs.Limits.{inLimits}
 use Rattle.sheet.specs.declared.Reading.{Reading}
@@ -82,17 +83,6 @@ written-reads ns room e before h =
     (ap (λ (l : List ℤ). l ++ drop setLength before) (sym (numbers-back ns t)))
 
 -- ---- read, then written
-
-accepted : (r : Refusal) → refusalNumber r ≡ 0 → r ≡ Accepted
-unfolding refusalNumber
-accepted Accepted e = refl
-accepted Torn e = absurd (omega arith)
-accepted OffScale e = absurd (omega arith)
-accepted NoSuchAge e = absurd (omega arith)
-accepted NoSuchYear e = absurd (omega arith)
-accepted NoSuchSpan e = absurd (omega arith)
-accepted Steep e = absurd (omega arith)
-accepted Short e = absurd (omega arith)
 
 -- where a reading is accepted, the sheet has no refusal
 accepted-sheet : (sheet : List ℕ) (places : ℕ) → readNo sheet places ≡ 0 → readSheet sheet .refusal ≡ Accepted

@@ -1,6 +1,6 @@
 -- A line at a place, in the steps of the code: its name, its age, `=`, its number and the line feed, each of which is
 -- found at its place or leaves the line torn.
-use mathlib.Core.Path.{_≡_, sym, _∙_}
+use mathlib.Core.Path.{_≡_, _∙_}
 use Prim.Native.Nat.{ℕ, _+_}
 use mathlib.Core.Bool.{true, false}
 use mathlib.Core.List.{List, _++_}

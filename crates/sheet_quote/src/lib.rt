@@ -7,9 +7,9 @@ ghost use Rattle.sheet_quote.specs.SheetQuote.{quoteLength, printedNumbe
 ghost use Rattle.sheet_quote.specs.SheetQuote.{quotedNo, quotedAfter, quoteNo, quoteAfter};
 use exact::Figure;
 use params::Refusal;
-use query::KindRead;
 use path_quotes::Answer;
 use path_quotes::Quote;
+use query::KindRead;
 
 // The two ends, whether the figure is printed, and its steps.
 const QUOTE_LENGTH: usize = 4;

@@ -7,9 +7,9 @@ ghost use Rattle.signed_ends.specs.Code.{endsOf};
 ghost use Rattle.series.specs.Series.{cellForce};
 ghost use Rattle.series.specs.BoundLaws.{CellLimits};
 ghost use Rattle.years.specs.Code.{YearOf, YearWithin, NextOf};
-use signed_ends::SignedEnds;
 use params::Age;
 use params::Params;
+use signed_ends::SignedEnds;
 
 // The year 2013 + number, with K and kappa.
 pub struct Year {

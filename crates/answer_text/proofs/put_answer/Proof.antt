@@ -5,9 +5,8 @@ use mathlib.Core.List.{_++_}
 use Rattle.tokens.specs.Text.{bytesOf}
 use Rattle.printing.specs.Put.{Room, Put}
 use Rattle.printing.specs.PutLaws.{put-of, put-as, room-as, room-first, room-rest, put-join}
-use Rattle.path_quotes.specs.declared.Answer.{Answer}
-use Rattle.answer_text.specs.AnswerText.{refusalLine, quoteText, answerText}
-use Rattle.answer_text.specs.Sizes.{Sized, SizedAnswer}
+use Rattle.answer_text.specs.AnswerText.{refusalLine, answerText}
+use Rattle.answer_text.specs.Sizes.{SizedAnswer}
 use Rattle.answer_text.proofs.put_answer.Statement.{statement}
 use Rattle.answer_text.proofs.put_answer.Tie as tie
 

@@ -1,6 +1,5 @@
 -- `put_field` meets its contract: the name, and right after it the number.
 use borrow.Author.Needs.{needs}
-use mathlib.Core.List.{_++_}
 use Rattle.tokens.specs.Number.{unsignedText}
 use Rattle.printing.specs.Put.{Room, Put}
 use Rattle.printing.specs.PutLaws.{put-of, room-first, room-rest, put-join}

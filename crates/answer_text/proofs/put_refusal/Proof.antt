@@ -2,11 +2,9 @@
 use borrow.Author.Needs.{needs}
 use mathlib.Core.Path.{_≡_, sym, ap}
 use mathlib.Core.List.{List, _++_}
-use Prim.Native.Nat.{ℕ, _<_, _^_}
-use native.Mathlib.Omega.{arith}
+use Prim.Native.Nat.{ℕ}
 use Rattle.tokens.specs.Text.{bytesOf}
-use Rattle.tokens.specs.Number.{unsignedText, mostDigits}
-use Rattle.params.specs.Refusals.{refusalNumber}
+use Rattle.tokens.specs.Number.{unsignedText}
 use Rattle.printing.specs.Put.{Room, Put}
 use Rattle.printing.specs.PutLaws.{put-of, put-as, room-as, room-first, room-rest, put-join}
 use Rattle.answer_text.specs.AnswerText.{refusalLine}

@@ -1,14 +1,12 @@
 -- `print_run` is safe and ends: each piece but the last begins further on.
-use borrow.Author.Needs.{needs}
 use mathlib.Core.Path.{_≡_, sym, subst, _∙_}
-use Prim.Native.Nat.{_+_, _-_, _≤_, _<_}
+use Prim.Native.Nat.{_-_, _≤_, _<_}
 use native.Mathlib.Omega.{arith}
 use lib.ListN.{length}
 use lib.Seq.{length-take-le}
 use Rattle.lines.specs.LineLaws.{lines-within}
 use Rattle.desk.specs.Desk.{sheetLines}
-use Rattle.desk.specs.Pieces.{ReadWell}
-use Rattle.desk.specs.PieceLaws.{sheet-well}
+use Rattle.desk.specs.Sheets.{ReadWell, sheet-well}
 use Rattle.console.proofs.print_run.Statement.{statement}
 use Rattle.console.proofs.print_run.Tie as tie
 

@@ -1,5 +1,4 @@
 -- `fill` meets its contract: each turn answers one line more, as long as there is one and room for it.
-use borrow.Author.Needs.{needs}
 use mathlib.Core.Path.{_≡_, refl, sym, ap, _∙_}
 use mathlib.Core.List.{List}
 use Prim.Native.Nat.{ℕ, _+_, _-_, _≤_, _<_}
@@ -11,14 +10,15 @@ use Rattle.params.specs.Limits.{inLimits}
 use Rattle.printing.specs.PutLaws.{put-as}
 use Rattle.lines.specs.LineLaws.{line-take, place-within}
 use Rattle.desk_line.specs.Line.{lineAnswer, mostLine}
-use Rattle.desk.specs.Pieces.{Going, Filled}
-use Rattle.desk.specs.PieceLaws.{lineAt, line-here, going-none, going-more}
+use Rattle.desk.specs.Answers.{desk-bounded}
+use Rattle.pieces.specs.Pieces.{Going}
+use Rattle.pieces.specs.PieceLaws.{lineAt, line-here, going-none, going-more}
 use Rattle.desk.proofs.fill.Statement.{statement}
 use Rattle.desk.proofs.fill.Tie as tie
 
 abbrev Inv-loop : tie.InvT-loop
 Inv-loop p ends input at out₀ next₀ len₀ out next len =
-    (length out ≡ length out₀) × Going ends p input at out₀ out next len
+    (length out ≡ length out₀) × Going (lineAnswer ends p) input at out₀ out next len
 
 abbrev μ-loop : tie.MeasureT-loop
 μ-loop p ends input at out₀ next₀ len₀ out next len = length input - next
@@ -58,7 +58,7 @@ more c =
 loop-holds : tie.Need-loop-holds Inv-loop μ-loop
 loop-holds c =
     let s = c .before .before in
-    (refl, going-none (s .args .ends) (s .args .p) (s .args .input .now) (s .args .at) (s .args .out .now) (s .pre .1))
+    (refl, going-none (lineAnswer (s .args .ends) (s .args .p)) (s .args .input .now) (s .args .at) (s .args .out .now) (s .pre .1))
 
 sub-if1 : tie.Need-sub-if1 Inv-loop μ-loop
 sub-if1 c = omega (arith, c .before .loop .inv .0, c .before .loop .inv .1 .fits)
@@ -93,7 +93,7 @@ loop-again c =
     let l = turn w .loop in
     let s = start (turn w) .args in
     let put = put-as (ap (lineAnswer (s .ends) (s .p)) (slice w)) (c .before .before .put-line .ensures) in
-    (c .before .before .put-line .kept .0 ∙ l .inv .0, rw (end w) (going-more (l .inv .1) (more w .0) (omega (arith, more w .1, l .inv .0)) put))
+    (c .before .before .put-line .kept .0 ∙ l .inv .0, rw (end w) (going-more (desk-bounded (s .ends) (s .p)) (l .inv .1) (more w .0) (omega (arith, more w .1, l .inv .0)) put))
 
 same-length : tie.Need-same-length Inv-loop μ-loop
 same-length c = c .before .before .loop .inv .0

@@ -1,9 +1,13 @@
 -- `part` meets its contract: a refused sheet's line, or answers.
-use mathlib.Core.Path.{_≡_, sym, _∙_}
+use mathlib.Core.Path.{_≡_, sym, ap, _∙_}
 use native.Mathlib.Omega.{arith}
+use lib.ListN.{length}
+use Rattle.printing.specs.PutLaws.{put-as}
 use Rattle.params.specs.Refusals.{refusalNumber}
 use Rattle.answer_text.specs.Lengths.{refusal-length}
-use Rattle.desk.specs.PieceLaws.{handed-refused, handed-filled}
+use Rattle.desk_line.specs.Line.{lineAnswer}
+use Rattle.pieces.specs.PieceLaws.{handed-alone, handed-filled}
+use Rattle.desk.specs.Answers.{desk-refused, desk-accepted}
 use borrow.Author.Needs.{needs}
 use Rattle.desk.proofs.part.Statement.{statement}
 use Rattle.desk.proofs.part.Tie as tie
@@ -27,8 +31,11 @@ returns : tie.Need-returns
 returns c =
     let w = c .before .before .before .before in
     let s = w .before .before .before .before in
-    handed-refused (s .args .ends) (s .args .sheet) (s .args .input .now) (s .args .at) (s .args .out .now) _
-    (λ e. w .if1 .taken (w .before .refusal-number .ensures ∙ e)) (s .pre .2) (c .before .before .put-refusal .ensures)
+    let e = sym (desk-refused (s .args .ends) (s .args .sheet) (s .args .input .now) (s .args .at)
+    (λ q. w .if1 .taken (w .before .refusal-number .ensures ∙ q))) in
+    handed-alone (lineAnswer (s .args .ends) (s .args .sheet .set)) (s .args .input .now) (s .args .at)
+    (put-as e (c .before .before .put-refusal .ensures))
+    (omega (arith, ap length e, s .pre .2, refusal-length (s .args .sheet .refusal)))
 
 fill-requires : tie.Need-fill-requires
 fill-requires c κs =
@@ -43,8 +50,8 @@ returns-2 : tie.Need-returns-2
 returns-2 c =
     let w = c .before .before .before .before .before in
     let s = w .before .before .before .before in
-    handed-filled (s .args .ends) (s .args .sheet) (s .args .input .now) (s .args .at) (s .args .out .now) _
-    (accepted w) (c .before .before .fill .ensures)
+    handed-filled (c .before .before .fill .ensures)
+    (desk-accepted (s .args .ends) (s .args .sheet) (s .args .input .now) (s .args .at) (accepted w))
 
 pub part-spec : {M : Type 1} → statement M
 part-spec =

@@ -1,20 +1,21 @@
 -- `run` meets its contract: short, or the one piece that is the whole output.
-use mathlib.Core.Path.{_≡_, sym, ap, subst, _∙_}
-use mathlib.Core.Bool.{Bool, true, false}
+use mathlib.Core.Path.{_≡_, sym, subst, _∙_}
+use mathlib.Core.Bool.{Bool}
 use mathlib.Core.List.{List}
-use Prim.Native.Nat.{ℕ, _≤_, _<_}
+use Prim.Native.Nat.{ℕ, _+_, _*_, _≤_}
 use native.Mathlib.Omega.{arith}
 use borrow.Author.Tests.{not-true, not-false, leb-true, leb-false}
-use lib.Dec.{leb}
-use lib.ListN.{length}
+use lib.ListN.{length, drop}
+use Rattle.printing.specs.PutLaws.{put-as}
 use Rattle.sheet.specs.declared.Reading.{Reading}
 use Rattle.lines.specs.Lines.{firstLines}
-use Rattle.lines.specs.LineLaws.{lines-within}
+use Rattle.lines.specs.LineLaws.{lines-within, lines-drop}
 use Rattle.answer_text.specs.Lengths.{refusalBytes}
+use Rattle.desk_line.specs.Line.{mostLine}
 use Rattle.desk_line.specs.Into.{into-short, into-put}
-use Rattle.desk.specs.Desk.{sheetLines, inputSheet, runOf, runRoom}
-use Rattle.desk.specs.Pieces.{ReadWell, Handed}
-use Rattle.desk.specs.PieceLaws.{sheet-well, run-put}
+use Rattle.desk.specs.Desk.{sheetLines, inputSheet, deskOf, runOf, runRoom}
+use Rattle.desk.specs.Sheets.{ReadWell, sheet-well}
+use Rattle.pieces.specs.PieceLaws.{handed-whole}
 use borrow.Author.Needs.{needs}
 use Rattle.desk.proofs.run.Statement.{statement}
 use Rattle.desk.proofs.run.Tie as tie
@@ -31,12 +32,17 @@ enough : (n : ℕ) {r : ℕ} → runRoom n ≤ r → refusalBytes ≤ r
 unfolding runRoom
 enough n h = omega arith
 
--- the piece that begins where the sheet ends
-from : {ends : Bool} {input : List ℕ} {sheet : Reading} {at : ℕ} {before after : List ℕ} {next len : ℕ}
+-- what is printed from where the sheet ends
+from : (ends : Bool) (input : List ℕ) {sheet : Reading} {at : ℕ}
     → (sheet ≡ inputSheet input) × (at ≡ length (firstLines sheetLines input))
-    → Handed ends sheet input at before after next len
-    → Handed ends (inputSheet input) input (length (firstLines sheetLines input)) before after next len
-from e h = rw (← (e .0), ← (e .1)) h
+    → deskOf ends sheet (drop at input) ≡ runOf ends input
+unfolding runOf
+from ends input e = rw (e .0, e .1, lines-drop sheetLines input)
+
+-- room for any output is room for the piece
+all : (n : ℕ) {r : ℕ} → runRoom n ≤ r → 5 * n + mostLine ≤ r
+unfolding runRoom
+all n h = h
 
 has-room-requires : tie.Need-has-room-requires
 has-room-requires c κs = search needs
@@ -69,8 +75,8 @@ returns-2 c =
     let w = c .before .before .before .before .before .before in
     let s = w .before .before .before .before .args in
     into-put (runRoom (length (s .input .now))) (runOf (s .ends) (s .input .now)) (s .out .now) (room w)
-    (run-put (s .ends) (s .input .now)
-    (from (c .before .before .before .before .before .begin .ensures) (c .before .before .part .ensures)) (room w))
+    (put-as (from (s .ends) (s .input .now) (c .before .before .before .before .before .begin .ensures))
+    (handed-whole (c .before .before .part .ensures) (all (length (s .input .now)) (room w))))
 
 pub run-spec : {M : Type 1} → statement M
 run-spec =

@@ -1,5 +1,4 @@
 -- `answer_to` meets its contract: off scale, or the quote of a set within its limits.
-use borrow.Author.Needs.{needs}
 use mathlib.Core.Path.{_≡_, sym, _∙_}
 use mathlib.Core.Bool.{true, false}
 use borrow.Author.Tests.{not-true, not-false}

@@ -8,7 +8,6 @@ use lib.ListN.{length, take}
 use Rattle.tokens.specs.Text.{torn, taken}
 use Rattle.printing.specs.Put.{Room}
 use Rattle.printing.specs.PutLaws.{put-as, room-as}
-use Rattle.params.specs.declared.Refusal.the-variants.{Torn}
 use Rattle.kinds.specs.Kinds.{ruleOf, decimalsOf}
 use Rattle.path_quotes.specs.declared.Answer.{Answer}
 use Rattle.query.specs.declared.Query.{Query}

@@ -1,10 +1,10 @@
 -- `lines_end` meets its contract: what is left of the lines begins where the last one ended.
-use mathlib.Core.Path.{_≡_, refl, sym, ap, _∙_}
+use mathlib.Core.Path.{_≡_, refl, _∙_}
 use Prim.Native.Nat.{ℕ, zero, suc, _+_, _-_, _≤_, _<_}
 use native.Mathlib.Omega.{arith}
 use borrow.Author.Needs.{needs}
 use mathlib.Core.List.{List}
-use lib.ListN.{length, drop, length-append}
+use lib.ListN.{length, drop}
 use lib.Seq.{drop-drop}
 use Rattle.lines.specs.Lines.{firstLine, afterLine, firstLines}
 use Rattle.lines.specs.LineLaws.{after-drop, lines-length, place-within}

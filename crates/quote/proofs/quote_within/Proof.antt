@@ -15,7 +15,8 @@ use Rattle.table_tests.specs.TableTests.{firstFailed, tableTests}
 use Rattle.table_tests.specs.TableLaws.{InTable, in-table}
 use Rattle.quote.specs.Quote.{queryPath}
 use Rattle.quote.specs.Tests.{Counted, counted, path-ages, path-first, path-in}
-use Rattle.quote.proofs.Steps.{accepted, table-answer, along-answer, years-under, cast-whole, years-from}
+use Rattle.params.specs.RefusalLaws.{accepted}
+use Rattle.quote.proofs.Steps.{table-answer, along-answer, years-under, cast-whole, years-from}
 use Rattle.quote.proofs.quote_within.Statement.{statement}
 use Rattle.quote.proofs.quote_within.Tie as tie
 

@@ -6,7 +6,7 @@ use native.Mathlib.Omega.{arith}
 use mathlib.Core.List.{[]}
 use lib.ListN.{drop}
 use mir.Facts.{toZ-ofZ}
-use Rattle.tokens.specs.Text.{torn, taken}
+use Rattle.tokens.specs.Text.{taken}
 use Rattle.query.specs.Query.{onOffer, readWord}
 use Rattle.query.proofs.QuerySteps.{kind-torn, kind-taken}
 use Rattle.sheet_quote.specs.SheetQuote.{kindOf}

@@ -1,0 +1,4 @@
+-- definitions
+pub mod Pieces
+-- laws
+pub mod PieceLaws
