@@ -15,7 +15,7 @@
 #include "params.h"
 #include "timing.h"
 
-enum { TURNS = 40, QUERIES = 1000, KINDS = 5, FIRST_YEAR = 2014, MOST_INPUT = 65536, LONGEST_LINE = 139 };
+enum { TURNS = 80, QUERIES = 1000, KINDS = 5, FIRST_YEAR = 2014, MOST_INPUT = 65536, LONGEST_LINE = 139 };
 
 /* A kind: its word, how many years it has, whether it has spans, and the steps of its figure in one. */
 typedef struct {

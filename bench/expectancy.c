@@ -9,13 +9,13 @@
 #include "kulfizan.h"
 #include "timing.h"
 
-enum { TURNS = 40, YEAR = 2020 };
+enum { YEAR = 2020 };
 
-/* What is timed: the expectancies of some ages, some times over. */
+/* What is timed: the expectancies of some ages, some times over in a turn; short turns are taken more often. */
 typedef struct {
     const char *name;
     enum kind kind;
-    int first, count, times;
+    int first, count, times, turns;
 } load;
 
 #define EXPECTANCY_ROW(by) NAMED(expectancy, by),
@@ -86,15 +86,15 @@ static const int runners = sizeof all / sizeof all[0];
 static double time_load(const load *l, double *took) {
     const int reading = runners - 1;
     work = *l;
-    take_turns(all, runners, TURNS);
+    take_turns(all, runners, l->turns);
     all[LIBRARY].best -= all[reading].best;
     for (int i = 0; i < runners; i++) took[i] = all[i].best / (l->count * l->times);
     return fastest(all + FIRST_C, compilers) / (l->count * l->times);
 }
 
 int main(void) {
-    const load loads[3] = {{"cohort, mean", COHORT, 0, COLUMN, 1}, {"cohort at 65", COHORT, 65, 1, 20},
-        {"period at 65", PERIOD, 65, 1, 20}};
+    const load loads[3] = {{"cohort, mean", COHORT, 0, COLUMN, 1, 40}, {"cohort at 65", COHORT, 65, 1, 20, 200},
+        {"period at 65", PERIOD, 65, 1, 20, 1000}};
     const int years[3] = {2014, YEAR, 2064};
     double took[3][MOST_RUNNERS], best_c[3];
     realistic(&set);
