@@ -19,7 +19,7 @@ use sheet::Written;
 use sheet_reader::MOST_BYTES;
 
 // The lines of a sheet.
-const SHEET_LINES: usize = 370;
+pub const SHEET_LINES: usize = 370;
 
 // The sheet of an input, and the place after it.
 pub struct Begun {
