@@ -13,7 +13,7 @@ use path_quotes::Answer;
 use path_quotes::Quote;
 
 // Writes a name and a number; the place after them.
-fn put_field(buffer: &mut [u8], at: usize, name: &[u8], n: u64) -> usize
+pub fn put_field(buffer: &mut [u8], at: usize, name: &[u8], n: u64) -> usize
     requires { ⌜ (n < 10 ^ mostDigits) × Room (now buffer) at (now name ++ unsignedText n) ⌝ }
     ensures { λ r. ⌜ Put (now (buffer .entry)) at (now (name .entry) ++ unsignedText n) (now (buffer .exit)) r ⌝ }
 {

@@ -1,7 +1,7 @@
 // The whole run of the desk: a sheet and query lines to answers, written piece by piece into buffers that the caller lends.
 ghost use mathlib.Core.Path.{_≡_};
 ghost use Prim.Native.Nat.{_≤_};
-ghost use lib.Dec.{T, leb};
+ghost use lib.Dec.{T};
 ghost use lib.ListN.{length, drop};
 ghost use Rattle.params.specs.Limits.{inLimits};
 ghost use Rattle.lines.specs.Lines.{firstLines};
@@ -19,7 +19,7 @@ use sheet::Written;
 use sheet_reader::MOST_BYTES;
 
 // The lines of a sheet.
-const SHEET_LINES: usize = 370;
+pub const SHEET_LINES: usize = 370;
 
 // The sheet of an input, and the place after it.
 pub struct Begun {
@@ -83,22 +83,12 @@ pub fn part(sheet: Reading, ends: bool, input: &[u8], at: usize, out: &mut [u8])
     fill(set, ends, input, at, out)
 }
 
-// Whether a buffer has room for the output of any input of so many bytes.
-fn has_room(room: usize, input: usize) -> bool
-    ensures { λ r. ⌜ r ≡ leb (runRoom input) room ⌝ }
-{
-    if room < MOST_LINE {
-        return false;
-    }
-    input <= (room - MOST_LINE) / 5
-}
-
 // The whole run of any input into any buffer: refused as short, a call leaves every byte as it was.
 pub fn run(ends: bool, input: &[u8], out: &mut [u8]) -> Written
     ensures { λ r. ⌜ (r ≡ textAnswer (runRoom (length (now (input .entry)))) (runOf ends (now (input .entry))) (length (now (out .entry))))
         × (now (out .exit) ≡ textBuffer (runRoom (length (now (input .entry)))) (runOf ends (now (input .entry))) (now (out .entry))) ⌝ }
 {
-    if !has_room(out.len(), input.len()) {
+    if !pieces::has_room(out.len(), input.len(), MOST_LINE) {
         return Written {
             refusal: Refusal::Short,
             len: 0,

@@ -50,7 +50,7 @@ query-some line {q} e = omega (arith, ap length (query-text line e), length-appe
 
 -- ---- lengths
 
-decimals-most : (f : Fold) → decimalsOf f ≤ 5
+pub decimals-most : (f : Fold) → decimalsOf f ≤ 5
 unfolding decimalsOf
 decimals-most Death = omega arith
 decimals-most Survival = omega arith

@@ -22,7 +22,7 @@ use sheet::Written;
 pub const MOST_LINE: usize = 139;
 
 // The answer to a query, by whether the set is within its limits.
-fn answer_to(p: Params, within: bool, query: Query) -> Answer
+pub fn answer_to(p: Params, within: bool, query: Query) -> Answer
     requires { ⌜ within ≡ inLimits p ⌝ }
     ensures { λ r. ⌜ r ≡ queryAnswer p query ⌝ }
 {

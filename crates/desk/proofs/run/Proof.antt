@@ -23,6 +23,7 @@ use Rattle.desk.proofs.run.Tie as tie
 -- past the test there is room
 room : (c : tie.Else1) → let s = c .before .before .before .before .args in
     runRoom (length (s .input .now)) ≤ length (s .out .now)
+unfolding runRoom
 room c =
     let h = c .before .has-room in
     leb-true _ _ (sym (h .ensures) ∙ not-false (h .result) (c .if1 .left))
@@ -48,6 +49,7 @@ has-room-requires : tie.Need-has-room-requires
 has-room-requires c κs = search needs
 
 returns : tie.Need-returns
+unfolding runRoom
 returns c =
     let s = c .before .before .before .before .args in
     let h = c .before .has-room in

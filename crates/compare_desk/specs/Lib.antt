@@ -1,0 +1,4 @@
+-- definitions
+pub mod CompareDesk
+-- laws
+pub mod CompareDeskLaws

@@ -1,0 +1,4 @@
+-- definitions
+pub mod CompareLine
+-- laws
+pub mod CompareLaws

@@ -1,0 +1,28 @@
+-- What is printed after a query that two sheets answer: ` fig=` of the first, ` fig=` of the second, and ` values=below`,
+-- ` values=above` or ` values=near` with ` units=` and the number; where either is refused, ` no=` and the refusal.
+use mathlib.Core.List.{List, _++_}
+use Prim.Native.Nat.{ℕ}
+use Rattle.tokens.specs.Text.{bytesOf}
+use Rattle.tokens.specs.Number.{unsignedText}
+use Rattle.figure_text.specs.FigureText.{figureText}
+use Rattle.answer_text.specs.AnswerText.{refusalLine}
+use Rattle.compare_quotes.specs.declared.Values.{Values}
+use Rattle.compare_quotes.specs.declared.Values.the-variants.{Below, Above, Near}
+use Rattle.compare_quotes.specs.declared.Pair.{Pair}
+use Rattle.compare_quotes.specs.declared.Comparison.{Comparison}
+use Rattle.compare_quotes.specs.declared.Comparison.the-variants.{Compared, NotCompared}
+
+unfoldable pub valuesText : Values → List ℕ
+valuesText Below = bytesOf " values=below"
+valuesText Above = bytesOf " values=above"
+valuesText (Near n) = bytesOf " values=near units=" ++ unsignedText n
+
+-- two figures with so many decimals, and the values
+unfoldable pub pairText : ℕ → Pair → List ℕ
+pairText d c =
+    (bytesOf " fig=" ++ figureText d (c .first))
+    ++ ((bytesOf " fig=" ++ figureText d (c .second)) ++ (valuesText (c .values) ++ bytesOf "\n"))
+
+unfoldable pub comparisonText : ℕ → Comparison → List ℕ
+comparisonText d (Compared c) = pairText d c
+comparisonText d (NotCompared r) = bytesOf " " ++ refusalLine r

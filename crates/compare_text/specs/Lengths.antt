@@ -1,0 +1,36 @@
+-- How long what is printed after a query that two sheets answer is.
+use Prim.Native.Nat.{ℕ, _+_, _*_, _≤_}
+use native.Mathlib.Omega.{arith}
+use lib.ListN.{length, length-append}
+use Rattle.tokens.specs.Text.{bytesOf}
+use Rattle.tokens.specs.Number.{mostDigits}
+use Rattle.tokens.specs.DecimalLaws.{unsigned-length}
+use Rattle.figure_text.specs.FigureTextLaws.{figure-length}
+use Rattle.answer_text.specs.Lengths.{refusal-length}
+use Rattle.compare_quotes.specs.declared.Values.{Values}
+use Rattle.compare_quotes.specs.declared.Values.the-variants.{Below, Above, Near}
+use Rattle.compare_quotes.specs.declared.Pair.{Pair}
+use Rattle.compare_quotes.specs.declared.Comparison.{Comparison}
+use Rattle.compare_quotes.specs.declared.Comparison.the-variants.{Compared, NotCompared}
+use Rattle.compare_text.specs.CompareText.{valuesText, pairText, comparisonText}
+
+values-length : (v : Values) → length (valuesText v) ≤ 19 + mostDigits
+unfolding valuesText bytesOf
+values-length Below = omega arith
+values-length Above = omega arith
+values-length (Near n) = omega (arith, unsigned-length n)
+
+-- the most bytes that follow a query, but for the decimals
+abbrev pub comparisonBytes : ℕ
+comparisonBytes = 77
+
+pair-length : (d : ℕ) (c : Pair) → length (pairText d c) ≤ comparisonBytes + 2 * d
+unfolding pairText bytesOf
+pair-length d c =
+    simp length-append
+    (omega (arith, figure-length d (c .first), figure-length d (c .second), values-length (c .values)))
+
+pub comparison-length : (d : ℕ) (c : Comparison) → length (comparisonText d c) ≤ comparisonBytes + 2 * d
+unfolding comparisonText bytesOf
+comparison-length d (Compared c) = pair-length d c
+comparison-length d (NotCompared r) = omega (arith, refusal-length r)

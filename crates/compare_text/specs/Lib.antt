@@ -1,0 +1,5 @@
+-- definitions
+pub mod CompareText
+-- laws
+pub mod Sizes
+pub mod Lengths

@@ -1,0 +1,69 @@
+-- How great the numbers of a comparison are: the figures' steps and the units have at most 15 digits.
+use Prim.Native.Nat.{_-_, _^_, _<_}
+use native.Mathlib.Decide.{decLt}
+use native.Mathlib.Omega.{arith}
+use Rattle.tokens.specs.Number.{mostDigits}
+use Rattle.expo.specs.Grid.{Ends}
+use Rattle.path_quotes.specs.declared.Answer.{Answer}
+use Rattle.path_quotes.specs.declared.Answer.the-variants.{Quoted, Refused}
+use Rattle.figure_text.specs.FigureText.{Printable}
+use Rattle.answer_text.specs.Sizes.{SizedAnswer}
+use Rattle.compare_quotes.specs.declared.Values.{Values}
+use Rattle.compare_quotes.specs.declared.Values.the-variants.{Below, Above, Near}
+use Rattle.compare_quotes.specs.declared.Pair.{Pair}
+use Rattle.compare_quotes.specs.declared.Comparison.{Comparison}
+use Rattle.compare_quotes.specs.declared.Comparison.the-variants.{Compared, NotCompared}
+use Rattle.compare_quotes.specs.Compare.{mostApart, valuesOf, quotedEnds, comparisonOf}
+use Rattle.compare_quotes.specs.CompareLaws.{values-below, values-above, values-near, apart-second, apart-first}
+
+-- ---- definitions
+
+-- values whose units, where there are any, have at most 15 digits
+unfoldable pub SizedValues : Values → Type 0
+SizedValues Below = Unit
+SizedValues Above = Unit
+SizedValues (Near n) = n < 10 ^ mostDigits
+
+-- two quotes compared whose numbers have at most 15 digits
+pub record SizedPair (c : Pair) : Type 0 where
+  pub first : Printable (c .first)
+  pub second : Printable (c .second)
+  pub values : SizedValues (c .values)
+
+-- a comparison of which this holds, where it is not a refusal
+unfoldable pub SizedComparison : Comparison → Type 0
+SizedComparison (Compared c) = SizedPair c
+SizedComparison (NotCompared r) = Unit
+
+-- ---- laws
+
+-- the units are a difference of two ends, and so no greater than an end
+apart-small : (a b : Ends) → a .upper < 10 ^ mostDigits → b .upper < 10 ^ mostDigits → mostApart a b < 10 ^ mostDigits
+apart-small a b h k =
+    elim (decLt (b .upper - a .lower) (a .upper - b .lower)) [
+      | yes l ↦ omega (arith, apart-first a b (omega arith))
+      | no l ↦ omega (arith, apart-second a b (omega arith))
+    ]
+
+values-sized : (a b : Ends) → a .upper < 10 ^ mostDigits → b .upper < 10 ^ mostDigits → SizedValues (valuesOf a b)
+unfolding SizedValues
+values-sized a b h k =
+    elim (decLt (a .upper) (b .lower)) [
+      | yes l ↦ rw (values-below a b l) tt
+      | no l ↦ elim (decLt (b .upper) (a .lower)) [
+        | yes m ↦ rw (values-above a b (omega arith) m) tt
+        | no m ↦ rw (values-near a b (omega arith) (omega arith)) (apart-small a b h k)
+      ]
+    ]
+
+-- of two answers whose numbers have at most 15 digits
+pub comparison-sized : (a b : Answer) → SizedAnswer a → SizedAnswer b → SizedComparison (comparisonOf a b)
+unfolding comparisonOf quotedEnds SizedAnswer SizedComparison
+comparison-sized (Refused r) b s t = tt
+comparison-sized (Quoted q) (Refused r) s t = tt
+comparison-sized (Quoted q) (Quoted q′) s t =
+    record {
+      first = s .figure;
+      second = t .figure;
+      values = values-sized (quotedEnds q) (quotedEnds q′) (s .upper) (t .upper);
+    }

@@ -1,0 +1,65 @@
+// What is printed after a query that two sheets answer, written into a buffer that the caller lends.
+ghost use mathlib.Core.List.{_++_};
+ghost use Rattle.tokens.specs.Text.{bytesOf};
+ghost use Rattle.printing.specs.Put.{Room, Put};
+ghost use Rattle.figure_text.specs.FigureText.{figureText, Printable};
+ghost use Rattle.compare_text.specs.CompareText.{valuesText, pairText, comparisonText};
+ghost use Rattle.compare_text.specs.Sizes.{SizedValues, SizedPair, SizedComparison};
+use compare_quotes::Comparison;
+use compare_quotes::Pair;
+use compare_quotes::Values;
+use exact::Figure;
+
+// Writes ` fig=` and a figure with so many decimals; the place after it.
+fn put_shown(buffer: &mut [u8], at: usize, decimals: usize, figure: Figure) -> usize
+    requires { ⌜ Printable figure × Room (now buffer) at (bytesOf " fig=" ++ figureText decimals figure) ⌝ }
+    ensures { λ r. ⌜ Put (now (buffer .entry)) at (bytesOf " fig=" ++ figureText decimals figure) (now (buffer .exit)) r ⌝ }
+{
+    let place = printing::put_text(buffer, at, b" fig=");
+    figure_text::put_figure(buffer, place, decimals, figure)
+}
+
+// Writes what is told of the values; the place after it.
+fn put_values(buffer: &mut [u8], at: usize, values: Values) -> usize
+    requires { ⌜ SizedValues values × Room (now buffer) at (valuesText values) ⌝ }
+    ensures { λ r. ⌜ Put (now (buffer .entry)) at (valuesText values) (now (buffer .exit)) r ⌝ }
+{
+    match values {
+        Values::Below => printing::put_text(buffer, at, b" values=below"),
+        Values::Above => printing::put_text(buffer, at, b" values=above"),
+        Values::Near(units) => answer_text::put_field(buffer, at, b" values=near units=", units),
+    }
+}
+
+// Writes two figures with so many decimals, what is told of the values, and the line feed; the place after it.
+fn put_pair(buffer: &mut [u8], at: usize, decimals: usize, pair: Pair) -> usize
+    requires { ⌜ SizedPair pair × Room (now buffer) at (pairText decimals pair) ⌝ }
+    ensures { λ r. ⌜ Put (now (buffer .entry)) at (pairText decimals pair) (now (buffer .exit)) r ⌝ }
+{
+    let first = pair.first;
+    let second = pair.second;
+    let values = pair.values;
+    let place = put_shown(buffer, at, decimals, first);
+    let told = put_shown(buffer, place, decimals, second);
+    let end = put_values(buffer, told, values);
+    printing::put_text(buffer, end, b"\n")
+}
+
+// Writes what follows a query; the place after it.
+pub fn put_comparison(
+    buffer: &mut [u8],
+    at: usize,
+    decimals: usize,
+    comparison: Comparison,
+) -> usize
+    requires { ⌜ SizedComparison comparison × Room (now buffer) at (comparisonText decimals comparison) ⌝ }
+    ensures { λ r. ⌜ Put (now (buffer .entry)) at (comparisonText decimals comparison) (now (buffer .exit)) r ⌝ }
+{
+    match comparison {
+        Comparison::Compared(pair) => put_pair(buffer, at, decimals, pair),
+        Comparison::NotCompared(refusal) => {
+            let place = printing::put_text(buffer, at, b" ");
+            answer_text::put_refusal(buffer, place, refusal)
+        }
+    }
+}

@@ -1,0 +1,4 @@
+-- definitions
+pub mod TwoSheets
+-- laws
+pub mod TwoSheetLaws

@@ -1,0 +1,68 @@
+-- Where two sheets end: within the input, and what follows is what follows both.
+use mathlib.Core.Path.{_≡_, sym, ap, _∙_}
+use mathlib.Core.List.{List}
+use Prim.Native.Nat.{ℕ, _+_, _-_, _≤_}
+use native.Mathlib.Omega.{arith}
+use lib.ListN.{length, take, drop, length-drop}
+use lib.Seq.{drop-drop, take-all}
+use Rattle.sheet.specs.declared.Reading.{Reading}
+use Rattle.sheet.specs.Sheet.{readSheet}
+use Rattle.lines.specs.Lines.{firstLines, afterLines}
+use Rattle.lines.specs.LineLaws.{lines-take, lines-drop, lines-within}
+use Rattle.desk.specs.Desk.{sheetLines}
+use Rattle.desk.specs.Sheets.{ReadWell, read-well}
+use Rattle.two_sheets.specs.TwoSheets.{firstSheet, secondSheet, afterSheets}
+
+-- ---- definition
+
+-- the place after both
+unfoldable pub sheetsEnd : List ℕ → ℕ
+sheetsEnd input = length (firstLines sheetLines input) + length (firstLines sheetLines (afterLines sheetLines input))
+
+-- ---- laws
+
+pub after-end : (input : List ℕ) → drop (sheetsEnd input) input ≡ afterSheets input
+unfolding sheetsEnd afterSheets
+after-end input =
+    let rest = afterLines sheetLines input in
+    sym (drop-drop (length (firstLines sheetLines rest)) (length (firstLines sheetLines input)) input)
+    ∙ ap (drop (length (firstLines sheetLines rest))) (sym (lines-drop sheetLines input)) ∙ sym (lines-drop sheetLines rest)
+
+pub end-within : (input : List ℕ) → sheetsEnd input ≤ length input
+unfolding sheetsEnd
+end-within input =
+    let rest = afterLines sheetLines input in
+    omega (arith, lines-within sheetLines input, lines-within sheetLines rest, ap length (lines-drop sheetLines input), length-drop (length (firstLines sheetLines input)) input)
+
+-- an accepted sheet's set is within the limits
+pub first-well : (input : List ℕ) → ReadWell (firstSheet input)
+unfolding firstSheet
+first-well input = read-well (firstLines sheetLines input)
+
+pub second-well : (input : List ℕ) → ReadWell (secondSheet input)
+unfolding secondSheet
+second-well input = read-well (firstLines sheetLines (afterLines sheetLines input))
+
+-- ---- as they are read
+
+module _ (input : List ℕ) {end : ℕ} (e : end ≡ length (firstLines sheetLines input)) where
+  pub reads-first : {r : Reading} → r ≡ readSheet (take end input) → r ≡ firstSheet input
+  unfolding firstSheet
+  reads-first f = f ∙ ap readSheet (ap (λ (n : ℕ). take n input) e ∙ lines-take sheetLines input)
+
+  -- from where the first ends
+  pub rest-after : take (length input - end) (drop end input) ≡ afterLines sheetLines input
+  rest-after =
+      take-all (length input - end) (drop end input) (omega (arith, length-drop end input))
+      ∙ ap (λ (n : ℕ). drop n input) e ∙ sym (lines-drop sheetLines input)
+
+module _ (input : List ℕ) {rest : List ℕ} (e : rest ≡ afterLines sheetLines input) {len : ℕ}
+    (f : len ≡ length (firstLines sheetLines rest)) where
+  pub reads-second : {r : Reading} → r ≡ readSheet (take len rest) → r ≡ secondSheet input
+  unfolding secondSheet
+  reads-second g =
+      g ∙ ap readSheet (ap (λ (n : ℕ). take n rest) f ∙ lines-take sheetLines rest ∙ ap (firstLines sheetLines) e)
+
+  pub ends-both : {end : ℕ} → end ≡ length (firstLines sheetLines input) → end + len ≡ sheetsEnd input
+  unfolding sheetsEnd
+  ends-both g = rw (g, f, e)

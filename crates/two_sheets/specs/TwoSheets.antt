@@ -1,0 +1,17 @@
+-- Two sheets in one input: "The sheets are the first and the second 370 lines", and fewer lines are torn.
+use mathlib.Core.List.{List}
+use Prim.Native.Nat.{ℕ}
+use Rattle.sheet.specs.declared.Reading.{Reading}
+use Rattle.sheet.specs.Sheet.{readSheet}
+use Rattle.lines.specs.Lines.{firstLines, afterLines}
+use Rattle.desk.specs.Desk.{sheetLines}
+
+unfoldable pub firstSheet : List ℕ → Reading
+firstSheet input = readSheet (firstLines sheetLines input)
+
+unfoldable pub secondSheet : List ℕ → Reading
+secondSheet input = readSheet (firstLines sheetLines (afterLines sheetLines input))
+
+-- what follows both
+unfoldable pub afterSheets : List ℕ → List ℕ
+afterSheets input = afterLines sheetLines (afterLines sheetLines input)
