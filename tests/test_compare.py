@@ -17,7 +17,7 @@ import desk
 import programs
 import sheets
 from grid import HIGHEST, flat
-from quotes import EXPECTANCIES, FIRST_YEAR, KINDS, LAST_YEAR, OLDEST, OPEN, SURVIVALS, Quotes, rounded
+from quotes import FIRST_YEAR, KINDS, LAST_YEAR, OLDEST, OPEN, SURVIVALS, Quotes, rounded
 from reader import KEYS, LONGEST, SIZES, params_of, read
 from test_desk import EXAMPLES, FIXED, FLAT, LINE_ENDS, Input, closes_early, compared, complaint, damaged, endless, from_file
 from test_desk import full_device, off_scale, one_of_each, padded, piecewise, pool, some, torn_lines, with_value
@@ -43,7 +43,7 @@ def text_of(pair):
 def fixed():
     """Sheets and queries, and what is printed after each, whatever the second implementation says."""
     paper = {query: end for query, end in FIXED.items() if end.startswith(b" no=")}
-    paper |= {query: end * 2 + b" values=near units=0" for query, end in FIXED.items() if query.endswith(b"span=0") and b"1.00000" in end}
+    paper |= {query: end * 2 + b" values=near units=0" for query, end in FIXED.items() if end == b" fig=1.00000"}
     yield Input("flat twice", FLAT * 2), paper
     apart = {b"kind=q age=65 year=2020 span=0": (b" fig=0.30780", b" fig=0.12658"),
              b"kind=coh age=119 year=2020 span=2": (b" fig=0.47914", b" fig=0.76287"),
@@ -130,8 +130,9 @@ def cut_sheets(draw, ready):
         yield Input(f"line {i} exchanged with the next", before + b"".join(parts[i : i + 2][::-1] + parts[i + 2 :]) + lines[0])
     body = b"".join(lines[:3])
     others = {
-        "no sheet": body, "nothing": b"", "one sheet": first + body, "one sheet alone": first, "queries first": body + first * 2,
-        "queries between": first + body + second, "three sheets": first + second + first + body, "370 queries": first + lines[0] * 370,
+        "no sheet": body, "nothing": b"", "one sheet": first + body, "one sheet alone": first,
+        "370 queries": first + lines[0] * 370, "queries first": body + first + second,
+        "queries between": first + body + second, "three sheets": first + second + first + body,
         "a blank line first": b"\n" + first + second + body, "a blank line between": first + b"\n" + second + body,
         "a blank line after": first + second + b"\n" + body, "no line feed between": first[:-1] + second + body,
         "no line feed after": first + second[:-1] + body, "no line feed at the end": first + second[:-1],
@@ -169,9 +170,9 @@ def sizes(ready):
         for (name, data), what in itertools.product(starts.items(), (lines[0], b"\n", b"x", b"\0")):
             yield Input(f"{size} bytes, {name}, {what!r}", padded(data, size, what))
         start = starts["read"]
-        yield Input(f"{size} bytes, a long line", start + lines[0] + b"x" * (size - len(start) - 2 * len(lines[0]) - 1) + b"\n" + lines[0])
-        full = padded(start, size - 100, lines[0])
-        yield Input(f"{size} bytes, whole lines", full + b"x" * (size - len(full) - len(lines[0]) - 1) + b"\n" + lines[0])
+        for what, full in (("a long line", start + lines[0]), ("whole lines", padded(start, size - 100, lines[0]))):
+            rest = size - len(full) - len(lines[0]) - 1
+            yield Input(f"{size} bytes, {what}", full + b"x" * rest + b"\n" + lines[0])
     for size in (1, 370, 371, 739, 740, 741, 2000):
         yield Input(f"{size} line feeds", b"\n" * size)
     for size in (1000, 4096, 40_000):
@@ -248,10 +249,10 @@ def example_pairs(draw):
 
 
 def open_pairs(job):
-    """Sheets with an open figure, or as near to it as can be: each with each, and with another sheet, on either side."""
+    """Sheets with an open figure, or as near to it as can be: each with the next, and with another sheet, on either side."""
     kind, seed = job
     found = searched((kind, 2, seed))
-    for one, other in itertools.permutations(found, 2):
+    for one, other in zip(found, found[1:] + found[:1]):
         yield Pair(f"half step, {kind}", one.data, other.data, one.queries, None)
     for one in found:
         yield Pair(f"half step, {kind}, first", one.data, FLAT, one.queries, None)
@@ -303,7 +304,7 @@ def search(job):
 
 def pairs(draw, workers):
     out = list(drawn_pairs(draw)) + list(example_pairs(draw))
-    jobs = [(make, (kind, draw.random())) for kind in KINDS for make in (open_pairs, met_pairs, met_pairs)]
+    jobs = [(make, (kind, draw.random())) for kind in KINDS for make in (open_pairs, met_pairs)]
     return out + [pair for found in workers.map(search, jobs) for pair in found]
 
 
@@ -354,15 +355,18 @@ def tally(pair, want, counts):
         sides = got[3] == b"open", got[4] == b"open"
         if any(sides):
             counts[f"{kind} open {'first' if sides == (True, False) else 'second' if sides == (False, True) else 'both'}"] += 1
-        if pair and pair.gap is not None:
-            counts[f"{kind} {pair.gap} units between"] += 1
+        if pair and pair.gap in MET:
+            counts[f"{kind} {MET[pair.gap]}"] += 1
         if pair and pair.first == pair.second and what == "near":
             counts[f"{kind} equal"] += 1
 
 
+MET = {0: "touching", 1: "a unit apart"}
+TOLD = ("below", "above", "near", "equal", "touching", "a unit apart", "open first", "open second", "open both")
+
+
 def wanted_counts():
-    each = ("below", "above", "near", "open first", "open second", "open both", "equal", "0 units between", "1 units between")
-    out = [f"{kind} {what}" for kind in KINDS for what in each] + [f"no={no}" for no in (1, 3, 4, 5, 6)]
+    out = [f"{kind} {what}" for kind in KINDS for what in TOLD] + [f"no={no}" for no in (1, 3, 4, 5, 6)]
     return out + [f"sheet={sheet} no={no}" for sheet in (1, 2) for no in (1, 2)] + ["no=1 alone"]
 
 
@@ -408,13 +412,13 @@ def run_jobs(draw, everything, counts):
 
 
 def report(counts, everything, every_pair, checks):
-    print(f"{len(everything) + len(every_pair)} inputs, {len(every_pair)} of them pairs of sheets whose {checks} lines are told")
-    print("sheets refused:", *(f"sheet={sheet} no={no} {counts[f'sheet={sheet} no={no}']}," for sheet in (1, 2) for no in (1, 2)))
-    print(f"runs refused: {counts['no=1 alone']}; torn lines: {counts['no=1']};", end=" ")
-    print("queries refused:", *(f"no={no} {counts[f'no={no}']}" for no in (3, 4, 5, 6)))
+    print(f"{len(everything)} inputs, and {len(every_pair)} with {checks} lines held against exact values")
+    refused = [f"sheet={sheet} no={no}" for sheet in (1, 2) for no in (1, 2)]
+    print("sheets refused:", ", ".join(f"{what} {counts[what]}" for what in refused))
+    print("queries refused:", ", ".join(f"no={no} {counts[f'no={no}']}" for no in (1, 3, 4, 5, 6)))
+    print(f"runs refused: {counts['no=1 alone']}")
     for kind in KINDS:
-        what = ("below", "above", "near", "equal", "open first", "open second", "open both", "0 units between", "1 units between")
-        print(f"{kind}:", ", ".join(f"{name} {counts[f'{kind} {name}']}" for name in what))
+        print(f"{kind}:", ", ".join(f"{what} {counts[f'{kind} {what}']}" for what in TOLD))
 
 
 def main():
