@@ -1,6 +1,6 @@
 # make: proves every crate and builds the programs. make lib: the library for C and Python, into target/lib. make examples:
-# the programs of examples/, over it. make test: the whole gate, with the tests outside the proofs. make bench: times against
-# plain C and Arb.
+# the programs of examples/, over it. make test: the whole gate, with the tests outside the proofs. make bench: times of the
+# library and of the program quotes, beside plain C and Arb.
 .PHONY: all kit lib examples test bench clean
 
 LIB := target/lib

@@ -1,5 +1,5 @@
-/* The C side of a benchmark is compiled once by each compiler and linked under a name of its own: COMPILED(f) is f_by_gcc in one
-   object and f_by_clang in the other. The faster is the one that counts. */
+/* The C side of a benchmark is compiled once by each compiler and linked under a name of its own: COMPILED(f) is f_by_gcc in
+   one object and f_by_clang in the other. The faster is the one that counts. */
 #ifndef COMPILERS_H
 #define COMPILERS_H
 

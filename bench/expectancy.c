@@ -1,25 +1,21 @@
-/* Times life expectancies in one year by the proved library, by the same grid in C and by Arb, in turns in one run, on one
-   set: cohort ones at all ages, a period one at 65 and a cohort one at 65. The library's ends are compared with the C's first,
-   and Arb's middles must lie between them. The library reads the sheet in each call: the time of a call for no ages is taken off
-   its times. */
+/* Times life expectancies in one year by kulfizan_quote, by the same grid in C and by Arb, in turns in one run, on one set:
+   cohort ones at all ages, a period one at 65 and a cohort one at 65. The library's ends are compared with the C's first, and
+   Arb's middles must lie between them. The library reads the sheet in each call: as many calls with an age past the last, which
+   read it too and are then refused, are timed in the same turns and taken off. */
 #include <stdio.h>
 #include <string.h>
 
 #include "expectancy.h"
+#include "kulfizan.h"
 #include "timing.h"
 
-/* The proved library: reads the sheet and puts the two ends of the expectancies of `count` ages from first_age on, in a
-   calendar year, into out[2i] and out[2i + 1]. Kind 3 is the cohort's, 4 the period's. Returns 0, or the refusal's number. */
-unsigned char expectancies_of(const uint8_t *sheet, size_t length, uint8_t kind, uint64_t first_age, uint64_t count,
-    uint64_t year, uint64_t *out, size_t room);
+enum { YEAR = 2020 };
 
-enum { TURNS = 40, YEAR = 2020, MOST_RUNNERS = 4 };
-
-/* What is timed: the expectancies of some ages, some times over. */
+/* What is timed: the expectancies of some ages, some times over in a turn; short turns are taken more often. */
 typedef struct {
     const char *name;
     enum kind kind;
-    int first, count, times;
+    int first, count, times, turns;
 } load;
 
 #define EXPECTANCY_ROW(by) NAMED(expectancy, by),
@@ -33,14 +29,25 @@ static uint64_t ours[2 * COLUMN], theirs[2 * COLUMN];
 static double middles[COLUMN];
 static load work;
 
-static int library(enum kind kind, int first, int count, int year) {
-    return expectancies_of((const uint8_t *)sheet, length, (uint8_t)kind, (uint64_t)first, (uint64_t)count, (uint64_t)year,
-        ours, 2 * COLUMN);
+/* The two ends of an expectancy by the library; the refusal's number, or 0. */
+static int library(enum kind kind, int age, int year, uint64_t *ends) {
+    static const char *const words[] = {[COHORT] = "ecoh", [PERIOD] = "eper"};
+    uint64_t quote[KULFIZAN_QUOTE_LENGTH] = {0};
+    int no = kulfizan_quote((const uint8_t *)sheet, length, (const uint8_t *)words[kind], 4, age, year, 0, quote,
+        KULFIZAN_QUOTE_LENGTH);
+    memcpy(ends, quote, 2 * sizeof *ends);
+    return no;
 }
 
 static void by_library(int which) {
     (void)which;
-    for (int i = 0; i < work.times; i++) library(work.kind, work.first, work.count, YEAR);
+    for (int i = 0; i < work.times; i++)
+        for (int x = 0; x < work.count; x++) library(work.kind, work.first + x, YEAR, ours + 2 * x);
+}
+
+static void by_reading(int which) {
+    (void)which;
+    for (int i = 0; i < work.times * work.count; i++) library(work.kind, COLUMN, YEAR, ours);
 }
 
 static void by_c(int which) {
@@ -54,17 +61,11 @@ static void by_arb(int which) {
         for (int x = 0; x < work.count; x++) middles[x] = expectancy_by_arb(&set, work.kind, work.first + x, YEAR - START);
 }
 
-/* The library's time to read the sheet, in seconds. */
-static double reading(void) {
-    runner reader[] = {{"reading", by_library, 0, 0}};
-    work = (load){"reading", COHORT, 0, 0, 20};
-    take_turns(reader, 1, TURNS);
-    return reader[0].best / work.times;
-}
-
 /* Whether the expectancies of all ages in a year are the same by all. */
 static int agree(enum kind kind, int year) {
-    if (library(kind, 0, COLUMN, year) != 0) return 0;
+    if (library(kind, COLUMN, year, ours) != KULFIZAN_NO_SUCH_AGE) return 0;
+    for (int x = 0; x < COLUMN; x++)
+        if (library(kind, x, year, ours + 2 * x) != KULFIZAN_ACCEPTED) return 0;
     for (int i = 0; i < compilers; i++) {
         for (int x = 0; x < COLUMN; x++)
             if (!in_c[i](&set, kind, x, (unsigned)(year - START), theirs + 2 * x)) return 0;
@@ -75,13 +76,27 @@ static int agree(enum kind kind, int year) {
     return 1;
 }
 
-int main(void) {
 #define EXPECTANCY_RUNNER(by) {"grid in C, " #by, by_c, 0, 0},
-    runner all[] = {{"proved library", by_library, 0, 0}, {"Arb at 64 bits", by_arb, 0, 0}, EACH_COMPILER(EXPECTANCY_RUNNER)};
-    const load loads[3] = {{"cohort, mean", COHORT, 0, COLUMN, 1}, {"cohort at 65", COHORT, 65, 1, 20},
-        {"period at 65", PERIOD, 65, 1, 20}};
+enum { LIBRARY, ARB, FIRST_C, MOST_RUNNERS = FIRST_C + 3 };
+static runner all[] = {{"proved library", by_library, 0, 0}, {"Arb at 64 bits", by_arb, 0, 0},
+    EACH_COMPILER(EXPECTANCY_RUNNER) {"reading taken off", by_reading, 0, 0}};
+static const int runners = sizeof all / sizeof all[0];
+
+/* Each runner's time for an expectancy of the load, the library's without reading; the faster C's is given. */
+static double time_load(const load *l, double *took) {
+    const int reading = runners - 1;
+    work = *l;
+    take_turns(all, runners, l->turns);
+    all[LIBRARY].best -= all[reading].best;
+    for (int i = 0; i < runners; i++) took[i] = all[i].best / (l->count * l->times);
+    return fastest(all + FIRST_C, compilers) / (l->count * l->times);
+}
+
+int main(void) {
+    const load loads[3] = {{"cohort, mean", COHORT, 0, COLUMN, 1, 40}, {"cohort at 65", COHORT, 65, 1, 20, 200},
+        {"period at 65", PERIOD, 65, 1, 20, 1000}};
     const int years[3] = {2014, YEAR, 2064};
-    double took[3][MOST_RUNNERS];
+    double took[3][MOST_RUNNERS], best_c[3];
     realistic(&set);
     length = sheet_of(&set, sheet);
     for (int i = 0; i < 3; i++)
@@ -89,23 +104,16 @@ int main(void) {
             printf("the expectancies of %d differ\n", years[i]);
             return 1;
         }
-    for (int i = 0; i < compilers; i++) all[2 + i].which = i;
-    double read = reading(), best_c = 0;
-    for (int l = 0; l < 3; l++) {
-        work = loads[l];
-        take_turns(all, 2 + compilers, TURNS);
-        all[0].best -= read * work.times;
-        for (int i = 0; i < 2 + compilers; i++) took[l][i] = all[i].best / (work.count * work.times);
-        if (l == 0) best_c = fastest(all + 2, compilers) / (work.count * work.times);
-    }
-    printf("%-16s", "us an expectancy");
+    for (int i = 0; i < compilers; i++) all[FIRST_C + i].which = i;
+    for (int l = 0; l < 3; l++) best_c[l] = time_load(loads + l, took[l]);
+    printf("%-17s", "us an expectancy");
     for (int l = 0; l < 3; l++) printf(" %13s", loads[l].name);
-    for (int i = 0; i < 2 + compilers; i++) {
-        printf("\n%-16s", all[i].name);
+    for (int i = 0; i < runners; i++) {
+        printf("\n%-17s", all[i].name);
         for (int l = 0; l < 3; l++) printf(" %13.2f", 1e6 * took[l][i]);
     }
     printf("\ncohort, mean: library / faster C %.2f (at most 1.20, goal 1.00); Arb / library %.2f (at least 4.00)\n",
-        took[0][0] / best_c, took[0][1] / took[0][0]);
-    printf("at 65, library: period / cohort %.2f (below 0.20)\n", took[2][0] / took[1][0]);
+        took[0][LIBRARY] / best_c[0], took[0][ARB] / took[0][LIBRARY]);
+    printf("at 65, library: period / cohort %.2f (below 0.20)\n", took[2][LIBRARY] / took[1][LIBRARY]);
     return 0;
 }

@@ -4,7 +4,7 @@
 #include "compilers.h"
 #include "params.h"
 
-enum kind { COHORT = 3, PERIOD = 4 };
+enum kind { COHORT, PERIOD };
 
 /* The grid of paper 01 in plain C: the two ends; returns 0 where a needed cell is steep. */
 typedef int expectancy_in_c(const params *p, enum kind kind, int age, unsigned n, uint64_t *ends);

@@ -1,7 +1,11 @@
-/* The time to read 400 different valid sheets, with our reader and with a plain one in C, turn by turn in one run. */
+/* The time to read 400 different valid sheets, by kulfizan_read and by a plain reader in C, turn by turn in one run. First all
+   must read the same sets, and refuse the same damaged sheets with the same number. */
 #include <stdio.h>
 #include <stdlib.h>
+#include <string.h>
 
+#include "draw.h"
+#include "kulfizan.h"
 #include "sheet_reader.h"
 #include "timing.h"
 
@@ -9,18 +13,10 @@
 #define MOST 8483
 #define TURNS 50
 
-/* Our reader: the refusal's number. */
-extern uint8_t sheet_no(const uint8_t *bytes, size_t len);
-
 static uint8_t text[SHEETS][MOST + 1];
 static size_t length[SHEETS];
-
-/* A number from 0 to most, the same in each run. */
-static int64_t draw(int64_t most) {
-    static uint64_t state = 2014;
-    state = state * 6364136223846793005u + 1442695040888963407u;
-    return (int64_t)((state >> 16) % (uint64_t)(most + 1));
-}
+static int64_t ours[KULFIZAN_SET_LENGTH];
+static struct sheet theirs;
 
 static int64_t either_side(int64_t most) {
     return draw(1) ? draw(most) : -draw(most);
@@ -54,9 +50,12 @@ static void make_sheet(int i) {
 static sheet_in_c *const in_c[] = {EACH_COMPILER(READER_ROW)};
 static const int compilers = sizeof in_c / sizeof in_c[0];
 
+static int library_no(int i, size_t len) {
+    return kulfizan_read(text[i], len, ours, KULFIZAN_SET_LENGTH);
+}
+
 static int plain_no(int which, int i, size_t len) {
-    static struct sheet out;
-    return in_c[which](text[i], len, &out);
+    return in_c[which](text[i], len, &theirs);
 }
 
 /* A refused sheet ends the run. */
@@ -71,7 +70,7 @@ static void by_library(int which) {
     int refused = 0;
     (void)which;
     for (int i = 0; i < SHEETS; i++)
-        refused += sheet_no(text[i], length[i]);
+        refused += library_no(i, length[i]);
     none_refused(refused);
 }
 
@@ -82,15 +81,38 @@ static void by_c(int which) {
     none_refused(refused);
 }
 
+/* Whether the library's numbers and the C's set are the same. */
+static int same_set(void) {
+    const int64_t head[] = {theirs.sex == 'F', theirs.a, theirs.theta, theirs.period, theirs.kappa};
+    const int64_t *at = ours + sizeof head / sizeof head[0];
+    int same = memcmp(ours, head, sizeof head) == 0;
+    for (int x = 0; x < AGES; x++, at += 4)
+        same = same && at[0] == theirs.level[x] && at[1] == theirs.slope[x] && at[2] == theirs.alpha[x]
+            && at[3] == theirs.beta[x];
+    return same;
+}
+
+/* All read the same sets. */
+static void compare_sets(void) {
+    for (int i = 0; i < SHEETS; i++)
+        for (int which = 0; which < compilers; which++) {
+            none_refused(library_no(i, length[i]) + plain_no(which, i, length[i]));
+            if (!same_set()) {
+                puts("the sets differ");
+                exit(1);
+            }
+        }
+}
+
 /* All refuse the same damaged sheets with the same number: a digit changed, a byte cut. */
 static void compare_damaged(void) {
     for (int i = 0; i < SHEETS; i++) {
         size_t at = (size_t)draw((int64_t)length[i] - 1);
         uint8_t kept = text[i][at];
         text[i][at] = (uint8_t)('0' + draw(9));
-        int ours = sheet_no(text[i], length[i]), same = sheet_no(text[i], at) == 1;
+        int no = library_no(i, length[i]), same = library_no(i, at) == KULFIZAN_TORN;
         for (int which = 0; which < compilers; which++)
-            same = same && plain_no(which, i, length[i]) == ours && plain_no(which, i, at) == 1;
+            same = same && plain_no(which, i, length[i]) == no && plain_no(which, i, at) == KULFIZAN_TORN;
         text[i][at] = kept;
         if (!same) {
             puts("the readers differ");
@@ -104,12 +126,14 @@ int main(void) {
     runner all[] = {{"proved library", by_library, 0, 0}, EACH_COMPILER(READER_RUNNER)};
     for (int i = 0; i < SHEETS; i++)
         make_sheet(i);
+    compare_sets();
     compare_damaged();
     for (int i = 0; i < compilers; i++)
         all[1 + i].which = i;
     take_turns(all, 1 + compilers, TURNS);
     for (int i = 0; i < 1 + compilers; i++)
-        printf("%-16s %8.2f us a sheet\n", all[i].name, 1e6 * all[i].best / SHEETS);
+        printf("%-16s %8.2f us a sheet, %.0f sheets a second\n", all[i].name, 1e6 * all[i].best / SHEETS,
+               SHEETS / all[i].best);
     printf("%d sheets, the best of %d turns: library / faster C, ratio %.2f (at most 1.30)\n", SHEETS, TURNS,
            all[0].best / fastest(all + 1, compilers));
     return 0;

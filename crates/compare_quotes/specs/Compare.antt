@@ -1,0 +1,34 @@
+-- Two quotes compared by their ends: the first is below the second, above it, or near, with the most that they can differ
+-- by. Beside it stand the two figures.
+use mathlib.Core.Bool.{cond}
+use Prim.Native.Nat.{ℕ, _-_, max}
+use lib.Dec.{ltb}
+use Rattle.expo.specs.Grid.{Ends}
+use Rattle.path_quotes.specs.declared.Quote.{Quote}
+use Rattle.path_quotes.specs.declared.Answer.{Answer}
+use Rattle.path_quotes.specs.declared.Answer.the-variants.{Quoted, Refused}
+use Rattle.compare_quotes.specs.declared.Values.{Values}
+use Rattle.compare_quotes.specs.declared.Values.the-variants.{Below, Above, Near}
+use Rattle.compare_quotes.specs.declared.Comparison.{Comparison}
+use Rattle.compare_quotes.specs.declared.Comparison.the-variants.{Compared, NotCompared}
+
+-- the most that two values between these ends can differ by, in units: the greater of the first's upper end less the
+-- second's lower and the second's upper end less the first's lower
+unfoldable pub mostApart : Ends → Ends → ℕ
+mostApart a b = max (a .upper - b .lower) (b .upper - a .lower)
+
+-- below, where the first's upper end is under the second's lower end; above, where the second's is under the first's; and
+-- else near
+unfoldable pub valuesOf : Ends → Ends → Values
+valuesOf a b = cond (ltb (a .upper) (b .lower)) Below (cond (ltb (b .upper) (a .lower)) Above (Near (mostApart a b)))
+
+-- the ends of a quote
+unfoldable pub quotedEnds : Quote → Ends
+quotedEnds q = record { lower = q .lower; upper = q .upper }
+
+-- of two answers: a refusal, the first's or, if it has none, the second's; and else the two figures and the values
+unfoldable pub comparisonOf : Answer → Answer → Comparison
+comparisonOf (Refused r) b = NotCompared r
+comparisonOf (Quoted q) (Refused r) = NotCompared r
+comparisonOf (Quoted q) (Quoted q′) =
+    Compared (record { first = q .figure; second = q′ .figure; values = valuesOf (quotedEnds q) (quotedEnds q′) })
