@@ -24,11 +24,17 @@ from test_desk import full_device, off_scale, one_of_each, padded, piecewise, po
 from test_quotes import at_limits, line_of, mild, moved, searched, usual
 
 SEED = 20142015
-LEAST_INPUTS, LEAST_PAIRS = 500, 48
+LEAST_INPUTS, LEAST_PAIRS, LEAST_TOLD = 500, 48, 400
 STEEP = sheets.text(dict(flat(), A=[0] * 91))
 LOWER = sheets.text(dict(flat(), A=[-2 * 10**9] * 91))
 OFF = with_value("k", b"%d" % (SIZES["k"] + 1))
 COMPARED = re.compile(rb"(kind=(\w+) .*) fig=([0-9.]+|open) fig=([0-9.]+|open) values=(below|above|near units=([0-9]+))")
+# Queries, their figures with the flat sheet and with every A at −2000000000, and the values in that order and exchanged.
+APART = {
+    b"kind=q age=65 year=2020 span=0": (b" fig=0.30780", b" fig=0.12658", b" values=above", b" values=below"),
+    b"kind=coh age=119 year=2020 span=2": (b" fig=0.47914", b" fig=0.76287", b" values=below", b" values=above"),
+    b"kind=ecoh age=120 year=2064 span=0": (b" fig=1.2", b" fig=1.4", b" values=below", b" values=above"),
+}
 
 # Two sheets, the queries (kind, age, year, span) that are asked of both, and how many units lie between the ends, if searched.
 Pair = collections.namedtuple("Pair", "name first second queries gap")
@@ -40,28 +46,23 @@ def text_of(pair):
 
 # ---- two sheets that are read
 
-def fixed():
-    """Sheets and queries, and what is printed after each, whatever the second implementation says."""
-    paper = {query: end for query, end in FIXED.items() if end.startswith(b" no=")}
-    paper |= {query: end * 2 + b" values=near units=0" for query, end in FIXED.items() if end == b" fig=1.00000"}
-    yield Input("flat twice", FLAT * 2), paper
-    apart = {b"kind=q age=65 year=2020 span=0": (b" fig=0.30780", b" fig=0.12658"),
-             b"kind=coh age=119 year=2020 span=2": (b" fig=0.47914", b" fig=0.76287"),
-             b"kind=ecoh age=120 year=2064 span=0": (b" fig=1.2", b" fig=1.4")}
-    rises = {query: query.startswith(b"kind=q") for query in apart}
-    words = {True: b" values=above", False: b" values=below"}
-    yield Input("flat, lower", FLAT + LOWER), {query: b"".join(figs) + words[rises[query]] for query, figs in apart.items()}
-    back = {query: b"".join(figs[::-1]) + words[not rises[query]] for query, figs in apart.items()}
-    yield Input("lower, flat", LOWER + FLAT), back
-    steep = dict.fromkeys(apart, b" no=6") | {b"kind=q age=121 year=2020 span=0": b" no=3"}
+def fixed_rows():
+    """Two sheets, and what is printed after each query, whatever the second implementation says."""
+    same = {query: end for query, end in FIXED.items() if end.startswith(b" no=")}
+    same |= {query: end * 2 + b" values=near units=0" for query, end in FIXED.items() if end == b" fig=1.00000"}
+    yield "flat twice", FLAT * 2, same
+    yield "flat, lower", FLAT + LOWER, {query: one + other + word for query, (one, other, word, _) in APART.items()}
+    yield "lower, flat", LOWER + FLAT, {query: other + one + word for query, (one, other, _, word) in APART.items()}
+    steep = dict.fromkeys(APART, b" no=6") | {b"kind=q age=121 year=2020 span=0": b" no=3"}
     for name, data in (("flat, steep", FLAT + STEEP), ("steep, flat", STEEP + FLAT), ("steep twice", STEEP * 2)):
-        yield Input(name, data), steep
+        yield name, data, steep
 
 
 def fixed_runs():
-    for one, rows in fixed():
+    """Those rows as inputs, each with the output that it must give."""
+    for name, data, rows in fixed_rows():
         body = b"".join(query + b"\n" for query in rows)
-        yield Input(one.name, one.data + body), b"".join(query + end + b"\n" for query, end in rows.items())
+        yield Input(name, data + body), b"".join(query + end + b"\n" for query, end in rows.items())
 
 
 def valid(draw, ready, torn, count):
@@ -441,7 +442,8 @@ def main():
     report(counts, everything, every_pair, checks)
     absent = [what for what in wanted_counts() if not counts[what]]
     found.append(f"no case of: {', '.join(absent)}" if absent else None)
-    found.append(None if len(everything) >= LEAST_INPUTS and len(every_pair) >= LEAST_PAIRS else "too few inputs")
+    enough = len(everything) >= LEAST_INPUTS and len(every_pair) >= LEAST_PAIRS and checks >= LEAST_TOLD
+    found.append(None if enough else "too few inputs, or lines held against exact values")
     wrong = [said for said in found if said]
     for message in wrong[:20]:
         print(message)
