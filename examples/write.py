@@ -1,8 +1,7 @@
 """Writes the example sheets: synthetic Li-Lee parameters of the sizes that a fit gives, by the formulas below.
 
 They are nobody's table. The force of 2013 is a sum of a child's, an accident's and an old age's part (Heligman and Pollard's
-shape); the common trend weighs less at higher
-ages; the country's own deviation fades.
+shape); the common trend weighs less at higher ages; the country's own deviation fades.
 """
 import math
 import pathlib
@@ -26,15 +25,16 @@ def trend(x, young, old):
     return old + (young - old) / (1 + math.exp((x - 62) / 9))
 
 
-def parameters(sex, child, accident, level, slope, young, old, theta, k, a):
-    """A set, in the sheet's units, whose force of 2013 is the one above. K is 22 steps of theta from 0."""
+def parameters(sex, child, accident, level, slope, young, old, theta, k, a, whole=round):
+    """A set, in the sheet's units, each number made whole by one rule, whose force of 2013 is the one above. K is 22 steps of
+    theta from 0."""
     shares = [trend(x, young, old) for x in AGES]
-    b = [round(RATE * share / sum(shares)) for share in shares]
+    b = [whole(RATE * share / sum(shares)) for share in shares]
     period = 22 * theta
-    alpha = [round(NANO * 0.08 * math.sin(x / 14)) for x in AGES]
-    beta = [round(RATE * (0.011 + 0.006 * math.cos(x / 17))) for x in AGES]
+    alpha = [whole(NANO * 0.08 * math.sin(x / 14)) for x in AGES]
+    beta = [whole(RATE * (0.011 + 0.006 * math.cos(x / 17))) for x in AGES]
     now = [math.log(force(x, child, accident, level, slope)) for x in AGES]
-    levels = [round(NANO * now[x] - b[x] / RATE * period - alpha[x] - beta[x] / RATE * k) for x in AGES]
+    levels = [whole(NANO * now[x] - b[x] / RATE * period - alpha[x] - beta[x] / RATE * k) for x in AGES]
     return {"sex": sex, "a": a, "theta": theta, "K": period, "k": k, "A": levels, "B": b, "al": alpha, "be": beta}
 
 
@@ -44,17 +44,18 @@ def flat():
     return {"sex": "M", "a": 0, "theta": 0, "K": 0, "k": 0, "A": [-NANO] * 91, "B": zero, "al": zero, "be": zero}
 
 
+WOMEN = ("F", 0.0033, (0.00010, 20, 0.40), -12.032, 0.1118, 1.5, 0.60, -1_000_000_000, 1_800_000_000, 97_200_000)
+
 SETS = {
     "flat": flat(),
     "men": parameters(
         "M", 0.0040, (0.00030, 22, 0.35), -11.43, 0.1085, 1.6, 0.75, -1_150_000_000, 2_300_000_000, 96_500_000
     ),
-    "women": parameters(
-        "F", 0.0033, (0.00010, 20, 0.40), -12.032, 0.1118, 1.5, 0.60, -1_000_000_000, 1_800_000_000, 97_200_000
-    ),
+    "women": parameters(*WOMEN),
     "women-b": parameters(
         "F", 0.0033, (0.00011, 21, 0.40), -12.006, 0.1112, 1.5, 0.80, -800_000_000, -900_000_000, 98_100_000
     ),
+    "women-c": parameters(*WOMEN, whole=math.trunc),
 }
 
 

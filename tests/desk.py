@@ -1,6 +1,7 @@
-"""The whole run of the rate desk's two programs, from input bytes to output bytes, written from paper 01, "The quote program".
+"""The whole run of the rate desk's programs, from input bytes to output bytes, written from paper 01, "The quote program".
 
-`quotes` echoes a query with its figure, `ends` with its two ends ahead of the figure.
+`quotes` echoes a query with its figure, `ends` with its two ends ahead of the figure. `compare` reads two sheets and echoes a
+query with the figure of each and what the two pairs of ends tell of the two values.
 """
 import functools
 import re
@@ -37,6 +38,16 @@ def refused(no):
     return f"no={no}"
 
 
+def figure_field(kind, ends):
+    """The figure of a quote's two ends."""
+    return f" fig={figure_text(figure(ends, kind), kind)}"
+
+
+def echo(line):
+    """A query line as it is printed again."""
+    return line.decode().rstrip("\n")
+
+
 class Desk:
     """The answers over one sheet, each worked once."""
 
@@ -46,20 +57,20 @@ class Desk:
         self.answer = functools.cache(self.answer)
 
     def answer(self, query):
-        """What follows a query's echo: the ends, empty where it is refused, and the figure or the refusal."""
+        """The refusal of a query, 0 where it is accepted, and its two ends."""
         no = self.quotes.refusal(*query)
-        if no:
-            return "", f" {refused(no)}"
-        lower, upper = self.quotes.ends(*query)
-        return f" lo={lower} hi={upper}", f" fig={figure_text(figure((lower, upper), query[0]), query[0])}"
+        return (no, None) if no else (0, self.quotes.ends(*query))
 
     def printed(self, line, with_ends):
         """The line that is printed for a later line of the input."""
         query = query_of(line)
         if query is None:
             return refused(TORN)
-        ends, rest = self.answer(query)
-        return line.decode().rstrip("\n") + (ends if with_ends else "") + rest
+        no, ends = self.answer(query)
+        if no:
+            return f"{echo(line)} {refused(no)}"
+        shown = f" lo={ends[0]} hi={ends[1]}" if with_ends else ""
+        return echo(line) + shown + figure_field(query[0], ends)
 
 
 desk_of = functools.lru_cache(200)(Desk)
@@ -88,4 +99,39 @@ def ends(data):
     return run(data, with_ends=True)
 
 
-PROGRAMS = {"quotes": quotes, "ends": ends}
+# ---- two sheets
+
+def values(first, second):
+    """What two pairs of ends tell of the two values."""
+    if first[1] < second[0]:
+        return " values=below"
+    if second[1] < first[0]:
+        return " values=above"
+    return f" values=near units={max(first[1] - second[0], second[1] - first[0])}"
+
+
+def compared(first, second, line):
+    """The line that is printed for a line after two sheets."""
+    query = query_of(line)
+    if query is None:
+        return refused(TORN)
+    (no, ends), (other_no, other_ends) = first.answer(query), second.answer(query)
+    if no or other_no:
+        return f"{echo(line)} {refused(no or other_no)}"
+    return echo(line) + figure_field(query[0], ends) + figure_field(query[0], other_ends) + values(ends, other_ends)
+
+
+def compare(data):
+    """What `compare` prints for its whole input."""
+    if len(data) > LONGEST:
+        return text([refused(TORN)])
+    lines = lines_in(data)
+    first, second = (desk_of(b"".join(lines[at : at + SHEET_LINES])) for at in (0, SHEET_LINES))
+    for number, desk in ((1, first), (2, second)):
+        if desk.no:
+            return text([f"sheet={number} {refused(desk.no)}"])
+    return text(compared(first, second, line) for line in lines[2 * SHEET_LINES :])
+
+
+ONE_SHEET = {"quotes": quotes, "ends": ends}
+PROGRAMS = ONE_SHEET | {"compare": compare}
