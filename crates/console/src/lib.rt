@@ -6,7 +6,7 @@ use libc::STDOUT_FILENO;
 use sheet_reader::MOST_BYTES;
 
 // Room for the longest input that is read and one byte more, so that one too many is seen.
-fn empty() -> [u8; MOST_BYTES + 1]
+pub fn empty() -> [u8; MOST_BYTES + 1]
     ensures { λ r. ⌜ 65537 ≡ length r ⌝ }
 {
     [0; MOST_BYTES + 1]
