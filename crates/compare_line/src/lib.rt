@@ -1,12 +1,12 @@
 // The answer to a line of bytes by two sets, written into a buffer that the caller lends.
 ghost use mathlib.Core.Path.{_≡_};
 ghost use mathlib.Core.List.{_++_};
-ghost use Prim.Native.Nat.{_+_, _-_, _≤_, _<_};
+ghost use Prim.Native.Nat.{_+_, _≤_, _<_};
 ghost use lib.Dec.{T};
-ghost use lib.ListN.{length, take};
+ghost use lib.ListN.{length};
 ghost use Rattle.printing.specs.Put.{Room, Put};
 ghost use Rattle.params.specs.Limits.{inLimits};
-ghost use Rattle.kinds.specs.Kinds.{ruleOf, decimalsOf};
+ghost use Rattle.echo.specs.Echo.{withoutFeed, kindDecimals};
 ghost use Rattle.compare_text.specs.CompareText.{comparisonText};
 ghost use Rattle.compare_text.specs.Sizes.{SizedComparison};
 ghost use Rattle.compare_line.specs.CompareLine.{queryComparison, compareLine, mostCompared};
@@ -34,16 +34,13 @@ fn comparison_to(first: Params, second: Params, query: Query) -> Comparison
 fn put_echo(buffer: &mut [u8], at: usize, line: &[u8], kind: Kind, comparison: Comparison) -> usize
     requires { ⌜ (0 < length (now line)) × SizedComparison comparison
         × Room (now buffer) at
-        (take (length (now line) - 1) (now line) ++ comparisonText (decimalsOf (ruleOf kind .fold)) comparison) ⌝ }
+        (withoutFeed (now line) ++ comparisonText (kindDecimals kind) comparison) ⌝ }
     ensures { λ r. ⌜ Put (now (buffer .entry)) at
-        (take (length (now (line .entry)) - 1) (now (line .entry))
-        ++ comparisonText (decimalsOf (ruleOf kind .fold)) comparison) (now (buffer .exit)) r ⌝ }
+        (withoutFeed (now (line .entry))
+        ++ comparisonText (kindDecimals kind) comparison) (now (buffer .exit)) r ⌝ }
 {
-    let rule = kinds::rule_of(kind);
-    let fold = rule.fold;
-    let decimals = kinds::decimals_of(fold);
-    let end = line.len() - 1;
-    let place = printing::put_text(buffer, at, &line[..end]);
+    let decimals = echo::decimals_for(kind);
+    let place = echo::put_query(buffer, at, line);
     compare_text::put_comparison(buffer, place, decimals, comparison)
 }
 

@@ -1,11 +1,11 @@
 // The answer to a line of bytes, written into a buffer that the caller lends.
 ghost use mathlib.Core.Path.{_≡_};
 ghost use mathlib.Core.List.{_++_};
-ghost use Prim.Native.Nat.{_+_, _-_, _≤_, _<_};
-ghost use lib.ListN.{length, take};
+ghost use Prim.Native.Nat.{_+_, _≤_, _<_};
+ghost use lib.ListN.{length};
 ghost use Rattle.printing.specs.Put.{Room, Put};
 ghost use Rattle.params.specs.Limits.{inLimits};
-ghost use Rattle.kinds.specs.Kinds.{ruleOf, decimalsOf};
+ghost use Rattle.echo.specs.Echo.{withoutFeed, kindDecimals};
 ghost use Rattle.answer_text.specs.AnswerText.{answerText};
 ghost use Rattle.answer_text.specs.Sizes.{SizedAnswer};
 ghost use Rattle.desk_line.specs.Line.{queryAnswer, lineAnswer, mostLine};
@@ -43,16 +43,13 @@ fn put_echo(
     answer: Answer,
 ) -> usize
     requires { ⌜ (0 < length (now line)) × SizedAnswer answer
-        × Room (now buffer) at (take (length (now line) - 1) (now line) ++ answerText ends (decimalsOf (ruleOf kind .fold)) answer) ⌝ }
+        × Room (now buffer) at (withoutFeed (now line) ++ answerText ends (kindDecimals kind) answer) ⌝ }
     ensures { λ r. ⌜ Put (now (buffer .entry)) at
-        (take (length (now (line .entry)) - 1) (now (line .entry)) ++ answerText ends (decimalsOf (ruleOf kind .fold)) answer)
+        (withoutFeed (now (line .entry)) ++ answerText ends (kindDecimals kind) answer)
         (now (buffer .exit)) r ⌝ }
 {
-    let rule = kinds::rule_of(kind);
-    let fold = rule.fold;
-    let decimals = kinds::decimals_of(fold);
-    let end = line.len() - 1;
-    let place = printing::put_text(buffer, at, &line[..end]);
+    let decimals = echo::decimals_for(kind);
+    let place = echo::put_query(buffer, at, line);
     answer_text::put_answer(buffer, place, ends, decimals, answer)
 }
 

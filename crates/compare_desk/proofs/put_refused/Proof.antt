@@ -1,7 +1,6 @@
 -- `put_refused` meets its contract: the sheet's number, and behind a space the refusal's.
 use borrow.Author.Needs.{needs}
 use mathlib.Core.List.{_++_}
-use Prim.Native.Nat.{_^_, _<_}
 use native.Mathlib.Omega.{arith}
 use Rattle.tokens.specs.Text.{bytesOf}
 use Rattle.tokens.specs.Number.{unsignedText}
