@@ -1,5 +1,5 @@
--- What the comparison prints from a place on: a refusal of the input or of a sheet, or answers; from where both sheets end it is
--- the whole run.
+-- What the comparison prints from a place on: a refusal of the input or of a sheet, or answers; from where both sheets end it
+-- is the whole run.
 use mathlib.Core.Path.{_≡_}
 use mathlib.Core.Bool.{cond}
 use mathlib.Core.List.{List}

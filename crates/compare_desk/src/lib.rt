@@ -33,7 +33,8 @@ fn put_refused(out: &mut [u8], number: u64, refusal: Refusal) -> usize
 // Answers the lines from a place on, as long as the buffer has room for one more.
 fn fill(first: Params, second: Params, input: &[u8], at: usize, out: &mut [u8]) -> Piece
     requires { ⌜ T (inLimits first) × T (inLimits second) × (at ≤ length (now input)) ⌝ }
-    ensures { λ r. ⌜ Filled mostCompared (compareLine first second) (now (input .entry)) at (now (out .entry)) (now (out .exit)) (r .next) (r .len) ⌝ }
+    ensures { λ r. ⌜ Filled mostCompared (compareLine first second) (now (input .entry)) at
+        (now (out .entry)) (now (out .exit)) (r .next) (r .len) ⌝ }
 {
     let mut next = at;
     let mut len = 0;
@@ -47,7 +48,8 @@ fn fill(first: Params, second: Params, input: &[u8], at: usize, out: &mut [u8]) 
 
 // The next piece of the output, from the place where the one before ended.
 pub fn part(sheets: TwoSheets, input: &[u8], at: usize, out: &mut [u8]) -> Piece
-    requires { ⌜ ReadWell (sheets .first) × ReadWell (sheets .second) × (at ≤ length (now input)) × (refusedBytes ≤ length (now out)) ⌝ }
+    requires { ⌜ ReadWell (sheets .first) × ReadWell (sheets .second) × (at ≤ length (now input))
+        × (refusedBytes ≤ length (now out)) ⌝ }
     ensures { λ r. ⌜ Handed mostCompared (compareLine (sheets .first .set) (sheets .second .set))
         (compareFrom (sheets .first) (sheets .second) (now (input .entry)) at) (now (input .entry)) at
         (now (out .entry)) (now (out .exit)) (r .next) (r .len) ⌝ }
@@ -76,8 +78,10 @@ pub fn part(sheets: TwoSheets, input: &[u8], at: usize, out: &mut [u8]) -> Piece
 
 // The whole run of any input into any buffer: refused as short, a call leaves every byte as it was.
 pub fn run(input: &[u8], out: &mut [u8]) -> Written
-    ensures { λ r. ⌜ (r ≡ textAnswer (5 * length (now (input .entry)) + mostCompared) (compareRun (now (input .entry))) (length (now (out .entry))))
-        × (now (out .exit) ≡ textBuffer (5 * length (now (input .entry)) + mostCompared) (compareRun (now (input .entry))) (now (out .entry))) ⌝ }
+    ensures { λ r. ⌜ (r ≡ textAnswer (5 * length (now (input .entry)) + mostCompared) (compareRun (now (input .entry)))
+        (length (now (out .entry))))
+        × (now (out .exit) ≡ textBuffer (5 * length (now (input .entry)) + mostCompared) (compareRun (now (input .entry)))
+        (now (out .entry))) ⌝ }
 {
     if !pieces::has_room(out.len(), input.len(), MOST_COMPARED) {
         return Written {

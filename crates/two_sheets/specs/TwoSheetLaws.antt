@@ -31,8 +31,11 @@ after-end input =
 pub end-within : (input : List ℕ) → sheetsEnd input ≤ length input
 unfolding sheetsEnd
 end-within input =
+    let first = firstLines sheetLines input in
     let rest = afterLines sheetLines input in
-    omega (arith, lines-within sheetLines input, lines-within sheetLines rest, ap length (lines-drop sheetLines input), length-drop (length (firstLines sheetLines input)) input)
+    let e : length rest ≡ length input - length first =
+    ap length (lines-drop sheetLines input) ∙ length-drop (length first) input in
+    omega (arith, e, lines-within sheetLines input, lines-within sheetLines rest)
 
 -- an accepted sheet's set is within the limits
 pub first-well : (input : List ℕ) → ReadWell (firstSheet input)

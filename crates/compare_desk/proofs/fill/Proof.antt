@@ -56,7 +56,8 @@ more c =
 loop-holds : tie.Need-loop-holds Inv-loop μ-loop
 loop-holds c =
     let s = c .before .before in
-    (refl, going-none (compareLine (s .args .first) (s .args .second)) (s .args .input .now) (s .args .at) (s .args .out .now) (s .pre .2))
+    let a = s .args in
+    (refl, going-none (compareLine (a .first) (a .second)) (a .input .now) (a .at) (a .out .now) (s .pre .2))
 
 sub-if1 : tie.Need-sub-if1 Inv-loop μ-loop
 sub-if1 c = omega (arith, c .before .loop .inv .0, c .before .loop .inv .1 .fits)
@@ -92,7 +93,9 @@ loop-again c =
     let l = turn w .loop in
     let s = start (turn w) .args in
     let put = put-as (ap (compareLine (s .first) (s .second)) (slice w)) (c .before .before .put-line .ensures) in
-    (c .before .before .put-line .kept .0 ∙ l .inv .0, rw (end w) (going-more (compare-bounded (s .first) (s .second)) (l .inv .1) (more w .0) (omega (arith, more w .1, l .inv .0)) put))
+    let bounded = compare-bounded (s .first) (s .second) in
+    let fits : l .len + mostCompared ≤ length (s .out .now) = omega (arith, more w .1, l .inv .0) in
+    (c .before .before .put-line .kept .0 ∙ l .inv .0, rw (end w) (going-more bounded (l .inv .1) (more w .0) fits put))
 
 same-length : tie.Need-same-length Inv-loop μ-loop
 same-length c = c .before .before .loop .inv .0

@@ -13,7 +13,8 @@ use Rattle.answer_text.specs.Lengths.{refusal-length}
 use Rattle.pieces.specs.Pieces.{Handed}
 use Rattle.pieces.specs.PieceLaws.{handed-alone, handed-filled}
 use Rattle.compare_line.specs.CompareLine.{compareLine, mostCompared}
-use Rattle.compare_desk.specs.CompareDeskLaws.{refusedBytes, refused-length, compareFrom, from-long, from-first, from-second, from-both}
+use Rattle.compare_desk.specs.CompareDeskLaws.{refusedBytes, refused-length, compareFrom}
+use Rattle.compare_desk.specs.CompareDeskLaws.{from-long, from-first, from-second, from-both}
 use borrow.Author.Needs.{needs}
 use Rattle.compare_desk.proofs.part.Statement.{statement}
 use Rattle.compare_desk.proofs.part.Tie as tie

@@ -1,6 +1,7 @@
 -- `put_refused` meets its contract: the sheet's number, and behind a space the refusal's.
 use borrow.Author.Needs.{needs}
-use mathlib.Core.List.{_++_}
+use mathlib.Core.List.{List, _++_}
+use Prim.Native.Nat.{ℕ}
 use native.Mathlib.Omega.{arith}
 use Rattle.tokens.specs.Text.{bytesOf}
 use Rattle.tokens.specs.Number.{unsignedText}
@@ -12,15 +13,20 @@ use Rattle.compare_desk.specs.CompareDeskLaws.{refused-length}
 use Rattle.compare_desk.proofs.put_refused.Statement.{statement}
 use Rattle.compare_desk.proofs.put_refused.Tie as tie
 
--- there is room for the three texts
-room : (s : tie.Start)
-    → Three (s .args .out .now) 0 (bytesOf "sheet=" ++ unsignedText (s .args .number)) (bytesOf " ") (refusalLine (s .args .refusal))
+-- the first of the three texts
+abbrev named : tie.Start → List ℕ
+named s = bytesOf "sheet=" ++ unsignedText (s .args .number)
+
+-- there is room for all
+room : (s : tie.Start) → Three (s .args .out .now) 0 (named s) (bytesOf " ") (refusalLine (s .args .refusal))
 unfolding refusedSheet
-room s = record { room = record { fits = omega (arith, s .pre .1, refused-length (s .args .number) (s .args .refusal) (s .pre .0)) } }
+room s =
+    let e = refused-length (s .args .number) (s .args .refusal) (s .pre .0) in
+    record { room = record { fits = omega (arith, s .pre .1, e) } }
 
 -- the first is written, and the second
 number : (c : tie.After-put-field) → let s = c .before .before .before .before in
-    Put (s .args .out .now) 0 (bytesOf "sheet=" ++ unsignedText (s .args .number)) (c .put-field .last .0) (c .put-field .result)
+    Put (s .args .out .now) 0 (named s) (c .put-field .last .0) (c .put-field .result)
 unfolding bytesOf
 number c = c .put-field .ensures
 

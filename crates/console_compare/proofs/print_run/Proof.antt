@@ -37,7 +37,8 @@ slice-aggregate-out c = c .before .large-buffer .ensures
 loop-holds : tie.Need-loop-holds Inv-loop μ-loop
 loop-holds c =
     let b = c .before .before .read-two in
-    (sym (c .before .large-buffer .ensures), omega (arith, b .ensures .2, end-within (c .before .before .before .before .args .input .now)))
+    let input = c .before .before .before .before .args .input .now in
+    (sym (c .before .large-buffer .ensures), omega (arith, b .ensures .2, end-within input))
 
 part-requires : tie.Need-part-requires Inv-loop μ-loop
 part-requires c κs =
