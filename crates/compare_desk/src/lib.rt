@@ -51,7 +51,7 @@ pub fn part(sheets: TwoSheets, input: &[u8], at: usize, out: &mut [u8]) -> Piece
     requires { ⌜ ReadWell (sheets .first) × ReadWell (sheets .second) × (at ≤ length (now input))
         × (refusedBytes ≤ length (now out)) ⌝ }
     ensures { λ r. ⌜ Handed mostCompared (compareLine (sheets .first .set) (sheets .second .set))
-        (compareFrom (sheets .first) (sheets .second) (now (input .entry)) at) (now (input .entry)) at
+        (compareFrom (sheets .first) (sheets .second) (now (input .entry))) (now (input .entry)) at
         (now (out .entry)) (now (out .exit)) (r .next) (r .len) ⌝ }
 {
     let end = input.len();

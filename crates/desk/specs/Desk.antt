@@ -3,7 +3,7 @@ use mathlib.Core.Bool.{Bool, cond}
 use mathlib.Core.List.{List}
 use Prim.Native.Nat.{ℕ, _+_, _*_}
 use lib.Dec.{eqb, leb}
-use lib.ListN.{length}
+use lib.ListN.{length, drop}
 use Rattle.params.specs.declared.Refusal.the-variants.{Torn}
 use Rattle.params.specs.Refusals.{refusalNumber}
 use Rattle.sheet.specs.declared.Reading.{Reading}
@@ -25,6 +25,10 @@ inputSheet input = cond (leb (length input) mostBytes) (readSheet (firstLines sh
 unfoldable pub deskOf : Bool → Reading → List ℕ → List ℕ
 deskOf ends sheet rest =
     cond (eqb (refusalNumber (sheet .refusal)) 0) (answersTo (lineAnswer ends (sheet .set)) (lines rest)) (refusalLine (sheet .refusal))
+
+-- the same, of the bytes from a place on
+abbrev pub deskFrom : Bool → Reading → List ℕ → ℕ → List ℕ
+deskFrom ends sheet input at = deskOf ends sheet (drop at input)
 
 -- the whole run: every line after the sheet is a query, also what follows the last line feed
 unfoldable pub runOf : Bool → List ℕ → List ℕ

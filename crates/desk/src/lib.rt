@@ -2,14 +2,14 @@
 ghost use mathlib.Core.Path.{_≡_};
 ghost use Prim.Native.Nat.{_≤_};
 ghost use lib.Dec.{T};
-ghost use lib.ListN.{length, drop};
+ghost use lib.ListN.{length};
 ghost use Rattle.params.specs.Limits.{inLimits};
 ghost use Rattle.lines.specs.Lines.{firstLines};
 ghost use Rattle.answer_text.specs.Lengths.{refusalBytes};
 ghost use Rattle.pieces.specs.Pieces.{Filled, Handed};
 ghost use Rattle.desk_line.specs.Line.{lineAnswer, mostLine};
 ghost use Rattle.desk_line.specs.Into.{textAnswer, textBuffer};
-ghost use Rattle.desk.specs.Desk.{sheetLines, inputSheet, deskOf, runOf, runRoom};
+ghost use Rattle.desk.specs.Desk.{sheetLines, inputSheet, deskFrom, runOf, runRoom};
 ghost use Rattle.desk.specs.Sheets.{ReadWell};
 use desk_line::MOST_LINE;
 use params::Params;
@@ -68,7 +68,7 @@ fn fill(p: Params, ends: bool, input: &[u8], at: usize, out: &mut [u8]) -> Piece
 // The next piece of the output, from the place where the one before ended.
 pub fn part(sheet: Reading, ends: bool, input: &[u8], at: usize, out: &mut [u8]) -> Piece
     requires { ⌜ ReadWell sheet × (at ≤ length (now input)) × (refusalBytes ≤ length (now out)) ⌝ }
-    ensures { λ r. ⌜ Handed mostLine (lineAnswer ends (sheet .set)) (deskOf ends sheet (drop at (now (input .entry)))) (now (input .entry)) at
+    ensures { λ r. ⌜ Handed mostLine (lineAnswer ends (sheet .set)) (deskFrom ends sheet (now (input .entry))) (now (input .entry)) at
         (now (out .entry)) (now (out .exit)) (r .next) (r .len) ⌝ }
 {
     let refusal = sheet.refusal;

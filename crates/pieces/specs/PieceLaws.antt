@@ -72,44 +72,62 @@ going-more {answer} {input} {at} {before} {next} {len} b g h k put =
 -- ---- a piece of an output
 
 -- that is the whole output, with no line answered
-pub handed-alone : {longest : ℕ} (answer : List ℕ → List ℕ) {output : List ℕ} (input : List ℕ) (at : ℕ) {before after : List ℕ}
-    {len : ℕ} → Put before 0 output after len → length output ≤ length before
+pub handed-alone : {longest : ℕ} (answer : List ℕ → List ℕ) (output : ℕ → List ℕ) (input : List ℕ) (at : ℕ)
+    {before after : List ℕ} {len : ℕ} → Put before 0 (output at) after len → length (output at) ≤ length before
     → Handed longest answer output input at before after (length input) len
-handed-alone answer {output} input at put h =
+handed-alone answer output input at put h =
     record {
-      text = output;
+      text = output at;
       put = put;
       fits = omega (arith, put .place);
-      whole = ap (λ (t : List ℕ). output ++ t) (answers-end answer input) ∙ append-nil output;
+      whole = ap (λ (t : List ℕ). output at ++ t) (answers-end answer input) ∙ append-nil (output at);
+      left = λ k. absurd (omega arith);
       within = omega arith;
       fivefold = λ k. absurd (omega arith);
       stopped = λ k. absurd (omega arith);
     }
 
 -- of answers
-pub handed-filled : {longest : ℕ} {answer : List ℕ → List ℕ} {output input : List ℕ} {at : ℕ} {before after : List ℕ}
-    {next len : ℕ} → Filled longest answer input at before after next len → answersFrom answer input at ≡ output
-    → Handed longest answer output input at before after next len
-handed-filled f e =
+pub handed-filled : {longest : ℕ} {answer : List ℕ → List ℕ} {output : ℕ → List ℕ} {input : List ℕ} {at : ℕ}
+    {before after : List ℕ} {next len : ℕ} → Filled longest answer input at before after next len
+    → ((m : ℕ) → answersFrom answer input m ≡ output m) → Handed longest answer output input at before after next len
+handed-filled {at} f e =
     let g = f .going in
     record {
       text = g .text;
       put = g .put;
       fits = g .fits;
-      whole = g .whole ∙ e;
+      whole = g .whole ∙ e at;
+      left = λ k. e;
       within = g .within;
       fivefold = λ k. g .fivefold;
       stopped = f .stopped;
     }
 
--- in a buffer with room for five bytes for each of the input's and a line more, it is the whole output
-pub handed-whole : {longest : ℕ} {answer : List ℕ → List ℕ} {output input : List ℕ} {at : ℕ} {before after : List ℕ}
-    {next len : ℕ} → Handed longest answer output input at before after next len → 5 * length input + longest ≤ length before
-    → Put before 0 output after len
-handed-whole {answer} {input} {next} h room =
-    let last : next ≡ length input = elim (decLt next (length input)) [
-      | yes l ↦ absurd (omega (arith, h .stopped l, h .fivefold l))
-      | no l ↦ omega (arith, h .within)
-    ] in
+-- where a line is left, the next piece goes on: the two texts, and the answers to the lines from its end on, are the output
+pub handed-then : {longest : ℕ} {answer : List ℕ → List ℕ} {output : ℕ → List ℕ} {input : List ℕ} {at : ℕ}
+    {before after before′ after′ : List ℕ} {next len next′ len′ : ℕ}
+    → (h : Handed longest answer output input at before after next len) → next < length input
+    → (k : Handed longest answer output input next before′ after′ next′ len′)
+    → h .text ++ (k .text ++ answersFrom answer input next′) ≡ output at
+handed-then {next} h l k = ap (λ (t : List ℕ). h .text ++ t) (k .whole ∙ sym (h .left l next)) ∙ h .whole
+
+-- where none is left, the piece is the last: its text is all that was left of the output
+pub handed-last : {longest : ℕ} {answer : List ℕ → List ℕ} {output : ℕ → List ℕ} {input : List ℕ} {at : ℕ}
+    {before after : List ℕ} {next len : ℕ} → (h : Handed longest answer output input at before after next len)
+    → length input ≤ next → h .text ≡ output at
+handed-last {answer} {input} {next} h l =
+    let last : next ≡ length input = omega (arith, h .within) in
     let none : answersFrom answer input next ≡ [] = rw last (answers-end answer input) in
-    put-as (sym (append-nil (h .text)) ∙ ap (λ (t : List ℕ). h .text ++ t) (sym none) ∙ h .whole) (h .put)
+    sym (append-nil (h .text)) ∙ ap (λ (t : List ℕ). h .text ++ t) (sym none) ∙ h .whole
+
+-- in a buffer with room for five bytes for each of the input's and a line more, it is the whole output
+pub handed-whole : {longest : ℕ} {answer : List ℕ → List ℕ} {output : ℕ → List ℕ} {input : List ℕ} {at : ℕ}
+    {before after : List ℕ} {next len : ℕ} → Handed longest answer output input at before after next len
+    → 5 * length input + longest ≤ length before → Put before 0 (output at) after len
+handed-whole {input} {next} h room =
+    let last : length input ≤ next = elim (decLt next (length input)) [
+      | yes l ↦ absurd (omega (arith, h .stopped l, h .fivefold l))
+      | no l ↦ omega arith
+    ] in
+    put-as (handed-last h last) (h .put)

@@ -36,14 +36,15 @@ pub record Filled (longest : ℕ) (answer : List ℕ → List ℕ) (input : List
   pub going : Going answer input at before after next len
   pub stopped : next < length input → length before < len + longest
 
--- a piece of an output: the text at the front of the buffer, before the answers to the lines from `next` on; then the next
--- line has no room, or there is none
-pub record Handed (longest : ℕ) (answer : List ℕ → List ℕ) (output : List ℕ) (input : List ℕ) (at : ℕ) (before after : List ℕ)
-    (next len : ℕ) : Type 0 where
+-- a piece of an output, which begins at a place: the text at the front of the buffer, before the answers to the lines from
+-- `next` on; then the next line has no room, or there is none; and where one is left, the output from any place on is answers
+pub record Handed (longest : ℕ) (answer : List ℕ → List ℕ) (output : ℕ → List ℕ) (input : List ℕ) (at : ℕ)
+    (before after : List ℕ) (next len : ℕ) : Type 0 where
   pub text : List ℕ
   pub put : Put before 0 text after len
   pub fits : len ≤ length before
-  pub whole : text ++ answersFrom answer input next ≡ output
+  pub whole : text ++ answersFrom answer input next ≡ output at
+  pub left : next < length input → (m : ℕ) → answersFrom answer input m ≡ output m
   pub within : next ≤ length input
   pub fivefold : next < length input → len + 5 * at ≤ 5 * next
   pub stopped : next < length input → length before < len + longest

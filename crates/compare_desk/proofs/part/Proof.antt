@@ -24,16 +24,16 @@ use Rattle.compare_desk.proofs.part.Tie as tie
 abbrev answer : tie.Start → List ℕ → List ℕ
 answer s = compareLine (s .args .sheets .first .set) (s .args .sheets .second .set)
 
-abbrev output : tie.Start → List ℕ
-output s = compareFrom (s .args .sheets .first) (s .args .sheets .second) (s .args .input .now) (s .args .at)
+abbrev output : tie.Start → ℕ → List ℕ
+output s = compareFrom (s .args .sheets .first) (s .args .sheets .second) (s .args .input .now)
 
 -- one line as the whole of it
-alone : (s : tie.Start) {line after : List ℕ} {len : ℕ} → line ≡ output s → length line ≤ refusedBytes
+alone : (s : tie.Start) {line after : List ℕ} {len : ℕ} → line ≡ output s (s .args .at) → length line ≤ refusedBytes
     → Put (s .args .out .now) 0 line after len
     → Handed mostCompared (answer s) (output s) (s .args .input .now) (s .args .at) (s .args .out .now) after
     (length (s .args .input .now)) len
 alone s e h put =
-    handed-alone (answer s) (s .args .input .now) (s .args .at) (put-as e put) (omega (arith, ap length e, h, s .pre .3))
+    handed-alone (answer s) (output s) (s .args .input .now) (s .args .at) (put-as e put) (omega (arith, ap length e, h, s .pre .3))
 
 -- ---- past the tests
 
@@ -123,7 +123,7 @@ returns-4 c =
     let w = c .before .before .before .before .before .before in
     let a = start (tried (both w)) .args in
     handed-filled (c .before .before .fill .ensures)
-    (from-both (a .sheets .first) (a .sheets .second) (a .input .now) (a .at) (short (tried (both w))) (first-accepted (both w))
+    (λ m. from-both (a .sheets .first) (a .sheets .second) (a .input .now) m (short (tried (both w))) (first-accepted (both w))
     (second-accepted w))
 
 pub part-spec : {M : Type 1} → statement M

@@ -7,6 +7,7 @@ use Rattle.params.specs.Refusals.{refusalNumber}
 use Rattle.answer_text.specs.Lengths.{refusal-length}
 use Rattle.desk_line.specs.Line.{lineAnswer}
 use Rattle.pieces.specs.PieceLaws.{handed-alone, handed-filled}
+use Rattle.desk.specs.Desk.{deskFrom}
 use Rattle.desk.specs.Answers.{desk-refused, desk-accepted}
 use borrow.Author.Needs.{needs}
 use Rattle.desk.proofs.part.Statement.{statement}
@@ -33,7 +34,8 @@ returns c =
     let s = w .before .before .before .before in
     let e = sym (desk-refused (s .args .ends) (s .args .sheet) (s .args .input .now) (s .args .at)
     (λ q. w .if1 .taken (w .before .refusal-number .ensures ∙ q))) in
-    handed-alone (lineAnswer (s .args .ends) (s .args .sheet .set)) (s .args .input .now) (s .args .at)
+    handed-alone (lineAnswer (s .args .ends) (s .args .sheet .set)) (deskFrom (s .args .ends) (s .args .sheet) (s .args .input .now))
+    (s .args .input .now) (s .args .at)
     (put-as e (c .before .before .put-refusal .ensures))
     (omega (arith, ap length e, s .pre .2, refusal-length (s .args .sheet .refusal)))
 
@@ -51,7 +53,7 @@ returns-2 c =
     let w = c .before .before .before .before .before in
     let s = w .before .before .before .before in
     handed-filled (c .before .before .fill .ensures)
-    (desk-accepted (s .args .ends) (s .args .sheet) (s .args .input .now) (s .args .at) (accepted w))
+    (λ m. desk-accepted (s .args .ends) (s .args .sheet) (s .args .input .now) m (accepted w))
 
 pub part-spec : {M : Type 1} → statement M
 part-spec =
