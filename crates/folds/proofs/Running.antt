@@ -18,7 +18,7 @@ use Rattle.folds.specs.Steps.{survival-next, expectancy-next}
 use Rattle.folds.specs.Bounds.{survival-at-most, expectancy-at-most}
 
 -- the factor that the code reads at i, with what would stand past the end
-abbrev past : code.Ends
+abbrev pub past : code.Ends
 past = record { lower = 0; upper = 0 }
 
 abbrev pub codeAt : List code.Ends → ℕ → code.Ends
@@ -40,10 +40,10 @@ pub record ExpectancyTo (factors : List code.Ends) (i : ℕ) (s : code.Ends) : T
   pub small : AtMost (suc mostFactors * billionths .unit) (endsOf s)
 
 module _ (factors : List code.Ends) {count : ℕ} (size : length factors ≡ mostFactors) (k : Chances factors count) where
-  first : (i : ℕ) → i ≤ count → Each (AtMost (billionths .unit)) (take i (listOf factors))
+  pub first : (i : ℕ) → i ≤ count → Each (AtMost (billionths .unit)) (take i (listOf factors))
   first i l = rw (take-take i count (listOf factors) l) at (each-take i (k .each))
 
-  within : (i : ℕ) → i ≤ count → i ≤ length (listOf factors)
+  pub within : (i : ℕ) → i ≤ count → i ≤ length (listOf factors)
   within i l = rw (length-map factors endsOf) (omega (arith, k .room))
 
   -- the bounds follow

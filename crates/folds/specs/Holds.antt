@@ -65,7 +65,7 @@ module _ (g : Grid) (s : Sound g) where
   unfolding exactly inUnits whole/
   none-over = record { below = record { cross = omega arith }; above = record { cross = omega arith } }
 
-  one-over : Over (one g) (exactly (whole/ 1))
+  pub one-over : Over (one g) (exactly (whole/ 1))
   unfolding one exactly inUnits whole/
   one-over = record { below = record { cross = omega arith }; above = record { cross = omega arith } }
 

@@ -55,7 +55,7 @@ with-factor-narrow {d} {e} {s} {p} h k =
           (k .width);
     }
 
-wider : {d e : Ratio} {b : Bracket} → d ≤/ e → OrderChance d b → OrderChance e b
+pub wider : {d e : Ratio} {b : Bracket} → d ≤/ e → OrderChance d b → OrderChance e b
 wider {b = b} l h = record {
   least = h .least;
   most = h .most;
@@ -97,7 +97,7 @@ module _ (e : Ratio) where
       }) h)
 
   -- the survival over the first k factors is no wider than that over all
-  beginning-narrow : (k : ℕ) {ps : List Bracket} → Each (OrderChance e) ps
+  pub beginning-narrow : (k : ℕ) {ps : List Bracket} → Each (OrderChance e) ps
       → OrderChance (times (length ps) e) (orderSurvivalOver (take k ps))
   beginning-narrow k {ps} h =
       let l : length (take k ps) ≤ length ps = rw (length-take k ps) (omega arith) in

@@ -12,12 +12,12 @@ use Rattle.expo.specs.Grid.{Grid, Ends}
 use Rattle.folds.specs.Folds.{one, half, withFactor, survivalFrom, survivalOver, survivalsOver, plus, sumOver, expectancyOver}
 
 -- two sums of equal terms
-sum-same : (f h : ℕ → Ends) (n : ℕ) → ((k : ℕ) → k < n → f k ≡ h k) → sumOver f n ≡ sumOver h n
+pub sum-same : (f h : ℕ → Ends) (n : ℕ) → ((k : ℕ) → k < n → f k ≡ h k) → sumOver f n ≡ sumOver h n
 unfolding sumOver
 sum-same f h zero e = refl
 sum-same f h (suc n) e = ap₂ plus (sum-same f h n (λ k l. e k (omega arith))) (e n (omega arith))
 
-plus-assoc : (a b c : Ends) → plus a (plus b c) ≡ plus (plus a b) c
+pub plus-assoc : (a b c : Ends) → plus a (plus b c) ≡ plus (plus a b) c
 unfolding plus
 plus-assoc a b c =
     cc (add-assoc (a .lower) (b .lower) (c .lower), add-assoc (a .upper) (b .upper) (c .upper))
@@ -29,13 +29,17 @@ module _ (g : Grid) where
   survival-append s [] qs = refl
   survival-append s (p ∷ ps) qs = survival-append (withFactor g s p) ps qs
 
-  -- the survival over one factor is that factor
-  pub survival-one : 0 < g .unit → (e : Ends) → survivalOver g (e ∷ []) ≡ e
-  unfolding survivalOver survivalFrom withFactor one
-  survival-one positive e =
+  -- 1 with one factor more is that factor, and so is the survival over it
+  pub one-with-factor : 0 < g .unit → (e : Ends) → withFactor g (one g) e ≡ e
+  unfolding withFactor one
+  one-with-factor positive e =
       ap₂ (λ (l u : ℕ). record { lower = l; upper = u })
       (ap (λ (m : ℕ). m / g .unit) (mul-comm (g .unit) (e .lower)) ∙ floorℕ-exact (e .lower) positive)
       (ap (λ (m : ℕ). ceilDivℕ m (g .unit)) (mul-comm (g .unit) (e .upper)) ∙ ceilℕ-exact (e .upper) positive)
+
+  pub survival-one : 0 < g .unit → (e : Ends) → survivalOver g (e ∷ []) ≡ e
+  unfolding survivalOver survivalFrom
+  survival-one positive e = one-with-factor positive e
 
   -- the survival over one factor more
   pub survival-next : (ps : List Ends) (i : ℕ) → i < length ps → (d : Ends)

@@ -92,7 +92,7 @@ module _ (g : Grid) (positive : 0 < g .unit) where
   from-chance h Forall₂·nil = chance-wider h (omega arith)
   from-chance h (Forall₂·cons k ks) = chance-wider (from-chance (with-factor-chance h k) ks) (omega arith)
 
-  one-chance : Chance g 0 (one g)
+  pub one-chance : Chance g 0 (one g)
   unfolding one
   one-chance = record { ordered = le-refl (g .unit); most = le-refl (g .unit); width = omega arith }
 

@@ -1,0 +1,44 @@
+-- How great a price can be: a discount is at most 1, and so is each payment.
+use mathlib.Core.List.{List}
+use Prim.Native.Nat.{ℕ, zero, suc, _+_, _*_, _/_, _<_}
+use native.Mathlib.Nat.{le-refl, mul-le-mul-right, div-le-of-le-mul}
+use native.Mathlib.Omega.{arith}
+use lib.ListN.{length}
+use Rattle.whole.specs.DivisionLaws.{ceilℕ-least}
+use Rattle.expo.specs.Grid.{Grid, Ends}
+use Rattle.folds.specs.Folds.{one}
+use Rattle.folds.specs.Each.{Each, each-take}
+use Rattle.folds.specs.Code.{AtMost}
+use Rattle.folds.specs.Bounds.{sum-at-most, with-factor-at-most, survival-at-most}
+use Rattle.annuity.specs.Annuity.{rateUnit, discounted, discountOver, paymentAfter, annuityOver}
+
+-- what a rate is added to is positive
+pub divisor-positive : (rate : ℕ) → 0 < rateUnit + rate
+divisor-positive rate = omega arith
+
+pub discounted-at-most : (rate : ℕ) {m : ℕ} {d : Ends} → AtMost m d → AtMost m (discounted rate d)
+unfolding discounted
+discounted-at-most rate {m} {d} a =
+    record {
+      lower = div-le-of-le-mul (rateUnit + rate) (omega (arith, a .lower));
+      upper = ceilℕ-least m _ (divisor-positive rate) (omega (arith, a .upper));
+    }
+
+module _ (g : Grid) (rate : ℕ) where
+  pub discount-at-most : (k : ℕ) → AtMost (g .unit) (discountOver g rate k)
+  unfolding discountOver one
+  discount-at-most zero = record { lower = le-refl (g .unit); upper = le-refl (g .unit) }
+  discount-at-most (suc k) = discounted-at-most rate (discount-at-most k)
+
+  pub payment-at-most : 0 < g .unit → {ps : List Ends} → Each (AtMost (g .unit)) ps
+      → (k : ℕ) → AtMost (g .unit) (paymentAfter g rate ps k)
+  unfolding paymentAfter
+  payment-at-most positive h k =
+      with-factor-at-most g positive (discount-at-most k) (survival-at-most g positive (each-take k h))
+
+  -- 1 now, and at most 1 for each factor
+  pub annuity-at-most : 0 < g .unit → {ps : List Ends} → Each (AtMost (g .unit)) ps
+      → AtMost (suc (length ps) * g .unit) (annuityOver g rate ps)
+  unfolding annuityOver
+  annuity-at-most positive {ps} h =
+      sum-at-most (g .unit) (paymentAfter g rate ps) (suc (length ps)) (λ k l. payment-at-most positive h k)
