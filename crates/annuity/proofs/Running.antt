@@ -34,7 +34,7 @@ pub record PriceTo (rate : ℕ) (factors : List code.Ends) (i : ℕ) (s : code.E
 -- ---- the discount
 
 discount-to : {rate i : ℕ} {d : code.Ends} → endsOf d ≡ discountOver billionths rate i → DiscountTo rate i d
-discount-to {rate} {i} e = record { is = e; small = rw e (discount-at-most billionths rate i) }
+discount-to {rate} {i} e = record { is = e; small = rw e (discount-at-most billionths (lit< tt) rate i) }
 
 -- over no year it is 1
 pub discount-none : {rate : ℕ} → DiscountTo rate 0 (record { lower = billionths .unit; upper = billionths .unit })
@@ -68,7 +68,7 @@ payment-to h j e =
 module _ (rate : ℕ) (factors : List code.Ends) {count : ℕ} (size : length factors ≡ mostFactors) (k : Chances factors count) where
   price-to : {i : ℕ} {s : code.Ends} → i ≤ count → endsOf s ≡ priceAt rate factors i → PriceTo rate factors i s
   price-to {i} l e =
-      let a = annuity-at-most billionths rate (lit< tt) (first factors size k i l) in
+      let a = annuity-at-most billionths (lit< tt) rate (first factors size k i l) in
       let n : length (take i (listOf factors)) ≡ i = length-take-le i (listOf factors) (within factors size k i l) in
       record {
         is = e;

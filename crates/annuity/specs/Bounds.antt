@@ -1,7 +1,7 @@
 -- How great a price can be: a discount is at most 1, and so is each payment.
 use mathlib.Core.List.{List}
-use Prim.Native.Nat.{ℕ, zero, suc, _+_, _*_, _/_, _<_}
-use native.Mathlib.Nat.{le-refl, mul-le-mul-right, div-le-of-le-mul}
+use Prim.Native.Nat.{ℕ, zero, suc, _+_, _*_, _<_}
+use native.Mathlib.Nat.{le-refl, div-le-of-le-mul}
 use native.Mathlib.Omega.{arith}
 use lib.ListN.{length}
 use Rattle.whole.specs.DivisionLaws.{ceilℕ-least}
@@ -24,21 +24,21 @@ discounted-at-most rate {m} {d} a =
       upper = ceilℕ-least m _ (divisor-positive rate) (omega (arith, a .upper));
     }
 
-module _ (g : Grid) (rate : ℕ) where
+module _ (g : Grid) (positive : 0 < g .unit) (rate : ℕ) where
   pub discount-at-most : (k : ℕ) → AtMost (g .unit) (discountOver g rate k)
   unfolding discountOver one
   discount-at-most zero = record { lower = le-refl (g .unit); upper = le-refl (g .unit) }
   discount-at-most (suc k) = discounted-at-most rate (discount-at-most k)
 
-  pub payment-at-most : 0 < g .unit → {ps : List Ends} → Each (AtMost (g .unit)) ps
-      → (k : ℕ) → AtMost (g .unit) (paymentAfter g rate ps k)
+  pub payment-at-most : {ps : List Ends} → Each (AtMost (g .unit)) ps → (k : ℕ)
+      → AtMost (g .unit) (paymentAfter g rate ps k)
   unfolding paymentAfter
-  payment-at-most positive h k =
+  payment-at-most h k =
       with-factor-at-most g positive (discount-at-most k) (survival-at-most g positive (each-take k h))
 
   -- 1 now, and at most 1 for each factor
-  pub annuity-at-most : 0 < g .unit → {ps : List Ends} → Each (AtMost (g .unit)) ps
+  pub annuity-at-most : {ps : List Ends} → Each (AtMost (g .unit)) ps
       → AtMost (suc (length ps) * g .unit) (annuityOver g rate ps)
   unfolding annuityOver
-  annuity-at-most positive {ps} h =
-      sum-at-most (g .unit) (paymentAfter g rate ps) (suc (length ps)) (λ k l. payment-at-most positive h k)
+  annuity-at-most {ps} h =
+      sum-at-most (g .unit) (paymentAfter g rate ps) (suc (length ps)) (λ k l. payment-at-most h k)

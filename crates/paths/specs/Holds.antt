@@ -13,11 +13,12 @@ use Rattle.expo.specs.Overlap.{inUnits, Overlap}
 use Rattle.params.specs.declared.Params.{Params}
 use Rattle.folds.specs.Each.{each-places}
 use Rattle.folds.specs.Holds.{Over, Even, billionths-even, survival-holds, expectancy-holds}
+use Rattle.annuity.specs.Holds.{annuity-holds}
 use Rattle.force.specs.Force.{deathOf}
 use Rattle.mortality.specs.Holds as cell
 use Rattle.mortality.specs.Billionths.{billionths-fit}
 use Rattle.paths.specs.Path.{Place, factors, orderFactors}
-use Rattle.paths.specs.Values.{Fold, death, survival, expectancy, foldOver, orderDeathOf, orderFoldOver, gridValue, exactValue}
+use Rattle.paths.specs.Values.{Fold, death, survival, expectancy, annuity, foldOver, orderDeathOf, orderFoldOver, gridValue, exactValue}
 use Rattle.paths.specs.Answers.{AnsweredPath}
 
 module _ (g : Grid) (s : Sound g) where
@@ -33,6 +34,7 @@ module _ (g : Grid) (s : Sound g) where
   fold-holds even death h = death-of-holds (survival-holds g s h)
   fold-holds even survival h = survival-holds g s h
   fold-holds even expectancy h = expectancy-holds g s even h
+  fold-holds even (annuity rate) h = annuity-holds g s rate h
 
 module _ {p : Params} {path : List Place} (a : AnsweredPath p path) (j : ℕ) (l : leastOrder ≤ j) where
   pub factors-hold : Forall₂ (Over billionths billionths-sound) (factors billionths p path) (orderFactors p path j)

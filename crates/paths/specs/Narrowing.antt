@@ -1,8 +1,8 @@
 -- The orders of the values along an answered path narrow: for every whole M there is an order from which on the bracket is
--- at most 1/M wide. Of k factors each has at most 1/(M·(k² + 1)).
+-- at most 1/M wide. Of k factors each has at most 1/(M·(k·(k + 1) + 1)).
 use mathlib.Core.Path.{_≡_}
 use mathlib.Core.List.{List}
-use Prim.Native.Nat.{ℕ, zero, suc, _*_, _≤_, _<_}
+use Prim.Native.Nat.{ℕ, suc, _*_, _≤_, _<_}
 use native.Mathlib.Nat.{le-refl, mul-pos}
 use native.Mathlib.Omega.{arith}
 use lib.ListN.{length, length-map}
@@ -15,14 +15,16 @@ use Rattle.exact.specs.Value.{Narrows}
 use Rattle.folds.specs.Each.{Each, each-map}
 use Rattle.folds.specs.Exact.{orderSurvivalOver, orderExpectancyOver}
 use Rattle.folds.specs.Narrowing.{OrderChance, survival-narrow, expectancy-narrow}
+use Rattle.annuity.specs.Exact.{orderAnnuityOver}
+use Rattle.annuity.specs.Narrowing.{annuity-narrow}
 use Rattle.mortality.specs.Narrowing.{deathOrder, deathOrder-counts, survival-least-one, survival-most-one, p-narrow, complement-narrow}
 use Rattle.paths.specs.Path.{Place, orderFactors}
-use Rattle.paths.specs.Values.{Fold, death, survival, expectancy, orderDeathOf, orderFoldOver, exactValue}
+use Rattle.paths.specs.Values.{Fold, death, survival, expectancy, annuity, orderDeathOf, orderFoldOver, exactValue}
 use Rattle.paths.specs.Answers.{AnsweredPath}
 
 -- the parts that 1/M is divided into, for k factors
 abbrev parts : ℕ → ℕ → ℕ
-parts k M = M * suc (k * k)
+parts k M = M * suc (k * suc k)
 
 parts-positive : (k M : ℕ) → 0 < M → 0 < parts k M
 parts-positive k M h = mul-pos h (omega arith)
@@ -30,9 +32,12 @@ parts-positive k M h = mul-pos h (omega arith)
 abbrev part : (k M : ℕ) → 0 < M → Ratio
 part k M h = quotient/ (whole/ 1) (parts k M) (parts-positive k M h)
 
-square-grows : (k : ℕ) → k ≤ k * k
-square-grows zero = le-refl 0
-square-grows (suc k) = omega arith
+-- a survival takes at most k of them, and an expectancy at most k²
+survival-parts : (k : ℕ) → k ≤ k * suc k
+survival-parts k = omega arith
+
+expectancy-parts : (k : ℕ) → k * k ≤ k * suc k
+expectancy-parts k = omega arith
 
 order-length : (p : Params) (path : List Place) (j : ℕ) → length (orderFactors p path j) ≡ length path
 unfolding orderFactors
@@ -44,7 +49,7 @@ module _ {bs : List Bracket} (M : ℕ) (h : 0 < M) (e : Each (OrderChance (part 
   survival-most =
       ≤/-trans (survival-narrow (part (length bs) M h) e .width)
       (+/-mono (≤/-refl (orderSurvivalOver bs .least))
-      (times-part (length bs) (length bs * length bs) M h (parts-positive (length bs) M h) (square-grows (length bs))))
+      (times-part (length bs) (length bs * suc (length bs)) M h (parts-positive (length bs) M h) (survival-parts (length bs))))
 
   fold-narrow : (f : Fold) → orderFoldOver f bs .most ≤/ orderFoldOver f bs .least +/ quotient/ (whole/ 1) M h
   unfolding orderFoldOver orderDeathOf
@@ -55,7 +60,12 @@ module _ {bs : List Bracket} (M : ℕ) (h : 0 < M) (e : Each (OrderChance (part 
   fold-narrow expectancy =
       ≤/-trans (expectancy-narrow (part (length bs) M h) e)
       (+/-mono (≤/-refl (orderExpectancyOver bs .least))
-      (times-part (length bs * length bs) (length bs * length bs) M h (parts-positive (length bs) M h) (le-refl _)))
+      (times-part (length bs * length bs) (length bs * suc (length bs)) M h (parts-positive (length bs) M h)
+      (expectancy-parts (length bs))))
+  fold-narrow (annuity rate) =
+      ≤/-trans (annuity-narrow rate (part (length bs) M h) e)
+      (+/-mono (≤/-refl (orderAnnuityOver rate bs .least))
+      (times-part (length bs * suc (length bs)) (length bs * suc (length bs)) M h (parts-positive (length bs) M h) (le-refl _)))
 
 module _ {p : Params} {path : List Place} (a : AnsweredPath p path) where
   -- from this order on each factor is at most one part wide

@@ -24,13 +24,16 @@ use Rattle.folds.specs.Steps.{survival-one}
 use Rattle.folds.specs.Bounds.{survival-at-most, expectancy-at-most}
 use Rattle.folds.specs.Width.{Chance, spread, spreads, survival-chance, expectancy-width}
 use Rattle.folds.specs.Parts.{spread-part, spreads-part}
+use Rattle.annuity.specs.Bounds.{annuity-at-most}
+use Rattle.annuity.specs.Width.{priceSpread, annuity-width}
+use Rattle.annuity.specs.Parts.{price-part}
 use Rattle.force.specs.Force.{deathOf}
 use Rattle.mortality.specs.Cell as cell
 use Rattle.mortality.specs.Answered.{Answered}
 use Rattle.mortality.specs.Width.{Narrowed, death-narrowed}
 use Rattle.mortality.specs.Billionths.{youngLimit, oldLimit, p-width-young, p-width-old}
 use Rattle.paths.specs.Path.{Place, placeAt, pathOf, factors}
-use Rattle.paths.specs.Values.{Fold, death, survival, expectancy, foldOver, gridValue}
+use Rattle.paths.specs.Values.{Fold, death, survival, expectancy, annuity, foldOver, gridValue}
 use Rattle.paths.specs.Answers.{AnsweredPath, factors-length}
 
 -- "Ends are at most this far apart, in units: q to age 90, 100; q above, 600; survival, 30,000; expectancy, 2,000,000."
@@ -42,6 +45,10 @@ survivalLimit = 30000
 
 abbrev pub expectancyLimit : ℕ
 expectancyLimit = 2000000
+
+-- paper 02, E1: "ends at most 2,000,000 units apart"
+abbrev pub annuityLimit : ℕ
+annuityLimit = 2000000
 
 -- ---- one cell
 
@@ -108,6 +115,10 @@ widest-expectancy : spreads ageLimits ≡ 985362
 unfolding spread spreads total listed ageLimit
 widest-expectancy = refl
 
+widest-annuity : priceSpread ageLimits ≡ 1000368
+unfolding priceSpread spread spreads total listed ageLimit
+widest-annuity = refl
+
 limits-part : (cohort : Bool) (x n k : ℕ) → x + k ≤ suc lastClosed
     → map (λ (c : Place). ageLimit (c .age)) (pathOf cohort x n k) ≡ take k (drop x ageLimits)
 unfolding pathOf placeAt
@@ -142,6 +153,17 @@ module _ {p : Params} (cohort : Bool) (x n k : ℕ) (h : x + k ≤ suc lastClose
         widest-expectancy,
       )
 
+  pub annuity-limit : (rate : ℕ) → gridValue (annuity rate) billionths p (pathOf cohort x n k) .upper
+      ≤ gridValue (annuity rate) billionths p (pathOf cohort x n k) .lower + annuityLimit
+  unfolding gridValue foldOver
+  annuity-limit rate =
+      omega (
+        arith,
+        annuity-width billionths (billionths-sound .unit-positive) rate path-chances,
+        price-part x k ageLimits,
+        widest-annuity,
+      )
+
 -- ---- sizes
 
 -- a value along any path of at most 121 cells is at most 122
@@ -157,4 +179,9 @@ value-small g s p path h expectancy =
     let m = mul-le-mul-right (g .unit) h in
     let e = ap (λ (k : ℕ). k * g .unit) (factors-length g p path) in
     let d = div-le-self (g .unit) 2 in
+    record { lower = omega (arith, a .lower); upper = omega (arith, a .upper) }
+value-small g s p path h (annuity rate) =
+    let a = annuity-at-most g (s .unit-positive) rate (factors-chances g s p path) in
+    let m = mul-le-mul-right (g .unit) h in
+    let e = ap (λ (k : ℕ). k * g .unit) (factors-length g p path) in
     record { lower = omega (arith, a .lower); upper = omega (arith, a .upper) }

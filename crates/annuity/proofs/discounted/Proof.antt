@@ -1,5 +1,4 @@
 -- `discounted` meets its contract: 10^6 times a number of at most the unit fits, with a divisor added.
-use Prim.Native.Nat.{_*_, _≤_}
 use native.Mathlib.Omega.{arith}
 use Rattle.annuity.specs.Annuity.{discounted}
 use Rattle.annuity.proofs.discounted.Statement.{statement}
