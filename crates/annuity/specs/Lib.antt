@@ -1,6 +1,7 @@
 -- definitions
 pub mod Annuity
 pub mod Exact
+pub mod Same
 -- laws
 pub mod Steps
 pub mod Bounds
@@ -8,3 +9,6 @@ pub mod Holds
 pub mod Width
 pub mod Parts
 pub mod Narrowing
+pub mod NoInterest
+-- examples
+pub mod Rows

@@ -6,5 +6,6 @@ pub mod Answers
 pub mod Holds
 pub mod Narrowing
 pub mod Width
+pub mod NoInterest
 -- examples
 pub mod Rows

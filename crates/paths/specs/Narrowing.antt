@@ -39,7 +39,7 @@ survival-parts k = omega arith
 expectancy-parts : (k : ℕ) → k * k ≤ k * suc k
 expectancy-parts k = omega arith
 
-order-length : (p : Params) (path : List Place) (j : ℕ) → length (orderFactors p path j) ≡ length path
+pub order-length : (p : Params) (path : List Place) (j : ℕ) → length (orderFactors p path j) ≡ length path
 unfolding orderFactors
 order-length p path j = length-map path _
 
