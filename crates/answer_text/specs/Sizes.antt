@@ -11,7 +11,7 @@ use Rattle.expo.specs.Billionths.{billionths}
 use Rattle.expo.specs.BillionthsFacts.{billionths-sound}
 use Rattle.params.specs.declared.Params.{Params}
 use Rattle.params.specs.declared.Refusal.{Refusal}
-use Rattle.params.specs.declared.Refusal.the-variants.{Accepted, Torn, OffScale, NoSuchAge, NoSuchYear, NoSuchSpan, Steep, Short}
+use Rattle.params.specs.declared.Refusal.the-variants.{Accepted}
 use Rattle.params.specs.Limits.{startYear}
 use Rattle.exact.specs.declared.Figure.the-variants.{Printed, Open}
 use Rattle.exact.specs.Figure.{halfUp, figureOf}
@@ -19,12 +19,13 @@ use Rattle.paths.specs.Answers.{path-length}
 use Rattle.paths.specs.Width.{value-small}
 use Rattle.kinds.specs.declared.Kind.{Kind}
 use Rattle.kinds.specs.declared.Fold.{Fold}
-use Rattle.kinds.specs.declared.Fold.the-variants.{Death, Survival, Expectancy}
+use Rattle.kinds.specs.declared.Fold.the-variants.{Death, Survival, Expectancy, Annuity}
 use Rattle.kinds.specs.Kinds.{ruleOf, foldIs, countOf, stepOf}
 use Rattle.path_quotes.specs.declared.Quote.{Quote}
 use Rattle.path_quotes.specs.declared.Answer.{Answer}
 use Rattle.path_quotes.specs.declared.Answer.the-variants.{Quoted, Refused}
 use Rattle.quote.specs.Quote.{queryPath, queryEnds, refusalOf, quoteOf, answerBy, answerOf}
+use Rattle.quote.specs.AnswerLaws.{AnswerBy, quoted, refused, answer-by}
 use Rattle.quote.specs.Tests.{all-passed, counted, path-ages}
 use Rattle.figure_text.specs.FigureText.{Printable}
 
@@ -49,6 +50,7 @@ unfolding halfUp stepOf
 half-small Death e h = omega arith
 half-small Survival e h = omega arith
 half-small Expectancy e h = omega arith
+half-small (Annuity rate) e h = omega arith
 
 figure-small : (f : Fold) (e : Ends) → e .lower ≤ small → Printable (figureOf (stepOf f) e)
 unfolding figureOf Printable
@@ -75,15 +77,12 @@ quote-sized p k age year span e =
     }
 
 sized-by : (r : Refusal) (a : Quote) → (r ≡ Accepted → Sized a) → SizedAnswer (answerBy r a)
-unfolding answerBy SizedAnswer
-sized-by Accepted a h = h refl
-sized-by Torn a h = tt
-sized-by OffScale a h = tt
-sized-by NoSuchAge a h = tt
-sized-by NoSuchYear a h = tt
-sized-by NoSuchSpan a h = tt
-sized-by Steep a h = tt
-sized-by Short a h = tt
+unfolding SizedAnswer
+sized-by r a h = go (answer-by r a)
+  where
+    go : {b : Answer} → AnswerBy r a b → SizedAnswer b
+    go (quoted e) = h e
+    go (refused n) = tt
 
 pub answer-sized : (p : Params) (k : Kind) (age year span : ℤ) → SizedAnswer (answerOf p k age year span)
 unfolding answerOf

@@ -8,6 +8,7 @@ use Rattle.params.specs.declared.Params.{Params}
 use Rattle.exact.specs.declared.Figure.the-variants.{Printed}
 use Rattle.exact.specs.Value.{Exact, OneStep}
 use Rattle.kinds.specs.declared.Kind.{Kind}
+use Rattle.kinds.specs.Kinds.{OneKind}
 use Rattle.path_quotes.specs.declared.Answer.{Answer}
 use Rattle.quote.specs.Quote.{exactQuery, answerOf}
 use Rattle.quote.specs.Demand.{shownOf, numberOf, step, Kept}
@@ -67,14 +68,14 @@ module _ (p : Params) (kind : Kind) (age year span : ℤ) (p′ : Params) (kind�
     above-less q = apart-less (rw q at compared-mean) (second-kept .narrows) (first-kept .narrows)
 
 -- of one kind, figures that are printed and different have exact values that do not round to one step
-pub figures-differ : (kind : Kind) (p p′ : Params) (age year span age′ year′ span′ : ℤ) {x : Pair} {n n′ : ℕ}
-    → comparisonOf (answerOf p kind age year span) (answerOf p′ kind age′ year′ span′) ≡ Compared x
+pub figures-differ : (kind kind′ : Kind) → OneKind kind kind′ → (p p′ : Params) (age year span age′ year′ span′ : ℤ) {x : Pair}
+    {n n′ : ℕ} → comparisonOf (answerOf p kind age year span) (answerOf p′ kind′ age′ year′ span′) ≡ Compared x
     → x .first ≡ Printed n → x .second ≡ Printed n′ → (n ≡ n′ → ⊥)
-    → OneStep billionths billionths-sound (step kind) (exactQuery p kind age year span) (exactQuery p′ kind age′ year′ span′)
+    → OneStep billionths billionths-sound (step kind) (exactQuery p kind age year span) (exactQuery p′ kind′ age′ year′ span′)
     → ⊥
 unfolding shownOf
-figures-differ kind p p′ age year span age′ year′ span′ e f f′ d o =
-    let b = compared-both (answerOf p kind age year span) (answerOf p′ kind age′ year′ span′) e in
+figures-differ kind kind′ one p p′ age year span age′ year′ span′ e f f′ d o =
+    let b = compared-both (answerOf p kind age year span) (answerOf p′ kind′ age′ year′ span′) e in
     let shown = b .first-figure ∙ ap shownOf f in
     let shown′ = b .second-figure ∙ ap shownOf f′ in
-    d (same-figure kind p p′ age year span age′ year′ span′ shown shown′ .1 o)
+    d (same-figure kind kind′ one p p′ age year span age′ year′ span′ shown shown′ .1 o)

@@ -1,65 +1,97 @@
--- The kinds of figure (paper 01, "Figures on offer"): of each the fold, the path and the years; and of each fold the path's
--- length, the longest span, the step and how far apart the ends may lie.
+-- The kinds of figure (paper 01, "Figures on offer"; paper 02, E1): of each the fold, the path and the years; and of each fold
+-- the path's length, the longest span, the step and how far apart the ends may lie.
 use mathlib.Core.Bool.{true, false}
+use mathlib.Core.Path.{_≡_}
 use Prim.Native.Nat.{ℕ, suc, _-_}
-use lib.IntN.{pos}
+use lib.IntN.{ℤ, pos, natAbs}
 use Rattle.params.specs.Limits.{quoteYears, lastYears}
 use Rattle.weights.specs.Weights.{lastClosed}
 use Rattle.exact.specs.Figure.{probabilityStep, expectancyStep}
 use Rattle.paths.specs.Values as path
-use Rattle.paths.specs.Width.{ageLimit, survivalLimit, expectancyLimit}
+use Rattle.paths.specs.Width.{ageLimit, survivalLimit, expectancyLimit, annuityLimit}
 use Rattle.kinds.specs.declared.Kind.{Kind}
 use Rattle.kinds.specs.declared.Kind.the-variants as kind
 use Rattle.kinds.specs.declared.Fold.{Fold}
-use Rattle.kinds.specs.declared.Fold.the-variants.{Death, Survival, Expectancy}
+use Rattle.kinds.specs.declared.Fold.the-variants.{Death, Survival, Expectancy, Annuity}
 use Rattle.kinds.specs.declared.Rule.{Rule}
 
 -- "`q`: one-year death probability, .. year 2014 to 2184. `coh`, `per`: chance to survive a span .., along the cohort or in
 -- one calendar year. `ecoh`, `eper`: cohort and period life expectancy. The last four take years 2014 to 2064." A path of
--- one cell is the same along the cohort and in one year.
+-- one cell is the same along the cohort and in one year. "1 paid now and on each 1 January while alive, .. cohort (`acoh`) or
+-- period (`aper`). Years are those of an expectancy."
 unfoldable pub ruleOf : Kind → Rule
 ruleOf kind.Death = record { fold = Death; cohort = true; years = pos lastYears }
 ruleOf kind.CohortSurvival = record { fold = Survival; cohort = true; years = pos quoteYears }
 ruleOf kind.PeriodSurvival = record { fold = Survival; cohort = false; years = pos quoteYears }
 ruleOf kind.CohortExpectancy = record { fold = Expectancy; cohort = true; years = pos quoteYears }
 ruleOf kind.PeriodExpectancy = record { fold = Expectancy; cohort = false; years = pos quoteYears }
+ruleOf (kind.CohortAnnuity rate) = record { fold = Annuity rate; cohort = true; years = pos quoteYears }
+ruleOf (kind.PeriodAnnuity rate) = record { fold = Annuity rate; cohort = false; years = pos quoteYears }
+
+-- one kind, whatever the rate
+unfoldable pub rateAside : Kind → Kind
+rateAside kind.Death = kind.Death
+rateAside kind.CohortSurvival = kind.CohortSurvival
+rateAside kind.PeriodSurvival = kind.PeriodSurvival
+rateAside kind.CohortExpectancy = kind.CohortExpectancy
+rateAside kind.PeriodExpectancy = kind.PeriodExpectancy
+rateAside (kind.CohortAnnuity rate) = kind.CohortAnnuity (pos 0)
+rateAside (kind.PeriodAnnuity rate) = kind.PeriodAnnuity (pos 0)
+
+abbrev pub OneKind : Kind → Kind → Type 0
+OneKind k k′ = rateAside k ≡ rateAside k′
 
 -- the fold that the code's enum names
 unfoldable pub foldIs : Fold → path.Fold
 foldIs Death = path.death
 foldIs Survival = path.survival
 foldIs Expectancy = path.expectancy
+foldIs (Annuity rate) = path.annuity (natAbs rate)
+
+-- the rate of an annuity; the others take none
+unfoldable pub rateOf : Fold → ℤ
+rateOf Death = pos 0
+rateOf Survival = pos 0
+rateOf Expectancy = pos 0
+rateOf (Annuity rate) = rate
 
 -- ages end at 120, and so do the years from age x on
 abbrev pub yearsLeft : ℕ → ℕ
 yearsLeft x = suc lastClosed - x
 
--- "span outside 0 to 121 − age; for `q` and expectancies, not 0"
+-- "span outside 0 to 121 − age; for `q` and expectancies, not 0"; an annuity "has span 0 (any other is 5)"
 unfoldable pub mostSpan : Fold → ℕ → ℕ
 mostSpan Death x = 0
 mostSpan Survival x = yearsLeft x
 mostSpan Expectancy x = 0
+mostSpan (Annuity rate) x = 0
 
--- years of the path: one for q, the span of a survival, and of an expectancy "k = 0 to 120 − x"
+-- years of the path: one for q, the span of a survival, of an expectancy "k = 0 to 120 − x", and of an annuity those before
+-- its last payment, "at most to age 120"
 unfoldable pub countOf : Fold → ℕ → ℕ → ℕ
 countOf Death x span = 1
 countOf Survival x span = span
 countOf Expectancy x span = yearsLeft x
+countOf (Annuity rate) x span = lastClosed - x
 
--- "Steps are 0.00001 for probabilities and 0.1 for expectancies": in units; "A probability prints five decimals, an
--- expectancy one."
+-- "Steps are 0.00001 for probabilities and 0.1 for expectancies" and annuities: in units; "A probability prints five
+-- decimals, an expectancy one."
 unfoldable pub stepOf : Fold → ℕ
 stepOf Death = probabilityStep
 stepOf Survival = probabilityStep
 stepOf Expectancy = expectancyStep
+stepOf (Annuity rate) = expectancyStep
 
 unfoldable pub decimalsOf : Fold → ℕ
 decimalsOf Death = 5
 decimalsOf Survival = 5
 decimalsOf Expectancy = 1
+decimalsOf (Annuity rate) = 1
 
--- "Ends are at most this far apart, in units: q to age 90, 100; q above, 600; survival, 30,000; expectancy, 2,000,000."
+-- "Ends are at most this far apart, in units: q to age 90, 100; q above, 600; survival, 30,000; expectancy, 2,000,000." An annuity's
+-- too are "at most 2,000,000 units apart".
 unfoldable pub widthOf : Fold → ℕ → ℕ
 widthOf Death x = ageLimit x
 widthOf Survival x = survivalLimit
 widthOf Expectancy x = expectancyLimit
+widthOf (Annuity rate) x = annuityLimit

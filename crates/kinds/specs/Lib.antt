@@ -1,1 +1,5 @@
+-- definitions
 pub mod Kinds
+pub mod Code
+-- laws
+pub mod KindLaws

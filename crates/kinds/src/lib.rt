@@ -1,4 +1,4 @@
-// The kinds of figure, and what each takes of a path: one rule a kind, and a step and a fold for each of three figures.
+// The kinds of figure, and what each takes of a path: one rule a kind, and a step and a fold for each of four figures.
 ghost use mathlib.Core.Path.{_≡_};
 ghost use Prim.Native.Nat.{_≤_};
 ghost use lib.IntN.{pos, natAbs};
@@ -9,28 +9,33 @@ ghost use Rattle.expo.specs.Code.{endsOf};
 ghost use Rattle.weights.specs.Weights.{lastClosed};
 ghost use Rattle.folds.specs.Code.{listOf, Chances};
 ghost use Rattle.paths.specs.Values.{foldOver};
-ghost use Rattle.kinds.specs.Kinds.{ruleOf, foldIs, mostSpan, countOf, stepOf, decimalsOf};
+ghost use Rattle.kinds.specs.Kinds.{ruleOf, foldIs, rateOf, mostSpan, countOf, stepOf, decimalsOf};
+ghost use Rattle.kinds.specs.Code.{RateWithin};
 use exact::EXPECTANCY_STEP;
 use exact::PROBABILITY_STEP;
 use expo::Ends;
 use folds::MOST_FACTORS;
 use params::LAST_YEARS;
 use params::QUOTE_YEARS;
+use weights::LAST_CLOSED;
 
-// What may be asked of a life: `q`, `coh`, `per`, `ecoh` and `eper`.
+// What may be asked of a life: `q`, `coh`, `per`, `ecoh` and `eper`, and with a rate `acoh` and `aper`.
 pub enum Kind {
     Death,
     CohortSurvival,
     PeriodSurvival,
     CohortExpectancy,
     PeriodExpectancy,
+    CohortAnnuity(i64),
+    PeriodAnnuity(i64),
 }
 
-// What is taken of a path's factors.
+// What is taken of a path's factors, an annuity's price with its rate.
 pub enum Fold {
     Death,
     Survival,
     Expectancy,
+    Annuity(i64),
 }
 
 // A kind's fold, whether its path is the cohort's, and its last year, counted from the start year.
@@ -70,6 +75,28 @@ pub fn rule_of(kind: Kind) -> Rule
             cohort: false,
             years: QUOTE_YEARS,
         },
+        Kind::CohortAnnuity(rate) => Rule {
+            fold: Fold::Annuity(rate),
+            cohort: true,
+            years: QUOTE_YEARS,
+        },
+        Kind::PeriodAnnuity(rate) => Rule {
+            fold: Fold::Annuity(rate),
+            cohort: false,
+            years: QUOTE_YEARS,
+        },
+    }
+}
+
+// The rate of an annuity, 0 where none is taken.
+pub fn rate_of(fold: Fold) -> i64
+    ensures { λ r. ⌜ r ≡ rateOf fold ⌝ }
+{
+    match fold {
+        Fold::Death => 0,
+        Fold::Survival => 0,
+        Fold::Expectancy => 0,
+        Fold::Annuity(rate) => rate,
     }
 }
 
@@ -82,6 +109,7 @@ pub fn most_span(fold: Fold, age: usize) -> usize
         Fold::Death => 0,
         Fold::Survival => MOST_FACTORS - age,
         Fold::Expectancy => 0,
+        Fold::Annuity(_) => 0,
     }
 }
 
@@ -94,6 +122,7 @@ pub fn count_of(fold: Fold, age: usize, span: usize) -> usize
         Fold::Death => 1,
         Fold::Survival => span,
         Fold::Expectancy => MOST_FACTORS - age,
+        Fold::Annuity(_) => LAST_CLOSED - age,
     }
 }
 
@@ -105,6 +134,7 @@ pub fn step_of(fold: Fold) -> u64
         Fold::Death => PROBABILITY_STEP,
         Fold::Survival => PROBABILITY_STEP,
         Fold::Expectancy => EXPECTANCY_STEP,
+        Fold::Annuity(_) => EXPECTANCY_STEP,
     }
 }
 
@@ -116,17 +146,19 @@ pub fn decimals_of(fold: Fold) -> usize
         Fold::Death => 5,
         Fold::Survival => 5,
         Fold::Expectancy => 1,
+        Fold::Annuity(_) => 1,
     }
 }
 
 // The fold over the first `count` factors.
 pub fn folded(fold: Fold, factors: [Ends; MOST_FACTORS], count: usize) -> Ends
-    requires { ⌜ Chances factors count ⌝ }
+    requires { ⌜ Chances factors count × RateWithin fold ⌝ }
     ensures { λ r. ⌜ endsOf r ≡ foldOver (foldIs fold) billionths (take count (listOf factors)) ⌝ }
 {
     match fold {
         Fold::Death => force::death_of(folds::survival_over(factors, count)),
         Fold::Survival => folds::survival_over(factors, count),
         Fold::Expectancy => folds::expectancy_over(factors, count),
+        Fold::Annuity(rate) => annuity::annuity_over(factors, count, rate as u64),
     }
 }

@@ -4,7 +4,7 @@ use Prim.Native.Nat.{_<_}
 use native.Mathlib.Omega.{arith}
 use Rattle.params.specs.declared.Refusal.{Refusal}
 use Rattle.params.specs.declared.Refusal.the-variants.{Accepted, Torn, OffScale, NoSuchAge, NoSuchYear}
-use Rattle.params.specs.declared.Refusal.the-variants.{NoSuchSpan, Steep, Short}
+use Rattle.params.specs.declared.Refusal.the-variants.{NoSuchSpan, Steep, Short, NoSuchRate}
 use Rattle.params.specs.Refusals.{refusalNumber}
 
 pub accepted : (r : Refusal) → refusalNumber r ≡ 0 → r ≡ Accepted
@@ -17,6 +17,7 @@ accepted NoSuchYear e = absurd (omega arith)
 accepted NoSuchSpan e = absurd (omega arith)
 accepted Steep e = absurd (omega arith)
 accepted Short e = absurd (omega arith)
+accepted NoSuchRate e = absurd (omega arith)
 
 pub number-small : (r : Refusal) → refusalNumber r < 10
 unfolding refusalNumber
@@ -28,3 +29,4 @@ number-small NoSuchYear = omega arith
 number-small NoSuchSpan = omega arith
 number-small Steep = omega arith
 number-small Short = omega arith
+number-small NoSuchRate = omega arith

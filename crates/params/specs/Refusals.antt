@@ -2,7 +2,7 @@
 use Prim.Native.Nat.{ℕ}
 use Rattle.params.specs.declared.Refusal.{Refusal}
 use Rattle.params.specs.declared.Refusal.the-variants.{Accepted, Torn, OffScale, NoSuchAge, NoSuchYear}
-use Rattle.params.specs.declared.Refusal.the-variants.{NoSuchSpan, Steep, Short}
+use Rattle.params.specs.declared.Refusal.the-variants.{NoSuchSpan, Steep, Short, NoSuchRate}
 
 unfoldable pub refusalNumber : Refusal → ℕ
 refusalNumber Accepted = 0
@@ -13,3 +13,4 @@ refusalNumber NoSuchYear = 4
 refusalNumber NoSuchSpan = 5
 refusalNumber Steep = 6
 refusalNumber Short = 7
+refusalNumber NoSuchRate = 8

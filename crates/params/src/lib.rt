@@ -55,6 +55,7 @@ pub enum Refusal {
     NoSuchSpan,
     Steep,
     Short,
+    NoSuchRate,
 }
 
 // The number of a refusal in the papers, and 0 where nothing is refused.
@@ -70,6 +71,7 @@ pub fn refusal_number(r: Refusal) -> u8
         Refusal::NoSuchSpan => 5,
         Refusal::Steep => 6,
         Refusal::Short => 7,
+        Refusal::NoSuchRate => 8,
     }
 }
 

@@ -21,7 +21,7 @@ use Rattle.paths.specs.Width.{factors-chances, value-small}
 use Rattle.walks.specs.declared.Path.{Path}
 use Rattle.walks.specs.Code.{PathWithin, pathIs}
 use Rattle.kinds.specs.declared.Fold.{Fold}
-use Rattle.kinds.specs.declared.Fold.the-variants.{Death, Survival, Expectancy}
+use Rattle.kinds.specs.declared.Fold.the-variants.{Death, Survival, Expectancy, Annuity}
 use Rattle.kinds.specs.Kinds.{foldIs, stepOf}
 use Rattle.path_quotes.specs.declared.Answer.the-variants.{Quoted}
 
@@ -53,6 +53,7 @@ unfolding stepOf
 step-small Death = (lit< tt, lit≤ tt)
 step-small Survival = (lit< tt, lit≤ tt)
 step-small Expectancy = (lit< tt, lit≤ tt)
+step-small (Annuity rate) = (lit< tt, lit≤ tt)
 
 -- a quote of ends that are e, with their figure
 pub quoted : (step : ℕ) {r : code.Ends} {e : Ends} {f : Figure} → endsOf r ≡ e

@@ -1,6 +1,7 @@
 // The quote of a fold along a path: the two ends of the figure with the figure itself, or the refusal of a cell out of range.
 ghost use mathlib.Core.Path.{_≡_};
 ghost use Rattle.walks.specs.Code.{PathWithin};
+ghost use Rattle.kinds.specs.Code.{RateWithin};
 ghost use Rattle.path_quotes.specs.Code.{pathAnswer};
 use exact::Figure;
 use kinds::Fold;
@@ -23,7 +24,7 @@ pub enum Answer {
 
 // The quote of a fold along a path, or the refusal of a cell out of range.
 pub fn answer_along(p: Params, fold: Fold, path: Path) -> Answer
-    requires { ⌜ PathWithin p path ⌝ }
+    requires { ⌜ PathWithin p path × RateWithin fold ⌝ }
     ensures { λ r. ⌜ r ≡ pathAnswer p fold path ⌝ }
 {
     let count = path.count;

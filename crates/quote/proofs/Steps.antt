@@ -4,19 +4,16 @@ use mathlib.Core.Bool.{Bool, true, false, cond}
 use mathlib.Core.List.{List, [], _∷_, _++_}
 use Prim.Native.Nat.{_-_, _≤_}
 use native.Mathlib.Omega.{arith}
+use borrow.Author.Tests.{ne-eqb}
 use lib.Dec.{T}
 use lib.IntN.{ℤ, pos, negsuc, natAbs, _-ℤ_}
 use lib.Ieee.Bits.{is-true}
-use mir.Syntax.{w64}
-use mir.Val.{Fits, SFits}
-use mir.Facts.{toZ-ofZ}
-use lib.Signed.{nonNeg}
 use Rattle.whole.specs.Clash.{clash}
-use Rattle.whole.specs.Bound.{bits, Under, under-pos}
+use Rattle.whole.specs.Bound.{Under, under-pos}
 use Rattle.whole.specs.Split.{split, split-sub}
 use Rattle.params.specs.declared.Params.{Params}
 use Rattle.params.specs.declared.Refusal.{Refusal}
-use Rattle.params.specs.declared.Refusal.the-variants.{Accepted, Torn, OffScale, NoSuchAge, NoSuchYear, NoSuchSpan, Steep, Short}
+use Rattle.params.specs.declared.Refusal.the-variants.{Accepted, OffScale, Steep}
 use Rattle.params.specs.Limits.{inLimits, startYear, lastYears}
 use Rattle.params.specs.Refusals.{refusalNumber}
 use Rattle.paths.specs.Path.{pathInRange}
@@ -24,7 +21,7 @@ use Rattle.walks.specs.declared.Path.{Path}
 use Rattle.walks.specs.Code.{pathIs}
 use Rattle.kinds.specs.declared.Kind.{Kind}
 use Rattle.kinds.specs.Kinds.{ruleOf}
-use Rattle.table_tests.specs.TableTests.{ageInTable, yearInTable, spanInTable, Test, firstFailed, tableTests}
+use Rattle.table_tests.specs.TableTests.{ageInTable, yearInTable, spanInTable, rateInTable, Test, firstFailed, tableTests}
 use Rattle.table_tests.specs.TableLaws.{InTable}
 use Rattle.path_quotes.specs.declared.Quote.{Quote}
 use Rattle.path_quotes.specs.declared.Answer.{Answer}
@@ -39,15 +36,8 @@ use Rattle.quote.specs.Tests.{kind-within}
 
 -- one that has a number is an answer, and the tests before it decide
 pub refused : (r : Refusal) (q : Quote) → (refusalNumber r ≡ 0 → ⊥) → Refused r ≡ answerBy r q
-unfolding answerBy refusalNumber
-refused Accepted q n = absurd (n refl)
-refused Torn q n = refl
-refused OffScale q n = refl
-refused NoSuchAge q n = refl
-refused NoSuchYear q n = refl
-refused NoSuchSpan q n = refl
-refused Steep q n = refl
-refused Short q n = refl
+unfolding answerBy
+refused r q n = rw (ne-eqb (refusalNumber r) 0 n)
 
 -- tests after others count where those pass
 append-by : (b : Bool) (r : Refusal) {s t : Refusal} → (cond b s r ≡ Accepted → ⊥) → ((s ≡ Accepted → ⊥) → t ≡ s)
@@ -86,12 +76,13 @@ module _ (p : Params) (k : Kind) (age year span : ℤ) where
         is-true (ageInTable age) (h .age-in),
         is-true (yearInTable (ruleOf k) year) (h .year-in),
         is-true (spanInTable (ruleOf k) age span) (h .span-in),
+        is-true (rateInTable (ruleOf k)) (h .rate-in),
       )
 
 -- ---- the answer to a query, by that along its path
 
 decided : (b : Bool) (q : Quote) → cond b (Quoted q) (Refused Steep) ≡ answerBy (cond b Accepted Steep) q
-unfolding answerBy
+unfolding answerBy refusalNumber
 decided true q = refl
 decided false q = refl
 
@@ -108,7 +99,7 @@ years-under k = let w = kind-within k in rw (w .years-are) (under-pos (w .last))
 -- a set out of its limits
 pub refused-off-scale : (p : Params) (k : Kind) (age year span : ℤ) → inLimits p ≡ false
     → Refused OffScale ≡ answerOf p k age year span
-unfolding answerOf answerBy
+unfolding answerOf answerBy refusalNumber
 refused-off-scale p k age year span e = rw (off-scale p k age year span e)
 
 -- an answer that is the definition's meets demand 3
@@ -129,11 +120,7 @@ table-answer p k age year span {r} t e n =
     ∙ ap (λ (s : Refusal). answerBy s (quoteOf p k age year span))
     (e ∙ sym (table-refuses p k age year span t (λ a. n (ap refusalNumber (e ∙ a) ∙ number-none))))
 
--- ---- numbers of a query that are at least 0, as the code casts them
-
-pub cast-whole : {z : ℤ} → SFits w64 z → pos (natAbs z) ≡ z → T (nonNeg (bits z)) × Fits w64 (natAbs (bits z))
-cast-whole {z = pos n} f e = rw (toZ-ofZ f) (tt, record { fits = omega (arith, f .sfits) })
-cast-whole {z = negsuc n} f e = clash cc
+-- ---- the years from the start year
 
 pub years-from : {z : ℤ} → pos (natAbs z) ≡ z → startYear ≤ natAbs z → z -ℤ pos startYear ≡ pos (natAbs z - startYear)
 years-from {z = pos n} e l = omega (split, split-sub (pos n) (pos startYear))

@@ -13,7 +13,7 @@ use Rattle.exact.specs.declared.Figure.the-variants.{Printed, Open}
 use Rattle.exact.specs.Value.{AtLeast, AtMost, RoundsTo, OneStep, Narrows}
 use Rattle.exact.specs.Figure.{halfUp}
 use Rattle.kinds.specs.declared.Kind.{Kind}
-use Rattle.kinds.specs.Kinds.{ruleOf, stepOf, widthOf}
+use Rattle.kinds.specs.Kinds.{OneKind, ruleOf, stepOf, widthOf}
 use Rattle.path_quotes.specs.declared.Answer.{Answer}
 use Rattle.path_quotes.specs.declared.Answer.the-variants.{Quoted, Refused}
 use Rattle.quote.specs.Quote.{queryEnds, exactQuery, refusalOf, answerOf}
@@ -69,7 +69,7 @@ pub record Kept (p : Params) (kind : Kind) (age year span : ℤ) (a : Answer) : 
 
 -- "Demand 3 is one claim over any two accepted quotes of one kind": a has the number of its refusal, and 0 where it is
 -- accepted; refused, it has ends 0 and 0 and no figure; accepted, it is kept; a printed figure is the exact value rounded half
--- up; and of any second quote of the kind that is printed, whichever its set, age, year and span, the figures are equal
+-- up; and of any second quote of the kind that is printed, whichever its set, age, year, span and rate, the figures are equal
 -- exactly when the two exact values round to one same step
 pub record Demand3 (p : Params) (kind : Kind) (age year span : ℤ) (a : Answer) : Type 0 where
   pub number : numberOf a ≡ refusalNumber (refusalOf p kind age year span)
@@ -77,5 +77,6 @@ pub record Demand3 (p : Params) (kind : Kind) (age year span : ℤ) (a : Answer)
   pub kept : numberOf a ≡ 0 → Kept p kind age year span a
   pub rounds : (n : ℕ) → figureShown a ≡ printed n → RoundsAt p kind age year span n
   pub one-step : (n : ℕ) → figureShown a ≡ printed n
-      → (p′ : Params) (age′ year′ span′ : ℤ) (n′ : ℕ) → figureShown (answerOf p′ kind age′ year′ span′) ≡ printed n′
-      → (n ≡ n′) ↔ OneStep billionths billionths-sound (step kind) (exactQuery p kind age year span) (exactQuery p′ kind age′ year′ span′)
+      → (p′ : Params) (kind′ : Kind) (age′ year′ span′ : ℤ) (n′ : ℕ) → OneKind kind kind′
+      → figureShown (answerOf p′ kind′ age′ year′ span′) ≡ printed n′
+      → (n ≡ n′) ↔ OneStep billionths billionths-sound (step kind) (exactQuery p kind age year span) (exactQuery p′ kind′ age′ year′ span′)

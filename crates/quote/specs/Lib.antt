@@ -2,5 +2,6 @@
 pub mod Quote
 pub mod Demand
 -- laws
+pub mod AnswerLaws
 pub mod Tests
 pub mod Theorem

@@ -1,12 +1,16 @@
--- A quote of any set, kind, age, year and span (paper 01, "Figures on offer"): its refusal, and else its ends and figure.
+-- A quote of any set, kind, age, year and span (paper 01, "Figures on offer"): its refusal, and else its ends and figure. A kind
+-- that takes a rate has it.
+use mathlib.Core.Bool.{cond}
 use mathlib.Core.List.{List, [], _∷_, _++_}
 use Prim.Native.Nat.{_-_}
+use lib.Dec.{eqb}
 use lib.IntN.{ℤ, natAbs}
 use Rattle.expo.specs.Grid.{Ends}
 use Rattle.expo.specs.Billionths.{billionths}
 use Rattle.params.specs.declared.Params.{Params}
 use Rattle.params.specs.declared.Refusal.{Refusal}
-use Rattle.params.specs.declared.Refusal.the-variants.{Accepted, Torn, OffScale, NoSuchAge, NoSuchYear, NoSuchSpan, Steep, Short}
+use Rattle.params.specs.declared.Refusal.the-variants.{OffScale, Steep}
+use Rattle.params.specs.Refusals.{refusalNumber}
 use Rattle.params.specs.Limits.{inLimits, startYear}
 use Rattle.exact.specs.Value.{Exact}
 use Rattle.exact.specs.Figure.{figureOf}
@@ -35,7 +39,7 @@ exactQuery p kind age year span = exactValue (foldIs (ruleOf kind .fold)) p (que
 
 -- ---- the answer
 
--- the tests of the table, 3 to 5, before them 2 and after them 6
+-- the tests of the table, 3 to 5 and 8, before them 2 and after them 6
 unfoldable pub refusalOf : Params → Kind → ℤ → ℤ → ℤ → Refusal
 refusalOf p kind age year span =
     firstFailed
@@ -49,14 +53,7 @@ quoteOf p kind age year span =
 
 -- a quote where nothing is refused
 unfoldable pub answerBy : Refusal → Quote → Answer
-answerBy Accepted q = Quoted q
-answerBy Torn q = Refused Torn
-answerBy OffScale q = Refused OffScale
-answerBy NoSuchAge q = Refused NoSuchAge
-answerBy NoSuchYear q = Refused NoSuchYear
-answerBy NoSuchSpan q = Refused NoSuchSpan
-answerBy Steep q = Refused Steep
-answerBy Short q = Refused Short
+answerBy r q = cond (eqb (refusalNumber r) 0) (Quoted q) (Refused r)
 
 unfoldable pub answerOf : Params → Kind → ℤ → ℤ → ℤ → Answer
 answerOf p kind age year span = answerBy (refusalOf p kind age year span) (quoteOf p kind age year span)

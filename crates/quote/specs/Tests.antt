@@ -1,5 +1,5 @@
--- What a query has that no test refuses: a set in its limits, an age, a year and a span of the table, and a path that is
--- answered.
+-- What a query has that no test refuses: a set in its limits, an age, a year, a span and a rate of the table, and a path that
+-- is answered.
 use mathlib.Core.Path.{_≡_, refl}
 use Prim.Native.Nat.{ℕ, suc, _+_, _-_, _≤_, _<_}
 use native.Mathlib.Omega.{arith}
@@ -12,10 +12,12 @@ use Rattle.params.specs.Limits.{inLimits, startYear, lastYears}
 use Rattle.weights.specs.Weights.{lastClosed}
 use Rattle.paths.specs.Path.{placeAt, pathInRange}
 use Rattle.paths.specs.Answers.{AnsweredPath, path-years, path-answered}
+use Rattle.annuity.specs.Annuity.{mostRate}
 use Rattle.kinds.specs.declared.Kind.{Kind}
 use Rattle.kinds.specs.declared.Kind.the-variants as kind
-use Rattle.kinds.specs.Kinds.{ruleOf, mostSpan, countOf}
-use Rattle.table_tests.specs.TableTests.{ageInTable, yearInTable, spanInTable, firstFailed, tableTests}
+use Rattle.kinds.specs.Kinds.{ruleOf, rateOf, mostSpan, countOf}
+use Rattle.kinds.specs.Code.{RateWithin}
+use Rattle.table_tests.specs.TableTests.{ageInTable, yearInTable, spanInTable, rateInTable, firstFailed, tableTests}
 use Rattle.table_tests.specs.TableLaws.{passed, InTable, within}
 use Rattle.quote.specs.Quote.{queryPath, refusalOf}
 
@@ -31,8 +33,13 @@ all-passed p k age year span e =
     let a = passed (ageInTable age) (λ q. clash cc) (l .1) in
     let y = passed (yearInTable (ruleOf k) year) (λ q. clash cc) (a .1) in
     let s = passed (spanInTable (ruleOf k) age span) (λ q. clash cc) (y .1) in
-    let r = passed (pathInRange p (queryPath k age year span)) (λ q. clash cc) (s .1) in
-    record { limits = l .0; table = record { age-in = a .0; year-in = y .0; span-in = s .0 }; range = r .0 }
+    let i = passed (rateInTable (ruleOf k)) (λ q. clash cc) (s .1) in
+    let r = passed (pathInRange p (queryPath k age year span)) (λ q. clash cc) (i .1) in
+    record {
+      limits = l .0;
+      table = record { age-in = a .0; year-in = y .0; span-in = s .0; rate-in = i .0 };
+      range = r .0;
+    }
 
 -- ---- the numbers of a query in the table
 
@@ -57,6 +64,10 @@ kind-within kind.CohortExpectancy =
     record { years = _; years-are = refl; last = omega arith; ages = λ x s h l. omega arith; cohort = λ x s h l. omega arith }
 kind-within kind.PeriodExpectancy =
     record { years = _; years-are = refl; last = omega arith; ages = λ x s h l. omega arith; cohort = λ x s h l. omega arith }
+kind-within (kind.CohortAnnuity rate) =
+    record { years = _; years-are = refl; last = omega arith; ages = λ x s h l. omega arith; cohort = λ x s h l. omega arith }
+kind-within (kind.PeriodAnnuity rate) =
+    record { years = _; years-are = refl; last = omega arith; ages = λ x s h l. omega arith; cohort = λ x s h l. omega arith }
 
 -- the query's numbers as the table counts them
 pub record Counted (k : Kind) (age year span : ℤ) : Type 0 where
@@ -67,14 +78,16 @@ pub record Counted (k : Kind) (age year span : ℤ) : Type 0 where
   pub year-to : natAbs year ≤ startYear + kind-within k .years
   pub span-is : pos (natAbs span) ≡ span
   pub span-in : natAbs span ≤ mostSpan (ruleOf k .fold) (natAbs age)
+  pub rate-in : RateWithin (ruleOf k .fold)
 
 pub counted : (k : Kind) {age year span : ℤ} → InTable (ruleOf k) age year span → Counted k age year span
-unfolding ageInTable yearInTable spanInTable
+unfolding ageInTable yearInTable spanInTable rateInTable
 counted k {age} {year} {span} t =
     let w = kind-within k in
     let a = within 0 lastClosed age (t .age-in) in
     let y = within _ _ year (rw (w .years-are) at (t .year-in)) in
     let s = within 0 (mostSpan (ruleOf k .fold) (natAbs age)) span (t .span-in) in
+    let r = within 0 mostRate (rateOf (ruleOf k .fold)) (t .rate-in) in
     record {
       age-is = a .0;
       age-in = a .2;
@@ -83,6 +96,7 @@ counted k {age} {year} {span} t =
       year-to = y .2;
       span-is = s .0;
       span-in = s .2;
+      rate-in = record { is = r .0; most = r .2 };
     }
 
 -- ---- its path

@@ -1,5 +1,5 @@
 -- Every answer meets demand 3, and the claim over two quotes by itself.
-use mathlib.Core.Path.{_≡_, refl, ap}
+use mathlib.Core.Path.{_≡_, refl, ap, sym, _∙_}
 use mathlib.Core.Logic.{_↔_}
 use mathlib.Core.Bool.{Bool}
 use Prim.Native.Nat.{ℕ, suc, _+_, _-_, _≤_, _<_}
@@ -11,10 +11,11 @@ use Rattle.expo.specs.Billionths.{billionths}
 use Rattle.expo.specs.BillionthsFacts.{billionths-sound}
 use Rattle.params.specs.declared.Params.{Params}
 use Rattle.params.specs.declared.Refusal.{Refusal}
-use Rattle.params.specs.declared.Refusal.the-variants.{Accepted, Torn, OffScale, NoSuchAge, NoSuchYear, NoSuchSpan, Steep, Short}
+use Rattle.params.specs.declared.Refusal.the-variants.{Accepted}
 use Rattle.params.specs.Limits.{startYear}
 use Rattle.weights.specs.Weights.{lastClosed}
 use Rattle.params.specs.Refusals.{refusalNumber}
+use Rattle.params.specs.RefusalLaws.{accepted}
 use Rattle.exact.specs.declared.Figure.{Figure}
 use Rattle.exact.specs.declared.Figure.the-variants.{Printed, Open}
 use Rattle.exact.specs.Value.{OneStep}
@@ -27,31 +28,30 @@ use Rattle.paths.specs.Path.{pathOf}
 use Rattle.paths.specs.Answers.{AnsweredPath}
 use Rattle.paths.specs.Holds.{value-holds}
 use Rattle.paths.specs.Narrowing.{value-narrows}
-use Rattle.paths.specs.Width.{death-limit, survival-limit, expectancy-limit}
+use Rattle.paths.specs.Width.{death-limit, survival-limit, expectancy-limit, annuity-limit}
 use Rattle.kinds.specs.declared.Kind.{Kind}
 use Rattle.kinds.specs.declared.Fold.{Fold}
-use Rattle.kinds.specs.declared.Fold.the-variants.{Death, Survival, Expectancy}
-use Rattle.kinds.specs.Kinds.{ruleOf, foldIs, countOf, stepOf, widthOf}
+use Rattle.kinds.specs.declared.Fold.the-variants.{Death, Survival, Expectancy, Annuity}
+use Rattle.kinds.specs.Kinds.{OneKind, ruleOf, foldIs, countOf, stepOf, widthOf}
+use Rattle.kinds.specs.KindLaws.{one-step-of}
 use Rattle.path_quotes.specs.declared.Quote.{Quote}
 use Rattle.path_quotes.specs.declared.Answer.{Answer}
 use Rattle.path_quotes.specs.declared.Answer.the-variants.{Quoted, Refused}
 use Rattle.quote.specs.Quote.{queryPath, queryEnds, exactQuery, refusalOf, quoteOf, answerBy, answerOf}
 use Rattle.quote.specs.Demand.{printed, markedOpen, noFigure, shownOf, numberOf, lowerOf, upperOf, figureShown, step, RoundsAt, Kept, Demand3}
+use Rattle.quote.specs.AnswerLaws.{AnswerBy, quoted, refused, answer-by}
 use Rattle.quote.specs.Tests.{Passed, all-passed, counted, path-ages, query-answered}
 
 -- ---- which answers are quotes
 
 -- an answer has the number of its refusal
 answer-number : (r : Refusal) (q : Quote) → numberOf (answerBy r q) ≡ refusalNumber r
-unfolding answerBy numberOf refusalNumber
-answer-number Accepted q = refl
-answer-number Torn q = refl
-answer-number OffScale q = refl
-answer-number NoSuchAge q = refl
-answer-number NoSuchYear q = refl
-answer-number NoSuchSpan q = refl
-answer-number Steep q = refl
-answer-number Short q = refl
+unfolding numberOf refusalNumber
+answer-number r q = go (answer-by r q)
+  where
+    go : {a : Answer} → AnswerBy r q a → numberOf a ≡ refusalNumber r
+    go (quoted e) = rw e
+    go (refused n) = refl
 
 -- an answer with a number has ends 0 and 0 and no figure
 refused-empty : (a : Answer) → (numberOf a ≡ 0 → ⊥) → (lowerOf a ≡ 0) × (upperOf a ≡ 0) × (figureShown a ≡ noFigure)
@@ -61,30 +61,19 @@ refused-empty (Refused r) n = (refl, refl, refl)
 
 -- an answer with no number is a quote
 no-number : (r : Refusal) (q : Quote) → numberOf (answerBy r q) ≡ 0 → r ≡ Accepted
-unfolding answerBy numberOf refusalNumber
-no-number Accepted q e = refl
-no-number Torn q e = absurd (omega arith)
-no-number OffScale q e = absurd (omega arith)
-no-number NoSuchAge q e = absurd (omega arith)
-no-number NoSuchYear q e = absurd (omega arith)
-no-number NoSuchSpan q e = absurd (omega arith)
-no-number Steep q e = absurd (omega arith)
-no-number Short q e = absurd (omega arith)
+no-number r q e = accepted r (sym (answer-number r q) ∙ e)
 
 -- and so is one with a figure
 no-refusal : {n : ℕ} → noFigure ≡ printed n → ⊥
 no-refusal e = clash cc
 
 printed-quote : (r : Refusal) (q : Quote) {n : ℕ} → figureShown (answerBy r q) ≡ printed n → (r ≡ Accepted) × (shownOf (q .figure) ≡ printed n)
-unfolding answerBy figureShown
-printed-quote Accepted q e = (refl, e)
-printed-quote Torn q e = absurd (no-refusal e)
-printed-quote OffScale q e = absurd (no-refusal e)
-printed-quote NoSuchAge q e = absurd (no-refusal e)
-printed-quote NoSuchYear q e = absurd (no-refusal e)
-printed-quote NoSuchSpan q e = absurd (no-refusal e)
-printed-quote Steep q e = absurd (no-refusal e)
-printed-quote Short q e = absurd (no-refusal e)
+unfolding figureShown
+printed-quote r q {n} = go (answer-by r q)
+  where
+    go : {a : Answer} → AnswerBy r q a → figureShown a ≡ printed n → (r ≡ Accepted) × (shownOf (q .figure) ≡ printed n)
+    go (quoted e) f = (e, f)
+    go (refused m) f = absurd (no-refusal f)
 
 printed-figure : (f : Figure) {n : ℕ} → shownOf f ≡ printed n → f ≡ Printed n
 unfolding shownOf
@@ -101,6 +90,7 @@ unfolding stepOf
 step-positive Death = lit< tt
 step-positive Survival = lit< tt
 step-positive Expectancy = lit< tt
+step-positive (Annuity rate) = lit< tt
 
 -- ---- an accepted query
 
@@ -112,6 +102,7 @@ unfolding foldIs countOf widthOf
 fold-width Death cohort x n span l a = death-limit cohort x n a
 fold-width Survival cohort x n span l a = survival-limit cohort x n span l a
 fold-width Expectancy cohort x n span l a = expectancy-limit cohort x n _ l a
+fold-width (Annuity rate) cohort x n span l a = annuity-limit cohort x n _ l a (natAbs rate)
 
 module _ {p : Params} {k : Kind} {age year span : ℤ} (h : Passed p k age year span) where
   query-width : queryEnds p k age year span .upper ≤ queryEnds p k age year span .lower + widthOf (ruleOf k .fold) (natAbs age)
@@ -156,24 +147,24 @@ figure-rounds p k age year span e =
     let q = printed-quote (refusalOf p k age year span) (quoteOf p k age year span) e in
     query-rounds (all-passed p k age year span (q .0)) (printed-figure _ (q .1))
 
--- two printed figures of one kind, whichever sets, ages, years and spans they come from, are equal exactly when their exact
--- values round to one same step
-pub same-figure : (k : Kind) (p p′ : Params) (age year span age′ year′ span′ : ℤ) {n n′ : ℕ}
-    → figureShown (answerOf p k age year span) ≡ printed n → figureShown (answerOf p′ k age′ year′ span′) ≡ printed n′
-    → (n ≡ n′) ↔ OneStep billionths billionths-sound (step k) (exactQuery p k age year span) (exactQuery p′ k age′ year′ span′)
-same-figure k p p′ age year span age′ year′ span′ e e′ =
-    same-step (figure-rounds p k age year span e) (figure-rounds p′ k age′ year′ span′ e′)
+-- two printed figures of one kind, whichever sets, ages, years, spans and rates they come from, are equal exactly when their
+-- exact values round to one same step
+pub same-figure : (k k′ : Kind) → OneKind k k′ → (p p′ : Params) (age year span age′ year′ span′ : ℤ) {n n′ : ℕ}
+    → figureShown (answerOf p k age year span) ≡ printed n → figureShown (answerOf p′ k′ age′ year′ span′) ≡ printed n′
+    → (n ≡ n′) ↔ OneStep billionths billionths-sound (step k) (exactQuery p k age year span) (exactQuery p′ k′ age′ year′ span′)
+same-figure k k′ one p p′ age year span age′ year′ span′ e e′ =
+    same-step (figure-rounds p k age year span e) (rw (one-step-of k k′ one) (figure-rounds p′ k′ age′ year′ span′ e′))
 
 -- every answer meets demand 3
 pub demand-met : (p : Params) (k : Kind) (age year span : ℤ) → Demand3 p k age year span (answerOf p k age year span)
-unfolding answerOf answerBy
+unfolding answerOf answerBy refusalNumber
 demand-met p k age year span =
     record {
       number = answer-number (refusalOf p k age year span) (quoteOf p k age year span);
       refused = refused-empty (answerBy (refusalOf p k age year span) (quoteOf p k age year span));
       kept = λ e. accepted (no-number (refusalOf p k age year span) (quoteOf p k age year span) e);
       rounds = λ n e. figure-rounds p k age year span e;
-      one-step = λ n e p′ age′ year′ span′ n′ e′. same-figure k p p′ age year span age′ year′ span′ e e′;
+      one-step = λ n e p′ kind′ age′ year′ span′ n′ one e′. same-figure k kind′ one p p′ age year span age′ year′ span′ e e′;
     }
   where
     accepted : refusalOf p k age year span ≡ Accepted → Kept p k age year span (answerBy (refusalOf p k age year span) (quoteOf p k age year span))

@@ -10,7 +10,7 @@ use Rattle.whole.specs.Clash.{clash}
 use Rattle.params.specs.declared.Refusal.{Refusal}
 use Rattle.params.specs.declared.Refusal.the-variants.{Accepted}
 use Rattle.kinds.specs.declared.Rule.{Rule}
-use Rattle.table_tests.specs.TableTests.{between, ageInTable, yearInTable, spanInTable, firstFailed, tableTests}
+use Rattle.table_tests.specs.TableTests.{between, ageInTable, yearInTable, spanInTable, rateInTable, firstFailed, tableTests}
 
 -- where the first failed is none, the first passed, and so did the others
 pub passed : (b : Bool) {r s : Refusal} → (r ≡ Accepted → ⊥) → cond b s r ≡ Accepted → T b × (s ≡ Accepted)
@@ -21,6 +21,7 @@ pub record InTable (rule : Rule) (age year span : ℤ) : Type 0 where
   pub age-in : T (ageInTable age)
   pub year-in : T (yearInTable rule year)
   pub span-in : T (spanInTable rule age span)
+  pub rate-in : T (rateInTable rule)
 
 pub in-table : (rule : Rule) (age year span : ℤ) → firstFailed (tableTests rule age year span) ≡ Accepted
     → InTable rule age year span
@@ -29,7 +30,8 @@ in-table rule age year span e =
     let a = passed (ageInTable age) (λ q. clash cc) e in
     let y = passed (yearInTable rule year) (λ q. clash cc) (a .1) in
     let s = passed (spanInTable rule age span) (λ q. clash cc) (y .1) in
-    record { age-in = a .0; year-in = y .0; span-in = s .0 }
+    let r = passed (rateInTable rule) (λ q. clash cc) (s .1) in
+    record { age-in = a .0; year-in = y .0; span-in = s .0; rate-in = r .0 }
 
 -- a number between two that are at least 0
 pub within : (a b : ℕ) (z : ℤ) → T (between (pos a) (pos b) z) → (pos (natAbs z) ≡ z) × (a ≤ natAbs z) × (natAbs z ≤ b)

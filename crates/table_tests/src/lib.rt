@@ -1,8 +1,9 @@
-// The tests of an age, a year and a span against the table: refusals 3 to 5.
+// The tests of an age, a year, a span and a rate against the table: refusals 3 to 5 and 8.
 ghost use mathlib.Core.Path.{_≡_};
 ghost use Rattle.whole.specs.Bound.{Under};
 ghost use Rattle.params.specs.Limits.{lastYears};
 ghost use Rattle.table_tests.specs.TableTests.{between, tableTests, firstFailed};
+use annuity::MOST_RATE;
 use kinds::Rule;
 use params::FIRST_YEARS;
 use params::Refusal;
@@ -19,7 +20,7 @@ fn between(low: i64, high: i64, v: i64) -> bool
     v <= high
 }
 
-// The refusal that the table gives an age, a year and a span, in the numbers' order.
+// The refusal that the table gives an age, a year, a span and a kind's rate, the first of 3, 4, 5 and 8 that applies.
 pub fn table_refusal(rule: Rule, age: i64, year: i64, span: i64) -> Refusal
     requires { ⌜ Under (rule .years) lastYears ⌝ }
     ensures { λ r. ⌜ r ≡ firstFailed (tableTests rule age year span) ⌝ }
@@ -34,6 +35,9 @@ pub fn table_refusal(rule: Rule, age: i64, year: i64, span: i64) -> Refusal
     }
     if !between(0, kinds::most_span(fold, age as usize) as i64, span) {
         return Refusal::NoSuchSpan;
+    }
+    if !between(0, MOST_RATE as i64, kinds::rate_of(fold)) {
+        return Refusal::NoSuchRate;
     }
     Refusal::Accepted
 }

@@ -22,14 +22,15 @@ stepsShown markedOpen = None
 stepsShown noFigure = None
 
 -- the exact values of the two queries round to one same step of the kind's figures
-abbrev pub OneStepOf : Kind → Params → ℤ → ℤ → ℤ → Params → ℤ → ℤ → ℤ → Type 0
-OneStepOf kind p age year span p′ age′ year′ span′ =
-    OneStep billionths billionths-sound (step kind) (exactQuery p kind age year span) (exactQuery p′ kind age′ year′ span′)
+abbrev pub OneStepOf : Params → Kind → ℤ → ℤ → ℤ → Params → Kind → ℤ → ℤ → ℤ → Type 0
+OneStepOf p kind age year span p′ kind′ age′ year′ span′ =
+    OneStep billionths billionths-sound (step kind) (exactQuery p kind age year span) (exactQuery p′ kind′ age′ year′ span′)
 
 -- equal figures have exact values that round to one step, and different figures have not; and where neither is said, one of
 -- the two is not printed
-pub record Settled (kind : Kind) (p : Params) (age year span : ℤ) (p′ : Params) (age′ year′ span′ : ℤ) (r : Same) : Type 0 where
-  pub equal : r ≡ Equal → OneStepOf kind p age year span p′ age′ year′ span′
-  pub different : r ≡ Different → OneStepOf kind p age year span p′ age′ year′ span′ → ⊥
+pub record Settled (p : Params) (kind : Kind) (age year span : ℤ) (p′ : Params) (kind′ : Kind) (age′ year′ span′ : ℤ) (r : Same)
+    : Type 0 where
+  pub equal : r ≡ Equal → OneStepOf p kind age year span p′ kind′ age′ year′ span′
+  pub different : r ≡ Different → OneStepOf p kind age year span p′ kind′ age′ year′ span′ → ⊥
   pub not-printed : r ≡ NotPrinted → (n n′ : ℕ) → figureShown (answerOf p kind age year span) ≡ printed n
-      → figureShown (answerOf p′ kind age′ year′ span′) ≡ printed n′ → ⊥
+      → figureShown (answerOf p′ kind′ age′ year′ span′) ≡ printed n′ → ⊥

@@ -6,6 +6,7 @@ use lib.IntN.{ℤ}
 use Rattle.whole.specs.Clash.{clash}
 use Rattle.params.specs.declared.Params.{Params}
 use Rattle.kinds.specs.declared.Kind.{Kind}
+use Rattle.kinds.specs.Kinds.{OneKind}
 use Rattle.path_quotes.specs.declared.Answer.{Answer}
 use Rattle.quote.specs.Quote.{answerOf}
 use Rattle.quote.specs.Demand.{Shown, printed, markedOpen, noFigure, figureShown, Demand3}
@@ -34,9 +35,9 @@ abbrev pub Promised : Params → Kind → ℤ → ℤ → ℤ → Answer → Typ
 Promised p kind age year span a = (a ≡ answerOf p kind age year span) × Demand3 p kind age year span a
 
 module _ {kind : Kind} {p : Params} {age year span : ℤ} {a : Answer} (h : Promised p kind age year span a)
-    {p′ : Params} {age′ year′ span′ : ℤ} {a′ : Answer} (h′ : Promised p′ kind age′ year′ span′ a′) where
+    {p′ : Params} {kind′ : Kind} {age′ year′ span′ : ℤ} {a′ : Answer} (h′ : Promised p′ kind′ age′ year′ span′ a′) where
   -- one has no printed figure
-  pub first-not-printed : stepsShown (figureShown a) ≡ None → Settled kind p age year span p′ age′ year′ span′ NotPrinted
+  pub first-not-printed : stepsShown (figureShown a) ≡ None → Settled p kind age year span p′ kind′ age′ year′ span′ NotPrinted
   first-not-printed e =
       record {
         equal = λ q. clash cc;
@@ -44,7 +45,7 @@ module _ {kind : Kind} {p : Params} {age year span : ℤ} {a : Answer} (h : Prom
         not-printed = λ q n n′ f f′. shown-none (figureShown a) e (ap figureShown (h .0) ∙ f);
       }
 
-  pub second-not-printed : stepsShown (figureShown a′) ≡ None → Settled kind p age year span p′ age′ year′ span′ NotPrinted
+  pub second-not-printed : stepsShown (figureShown a′) ≡ None → Settled p kind age year span p′ kind′ age′ year′ span′ NotPrinted
   second-not-printed e =
       record {
         equal = λ q. clash cc;
@@ -53,26 +54,26 @@ module _ {kind : Kind} {p : Params} {age year span : ℤ} {a : Answer} (h : Prom
       }
 
   -- both have: the first answer's promise, of the second query
-  same : {n n′ : ℕ} → stepsShown (figureShown a) ≡ At n → stepsShown (figureShown a′) ≡ At n′
-      → (n ≡ n′) ↔ OneStepOf kind p age year span p′ age′ year′ span′
-  same {n} {n′} e e′ =
-      h .1 .one-step n (shown-at (figureShown a) e) p′ age′ year′ span′ n′
+  same : OneKind kind kind′ → {n n′ : ℕ} → stepsShown (figureShown a) ≡ At n → stepsShown (figureShown a′) ≡ At n′
+      → (n ≡ n′) ↔ OneStepOf p kind age year span p′ kind′ age′ year′ span′
+  same one {n} {n′} e e′ =
+      h .1 .one-step n (shown-at (figureShown a) e) p′ kind′ age′ year′ span′ n′ one
       (ap figureShown (sym (h′ .0)) ∙ shown-at (figureShown a′) e′)
 
-  pub equal-printed : {n n′ : ℕ} → stepsShown (figureShown a) ≡ At n → stepsShown (figureShown a′) ≡ At n′ → n ≡ n′
-      → Settled kind p age year span p′ age′ year′ span′ Equal
-  equal-printed e e′ s =
+  pub equal-printed : OneKind kind kind′ → {n n′ : ℕ} → stepsShown (figureShown a) ≡ At n → stepsShown (figureShown a′) ≡ At n′ → n ≡ n′
+      → Settled p kind age year span p′ kind′ age′ year′ span′ Equal
+  equal-printed one e e′ s =
       record {
-        equal = λ q. same e e′ .0 s;
+        equal = λ q. same one e e′ .0 s;
         different = λ q. clash cc;
         not-printed = λ q. clash cc;
       }
 
-  pub different-printed : {n n′ : ℕ} → stepsShown (figureShown a) ≡ At n → stepsShown (figureShown a′) ≡ At n′ → (n ≡ n′ → ⊥)
-      → Settled kind p age year span p′ age′ year′ span′ Different
-  different-printed e e′ d =
+  pub different-printed : OneKind kind kind′ → {n n′ : ℕ} → stepsShown (figureShown a) ≡ At n → stepsShown (figureShown a′) ≡ At n′ → (n ≡ n′ → ⊥)
+      → Settled p kind age year span p′ kind′ age′ year′ span′ Different
+  different-printed one e e′ d =
       record {
         equal = λ q. clash cc;
-        different = λ q o. d (same e e′ .1 o);
+        different = λ q o. d (same one e e′ .1 o);
         not-printed = λ q. clash cc;
       }

@@ -1,6 +1,7 @@
-// Two quotes of one kind, whichever their sets, ages, years and spans: whether their figures are equal, and so whether
+// Two quotes of one kind, whichever their sets, ages, years, spans and rates: whether their figures are equal, and so whether
 // their exact values round to one step. Proved from the contract of `quote_of` alone.
 ghost use mathlib.Core.Path.{_≡_};
+ghost use Rattle.kinds.specs.Kinds.{OneKind};
 ghost use Rattle.quote.specs.Demand.{shownOf, figureShown};
 ghost use Rattle.two_quotes.specs.Claim.{stepsShown, Settled};
 use exact::Figure;
@@ -44,20 +45,22 @@ fn steps_of(answer: Answer) -> Steps
 
 // Compares the figures of two quotes of one kind.
 pub fn same_figures(
-    kind: Kind,
     p: Params,
+    kind: Kind,
     age: i64,
     year: i64,
     span: i64,
     p2: Params,
+    kind2: Kind,
     age2: i64,
     year2: i64,
     span2: i64,
 ) -> Same
-    ensures { λ r. ⌜ Settled kind p age year span p2 age2 year2 span2 r ⌝ }
+    requires { ⌜ OneKind kind kind2 ⌝ }
+    ensures { λ r. ⌜ Settled p kind age year span p2 kind2 age2 year2 span2 r ⌝ }
 {
     let first = steps_of(quote::quote_of(p, kind, age, year, span));
-    let second = steps_of(quote::quote_of(p2, kind, age2, year2, span2));
+    let second = steps_of(quote::quote_of(p2, kind2, age2, year2, span2));
     let Steps::At(n) = first else {
         return Same::NotPrinted;
     };

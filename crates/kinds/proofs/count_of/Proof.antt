@@ -18,6 +18,12 @@ enum-told-3 c = search needs
 sub-result : tie.Need-sub-result
 sub-result c = search needs
 
+enum-told-4 : tie.Need-enum-told-4
+enum-told-4 c = search needs
+
+sub-result-2 : tie.Need-sub-result-2
+sub-result-2 c = search needs
+
 returns : tie.Need-returns
 unfolding countOf
 returns c = sym (ap (λ (f : Fold). countOf f (c .before .before .args .age) (c .before .before .args .span)) (c .enum-told .given .1))
@@ -30,6 +36,10 @@ returns-3 : tie.Need-returns-3
 unfolding countOf
 returns-3 c = sym (ap (λ (f : Fold). countOf f (c .before .before .args .age) (c .before .before .args .span)) (c .enum-told3 .given .1))
 
+returns-4 : tie.Need-returns-4
+unfolding countOf
+returns-4 c = sym (ap (λ (f : Fold). countOf f (c .before .before .args .age) (c .before .before .args .span)) (c .enum-told4 .given .1))
+
 pub count-of-spec : {M : Type 1} → statement M
 count-of-spec =
-    tie.close (tie.spec enum-told enum-told-2 enum-told-3 sub-result returns returns-2 returns-3)
+    tie.close (tie.spec enum-told enum-told-2 enum-told-3 sub-result enum-told-4 sub-result-2 returns returns-2 returns-3 returns-4)

@@ -2,7 +2,11 @@
 use borrow.Author.Needs.{needs}
 use mathlib.Core.Path.{_≡_, sym, ap, _∙_}
 use lib.Dec.{lit<}
+use lib.IntN.{ℤ}
 use lib.ListN.{take}
+use mir.Syntax.{w64}
+use mir.Val.{SFits}
+use mir.Facts.{toZ-ofZ}
 use Rattle.expo.specs.Billionths.{billionths}
 use Rattle.expo.specs.Code.{endsOf}
 use Rattle.folds.specs.Code.{listOf, AtMost}
@@ -10,7 +14,10 @@ use Rattle.folds.specs.Bounds.{survival-at-most}
 use Rattle.force.specs.Force.{deathOf}
 use Rattle.paths.specs.Values.{foldOver}
 use Rattle.kinds.specs.declared.Fold.{Fold}
-use Rattle.kinds.specs.Kinds.{foldIs}
+use Rattle.kinds.specs.declared.Fold.the-variants.{Annuity}
+use Rattle.kinds.specs.Kinds.{foldIs, rateOf}
+use Rattle.kinds.specs.Code.{RateWithin}
+use Rattle.kinds.proofs.Casts.{cast-whole}
 use Rattle.kinds.proofs.folded.Statement.{statement}
 use Rattle.kinds.proofs.folded.Tie as tie
 
@@ -23,7 +30,7 @@ survival-over-requires c κs = search needs
 death-of-requires : tie.Need-death-of-requires
 death-of-requires c κs =
     let e = c .before .before .before in
-    let h = survival-at-most billionths (lit< tt) (e .pre .each) in
+    let h = survival-at-most billionths (lit< tt) (e .pre .0 .each) in
     let k : AtMost (billionths .unit) (endsOf (c .survival-over .result)) = rw (c .survival-over .ensures) h in
     (k .lower, k .upper)
 
@@ -38,6 +45,27 @@ enum-told-3 c = search needs
 
 expectancy-over-requires : tie.Need-expectancy-over-requires
 expectancy-over-requires c κs = search needs
+
+enum-known-fold : tie.Need-enum-known-fold
+enum-known-fold c = search needs
+
+-- the rate in the annuity's arm
+abbrev rate : tie.After-known-told → ℤ
+rate c = c .before .fold .given .0 .0
+
+rate-fits : (c : tie.After-known-told) → SFits w64 (rate c)
+rate-fits c = record { sfits = c .known-told .given .0 .1 }
+
+rate-within : (c : tie.After-known-told) → RateWithin (Annuity (rate c))
+rate-within c = rw (c .before .fold .given .1) at (c .before .before .before .pre .1)
+
+cast-annuity-over : tie.Need-cast-annuity-over
+unfolding rateOf
+cast-annuity-over c = cast-whole (rate-fits c) (rate-within c .is)
+
+annuity-over-requires : tie.Need-annuity-over-requires
+unfolding rateOf
+annuity-over-requires c κs = (c .before .before .before .pre .0, rw (toZ-ofZ (rate-fits c)) (rate-within c .most))
 
 -- the fold over the factors that the code's enum names
 at : (c : tie.Start) {f : Fold} → c .args .fold ≡ f
@@ -60,6 +88,12 @@ returns-3 : tie.Need-returns-3
 unfolding foldIs foldOver
 returns-3 c = c .expectancy-over .ensures ∙ at (c .before .before .before) (c .before .enum-told3 .given .1)
 
+returns-4 : tie.Need-returns-4
+unfolding foldIs foldOver
+returns-4 c =
+    let k = c .before in
+    rw (toZ-ofZ (rate-fits k)) at (c .annuity-over .ensures) ∙ at (k .before .before .before) (k .before .fold .given .1)
+
 pub folded-spec : {M : Type 1} → statement M
 folded-spec =
     tie.close
@@ -71,6 +105,10 @@ folded-spec =
     survival-over-requires-2
     enum-told-3
     expectancy-over-requires
+    enum-known-fold
+    cast-annuity-over
+    annuity-over-requires
     returns
     returns-2
-    returns-3)
+    returns-3
+    returns-4)

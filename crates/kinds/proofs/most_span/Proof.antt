@@ -18,6 +18,9 @@ sub-result c = search needs
 enum-told-3 : tie.Need-enum-told-3
 enum-told-3 c = search needs
 
+enum-told-4 : tie.Need-enum-told-4
+enum-told-4 c = search needs
+
 returns : tie.Need-returns
 unfolding mostSpan
 returns c = sym (ap (λ (f : Fold). mostSpan f (c .before .before .args .age)) (c .enum-told .given .1))
@@ -30,6 +33,10 @@ returns-3 : tie.Need-returns-3
 unfolding mostSpan
 returns-3 c = sym (ap (λ (f : Fold). mostSpan f (c .before .before .args .age)) (c .enum-told3 .given .1))
 
+returns-4 : tie.Need-returns-4
+unfolding mostSpan
+returns-4 c = sym (ap (λ (f : Fold). mostSpan f (c .before .before .args .age)) (c .enum-told4 .given .1))
+
 pub most-span-spec : {M : Type 1} → statement M
 most-span-spec =
-    tie.close (tie.spec enum-told enum-told-2 sub-result enum-told-3 returns returns-2 returns-3)
+    tie.close (tie.spec enum-told enum-told-2 sub-result enum-told-3 enum-told-4 returns returns-2 returns-3 returns-4)

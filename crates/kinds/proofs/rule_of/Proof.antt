@@ -1,6 +1,9 @@
 -- `rule_of` meets its contract, case by case.
 use borrow.Author.Needs.{needs}
-use mathlib.Core.Path.{sym, ap}
+use mathlib.Core.Path.{sym, ap, _∙_}
+use lib.IntN.{ℤ}
+use mir.Facts.{toZ-ofZ}
+use Rattle.kinds.specs.declared.Kind.the-variants.{CohortAnnuity, PeriodAnnuity}
 use Rattle.kinds.specs.Kinds.{ruleOf}
 use Rattle.kinds.proofs.rule_of.Statement.{statement}
 use Rattle.kinds.proofs.rule_of.Tie as tie
@@ -19,6 +22,12 @@ enum-told-4 c = search needs
 
 enum-told-5 : tie.Need-enum-told-5
 enum-told-5 c = search needs
+
+enum-known-kind : tie.Need-enum-known-kind
+enum-known-kind c = search needs
+
+enum-known-kind-2 : tie.Need-enum-known-kind-2
+enum-known-kind-2 c = search needs
 
 returns : tie.Need-returns
 unfolding ruleOf
@@ -40,6 +49,18 @@ returns-5 : tie.Need-returns-5
 unfolding ruleOf
 returns-5 c = sym (ap ruleOf (c .enum-told5 .given .1))
 
+returns-6 : tie.Need-returns-6
+unfolding ruleOf
+returns-6 c =
+    ap (λ (rate : ℤ). ruleOf (CohortAnnuity rate)) (toZ-ofZ (record { sfits = c .known-told .given .0 .1 }))
+    ∙ sym (ap ruleOf (c .before .kind .given .1))
+
+returns-7 : tie.Need-returns-7
+unfolding ruleOf
+returns-7 c =
+    ap (λ (rate : ℤ). ruleOf (PeriodAnnuity rate)) (toZ-ofZ (record { sfits = c .known-told2 .given .0 .1 }))
+    ∙ sym (ap ruleOf (c .before .kind2 .given .1))
+
 pub rule-of-spec : {M : Type 1} → statement M
 rule-of-spec =
     tie.close
@@ -49,8 +70,12 @@ rule-of-spec =
     enum-told-3
     enum-told-4
     enum-told-5
+    enum-known-kind
+    enum-known-kind-2
     returns
     returns-2
     returns-3
     returns-4
-    returns-5)
+    returns-5
+    returns-6
+    returns-7)

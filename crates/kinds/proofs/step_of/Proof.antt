@@ -14,6 +14,9 @@ enum-told-2 c = search needs
 enum-told-3 : tie.Need-enum-told-3
 enum-told-3 c = search needs
 
+enum-told-4 : tie.Need-enum-told-4
+enum-told-4 c = search needs
+
 returns : tie.Need-returns
 unfolding stepOf
 returns c = sym (ap stepOf (c .enum-told .given .1))
@@ -26,5 +29,9 @@ returns-3 : tie.Need-returns-3
 unfolding stepOf
 returns-3 c = sym (ap stepOf (c .enum-told3 .given .1))
 
+returns-4 : tie.Need-returns-4
+unfolding stepOf
+returns-4 c = sym (ap stepOf (c .enum-told4 .given .1))
+
 pub step-of-spec : {M : Type 1} → statement M
-step-of-spec = tie.close (tie.spec enum-told enum-told-2 enum-told-3 returns returns-2 returns-3)
+step-of-spec = tie.close (tie.spec enum-told enum-told-2 enum-told-3 enum-told-4 returns returns-2 returns-3 returns-4)

@@ -16,7 +16,7 @@ use Rattle.path_quotes.proofs.answer_along.Statement.{statement}
 use Rattle.path_quotes.proofs.answer_along.Tie as tie
 
 factors-of-requires : tie.Need-factors-of-requires
-factors-of-requires c κs = c .pre
+factors-of-requires c κs = c .pre .0
 
 returns : tie.Need-returns
 unfolding pathAnswer
@@ -33,7 +33,7 @@ folded-requires : tie.Need-folded-requires
 folded-requires c κs =
     let e = c .before in
     let f = e .before .before in
-    path-chances (f .before .pre) (f .factors-of .ensures .ends (rw (worked e) tt))
+    (path-chances (f .before .pre .0) (f .factors-of .ensures .ends (rw (worked e) tt)), f .before .pre .1)
 
 -- the fold's ends are the path's
 ends-read : (c : tie.After-folded) → let s = c .before .before .before .before .before in
@@ -54,7 +54,7 @@ figure-of-requires : tie.Need-figure-of-requires
 figure-of-requires c κs =
     let d = c .before in
     let s = d .before .before .before .before .before in
-    let v = value-fits (s .args .fold) (s .pre) in
+    let v = value-fits (s .args .fold) (s .pre .0) in
     let e = ends-read d in
     let l = ap (λ (k : Ends). k .lower) e in
     let u = ap (λ (k : Ends). k .upper) e in

@@ -16,7 +16,8 @@ use Rattle.table_tests.specs.TableLaws.{InTable, in-table}
 use Rattle.quote.specs.Quote.{queryPath}
 use Rattle.quote.specs.Tests.{Counted, counted, path-ages, path-first, path-in}
 use Rattle.params.specs.RefusalLaws.{accepted}
-use Rattle.quote.proofs.Steps.{table-answer, along-answer, years-under, cast-whole, years-from}
+use Rattle.kinds.proofs.Casts.{cast-whole}
+use Rattle.quote.proofs.Steps.{table-answer, along-answer, years-under, years-from}
 use Rattle.quote.proofs.quote_within.Statement.{statement}
 use Rattle.quote.proofs.quote_within.Tie as tie
 
@@ -101,7 +102,7 @@ answer-along-requires c κs =
     let s = r .before in
     let k = numbers e in
     rw (toZ-ofZ (s .fits .age), years-read e .1, count-is c, r .rule-of .ensures)
-    (record { limits = s .pre; ages = path-ages _ k; first = path-first _ k; years = path-in _ k })
+    (record { limits = s .pre; ages = path-ages _ k; first = path-first _ k; years = path-in _ k }, k .rate-in)
 
 returns-2 : tie.Need-returns-2
 unfolding queryPath

@@ -1,5 +1,5 @@
--- `table_refusal` meets its contract: the three tests in their order, up to the first that fails.
-use mathlib.Core.Path.{_≡_, refl, sym, _∙_}
+-- `table_refusal` meets its contract: the four tests in their order, up to the first that fails.
+use mathlib.Core.Path.{_≡_, refl, ap, sym, _∙_}
 use mathlib.Core.Bool.{true}
 use Prim.Native.Nat.{ℕ, suc, _≤_}
 use native.Mathlib.Omega.{arith}
@@ -13,10 +13,11 @@ use Rattle.whole.specs.Bound.{bits, under-lit, under-add, under-pos, fits, back
 use Rattle.signed_ends.proofs.Signed.{sum}
 use Rattle.params.specs.Limits.{startYear}
 use Rattle.weights.specs.Weights.{lastClosed}
+use Rattle.annuity.specs.Annuity.{mostRate}
 use Rattle.kinds.specs.declared.Fold.{Fold}
-use Rattle.kinds.specs.declared.Fold.the-variants.{Death, Survival, Expectancy}
+use Rattle.kinds.specs.declared.Fold.the-variants.{Death, Survival, Expectancy, Annuity}
 use Rattle.kinds.specs.Kinds.{mostSpan}
-use Rattle.table_tests.specs.TableTests.{ageInTable, yearInTable, spanInTable, firstFailed, tableTests}
+use Rattle.table_tests.specs.TableTests.{between, ageInTable, yearInTable, spanInTable, rateInTable, firstFailed, tableTests}
 use Rattle.table_tests.specs.TableLaws.{within}
 use Rattle.table_tests.proofs.table_refusal.Statement.{statement}
 use Rattle.table_tests.proofs.table_refusal.Tie as tie
@@ -64,6 +65,7 @@ unfolding mostSpan
 span-small Death x = omega arith
 span-small Survival x = omega arith
 span-small Expectancy x = omega arith
+span-small (Annuity rate) x = omega arith
 
 abbrev start₃ : tie.After-most-span → tie.Start
 start₃ c = start₂ (c .before .before)
@@ -79,6 +81,16 @@ span-test c =
     let s = start₃ m in
     let a = age-in (m .before .before .before) in
     rw (toZ-ofZ (span-fits m), toZ-ofZ (s .fits .span), m .most-span .ensures, a .0) at (c .between3 .ensures)
+
+span-true : (c : tie.Else3) → let s = start₃ (c .before .before) in spanInTable (s .args .rule) (s .args .age) (s .args .span) ≡ true
+span-true c = sym (span-test (c .before)) ∙ not-false _ (c .if3 .left)
+
+rate-test : (c : tie.After-between4) → let s = start₃ (c .before .before .before .before) in
+    c .between4 .result ≡ rateInTable (s .args .rule)
+unfolding rateInTable
+rate-test c =
+    let r = c .before in
+    c .between4 .ensures ∙ ap (between (pos 0) (pos mostRate)) (toZ-ofZ (record { sfits = r .rate-of .ok }) ∙ r .rate-of .ensures)
 
 add-last : tie.Need-add-last
 add-last c = last-read (c .before .before) .0
@@ -130,13 +142,32 @@ returns-3 c =
     let e = sym (span-test b) ∙ not-true _ (c .if3 .taken) in
     rw (age-true (y .before .before), year-true y, e)
 
+cast-between-3 : tie.Need-cast-between-3
+cast-between-3 c = search needs
+
+rate-of-requires : tie.Need-rate-of-requires
+rate-of-requires c κs = search needs
+
+between-requires-4 : tie.Need-between-requires-4
+between-requires-4 c κs = search needs
+
 returns-4 : tie.Need-returns-4
 unfolding firstFailed tableTests
 returns-4 c =
     let b = c .before in
-    let y = b .before .before in
-    let e = sym (span-test b) ∙ not-false _ (c .if3 .left) in
-    rw (age-true (y .before .before), year-true y, e)
+    let p = b .before .before in
+    let y = p .before .before .before in
+    let e = sym (rate-test b) ∙ not-true _ (c .if4 .taken) in
+    rw (age-true (y .before .before), year-true y, span-true p, e)
+
+returns-5 : tie.Need-returns-5
+unfolding firstFailed tableTests
+returns-5 c =
+    let b = c .before in
+    let p = b .before .before in
+    let y = p .before .before .before in
+    let e = sym (rate-test b) ∙ not-false _ (c .if4 .left) in
+    rw (age-true (y .before .before), year-true y, span-true p, e)
 
 pub table-refusal-spec : {M : Type 1} → statement M
 table-refusal-spec =
@@ -154,4 +185,8 @@ table-refusal-spec =
     cast-between-2
     between-requires-3
     returns-3
-    returns-4)
+    cast-between-3
+    rate-of-requires
+    between-requires-4
+    returns-4
+    returns-5)

@@ -16,7 +16,7 @@ first c =
     rw (toZ-ofZ (f .age), toZ-ofZ (f .year), toZ-ofZ (f .span)) at (c .quote-of .ensures)
 
 second : (c : tie.After-quote-of2) → let s = c .before .before .before in
-    Promised (s .args .p2) (s .args .kind) (s .args .age2) (s .args .year2) (s .args .span2) (c .quote-of2 .result)
+    Promised (s .args .p2) (s .args .kind2) (s .args .age2) (s .args .year2) (s .args .span2) (c .quote-of2 .result)
 second c =
     let f = c .before .before .before .fits in
     rw (toZ-ofZ (f .age2), toZ-ofZ (f .year2), toZ-ofZ (f .span2)) at (c .quote-of2 .ensures)
@@ -73,14 +73,14 @@ returns-3 : tie.Need-returns-3
 returns-3 c =
     let k = c .before in
     let t = told (both k) in
-    equal-printed (first (asked t)) (second (t .before)) (sym (first-steps t) ∙ both k .before .first .given .1)
+    equal-printed (first (asked t)) (second (t .before)) (asked t .before .pre) (sym (first-steps t) ∙ both k .before .first .given .1)
     (sym (t .steps-of2 .ensures) ∙ k .before .second .given .1) (c .if1 .taken)
 
 returns-4 : tie.Need-returns-4
 returns-4 c =
     let k = c .before in
     let t = told (both k) in
-    different-printed (first (asked t)) (second (t .before)) (sym (first-steps t) ∙ both k .before .first .given .1)
+    different-printed (first (asked t)) (second (t .before)) (asked t .before .pre) (sym (first-steps t) ∙ both k .before .first .given .1)
     (sym (t .steps-of2 .ensures) ∙ k .before .second .given .1) (c .if1 .left)
 
 pub same-figures-spec : {M : Type 1} → statement M

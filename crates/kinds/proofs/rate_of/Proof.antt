@@ -1,0 +1,48 @@
+-- `rate_of` meets its contract, case by case.
+use borrow.Author.Needs.{needs}
+use mathlib.Core.Path.{sym, ap, _∙_}
+use mir.Facts.{toZ-ofZ}
+use Rattle.kinds.specs.Kinds.{rateOf}
+use Rattle.kinds.proofs.rate_of.Statement.{statement}
+use Rattle.kinds.proofs.rate_of.Tie as tie
+
+enum-told : tie.Need-enum-told
+enum-told c = search needs
+
+enum-told-2 : tie.Need-enum-told-2
+enum-told-2 c = search needs
+
+enum-told-3 : tie.Need-enum-told-3
+enum-told-3 c = search needs
+
+enum-known-fold : tie.Need-enum-known-fold
+enum-known-fold c = search needs
+
+returns : tie.Need-returns
+unfolding rateOf
+returns c = sym (ap rateOf (c .enum-told .given .1))
+
+returns-2 : tie.Need-returns-2
+unfolding rateOf
+returns-2 c = sym (ap rateOf (c .enum-told2 .given .1))
+
+returns-3 : tie.Need-returns-3
+unfolding rateOf
+returns-3 c = sym (ap rateOf (c .enum-told3 .given .1))
+
+returns-4 : tie.Need-returns-4
+unfolding rateOf
+returns-4 c = toZ-ofZ (record { sfits = c .known-told .given .0 .1 }) ∙ sym (ap rateOf (c .before .fold .given .1))
+
+pub rate-of-spec : {M : Type 1} → statement M
+rate-of-spec =
+    tie.close
+    (tie.spec
+    enum-told
+    enum-told-2
+    enum-told-3
+    enum-known-fold
+    returns
+    returns-2
+    returns-3
+    returns-4)

@@ -1,0 +1,11 @@
+-- What a contract says beside the definitions: a rate that the code may take as a whole number.
+use mathlib.Core.Path.{_≡_}
+use Prim.Native.Nat.{_≤_}
+use lib.IntN.{pos, natAbs}
+use Rattle.annuity.specs.Annuity.{mostRate}
+use Rattle.kinds.specs.declared.Fold.{Fold}
+use Rattle.kinds.specs.Kinds.{rateOf}
+
+pub record RateWithin (fold : Fold) : Type 0 where
+  pub is : pos (natAbs (rateOf fold)) ≡ rateOf fold
+  pub most : natAbs (rateOf fold) ≤ mostRate
