@@ -5,3 +5,4 @@ pub mod Demand
 pub mod AnswerLaws
 pub mod Tests
 pub mod Theorem
+pub mod NoInterest
