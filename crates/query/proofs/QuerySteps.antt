@@ -1,6 +1,7 @@
 -- A query line in the steps of the code: what is still to be read after each part.
 use mathlib.Core.Path.{_≡_, sym, ap, _∙_}
 use Prim.Native.Nat.{ℕ, _≤_, _<_}
+use mathlib.Core.Bool.{true, false}
 use mathlib.Core.List.{List, []}
 use lib.IntN.{ℤ}
 use lib.ListN.{length, drop, drop-of-length-le}
@@ -11,7 +12,7 @@ use Rattle.kinds.specs.declared.Kind.{Kind}
 use Rattle.query.specs.declared.Query.{Query}
 use Rattle.query.specs.declared.KindRead.{KindRead}
 use Rattle.query.specs.declared.KindRead.the-variants.{Torn, Of}
-use Rattle.query.specs.Query.{onOffer, readWord, readField, alone, readQuery}
+use Rattle.query.specs.Query.{onOffer, takesRate, withRate, readWord, readField, readRate, alone, readQuery}
 use Rattle.query.specs.Code.{kindRead}
 
 -- ---- what is still to be read
@@ -19,19 +20,22 @@ use Rattle.query.specs.Code.{kindRead}
 abbrev pub lineEnd : Query → List ℕ → Parse Query
 lineEnd q bs = andThen (takeText (bytesOf "\n") bs) (λ v rest. alone q rest)
 
+abbrev pub fromRate : Kind → ℤ → ℤ → ℤ → List ℕ → Parse Query
+fromRate word age year span bs =
+    andThen (readRate word bs)
+    (λ kind rest. lineEnd (record { kind = kind; age = age; year = year; span = span }) rest)
+
 abbrev pub fromSpan : Kind → ℤ → ℤ → List ℕ → Parse Query
-fromSpan kind age year bs =
-    andThen (readField (bytesOf " span=") bs)
-    (λ span rest. lineEnd (record { kind = kind; age = age; year = year; span = span }) rest)
+fromSpan word age year bs = andThen (readField (bytesOf " span=") bs) (λ span rest. fromRate word age year span rest)
 
 abbrev pub fromYear : Kind → ℤ → List ℕ → Parse Query
-fromYear kind age bs = andThen (readField (bytesOf " year=") bs) (λ year rest. fromSpan kind age year rest)
+fromYear word age bs = andThen (readField (bytesOf " year=") bs) (λ year rest. fromSpan word age year rest)
 
 abbrev pub fromAge : Kind → List ℕ → Parse Query
-fromAge kind bs = andThen (readField (bytesOf " age=") bs) (λ age rest. fromYear kind age rest)
+fromAge word bs = andThen (readField (bytesOf " age=") bs) (λ age rest. fromYear word age rest)
 
-abbrev pub fromKind : List ℕ → Parse Query
-fromKind bs = andThen (readWord onOffer bs) (λ kind rest. fromAge kind rest)
+abbrev pub fromWord : List ℕ → Parse Query
+fromWord bs = andThen (readWord onOffer bs) (λ word rest. fromAge word rest)
 
 -- ---- the start, and the end
 
@@ -40,7 +44,7 @@ unfolding readQuery
 start-torn line e = stops _ e
 
 pub start-taken : (line : List ℕ) {u : Unit} {rest : List ℕ} → takeText (bytesOf "kind=") line ≡ taken u rest
-    → readQuery line ≡ fromKind rest
+    → readQuery line ≡ fromWord rest
 unfolding readQuery
 start-taken line e = goes _ e
 
@@ -52,6 +56,24 @@ followed a line n h = rw (drop-cons line n 0 h)
 pub at-end : {A : Type 0} (a : A) (line : List ℕ) (n : ℕ) → length line ≤ n → alone a (drop n line) ≡ taken a []
 unfolding alone
 at-end a line n h = rw (drop-of-length-le line h)
+
+-- ---- a rate
+
+module _ (k : Kind) (bs : List ℕ) where
+  -- none is taken; it is torn; it is read
+  pub rate-none : takesRate k ≡ false → readRate k bs ≡ taken k bs
+  unfolding readRate
+  rate-none e = rw e
+
+  module _ (t : takesRate k ≡ true) where
+    pub rate-torn : readField (bytesOf " rate=") bs ≡ torn → readRate k bs ≡ torn
+    unfolding readRate
+    rate-torn e = rw t (stops _ e)
+
+    pub rate-taken : {rate : ℤ} {rest : List ℕ} → readField (bytesOf " rate=") bs ≡ taken rate rest
+        → readRate k bs ≡ taken (withRate k rate) rest
+    unfolding readRate
+    rate-taken e = rw t (goes _ e)
 
 -- ---- what a result of the code says was read of a kind
 

@@ -1,33 +1,40 @@
 -- A query and its line: the line of a query reads as the query, and what reads as a query is its line. So each query has
 -- one line, and each line one query. And how long a query's text is.
+use mathlib.Core.Bool.{Bool, true, false, cond}
 use mathlib.Core.Path.{_≡_, refl, _∙_}
 use Prim.Native.Nat.{ℕ, _+_, _^_, _≤_, _<_}
 use native.Mathlib.Omega.{arith}
 use mathlib.Core.List.{List, [], _∷_, _++_, append-assoc, append-nil}
-use lib.Dec.{T}
+use lib.Dec.{T, lit<}
 use lib.IntN.{ℤ, natAbs}
 use lib.ListN.{length, length-append}
+use Rattle.whole.specs.Clash.{clash}
 use Rattle.tokens.specs.Text.{bytesOf, Parse, torn, taken, takeText}
 use Rattle.tokens.specs.Number.{mostDigits, isDigit, numberText}
 use Rattle.tokens.specs.TextLaws.{takeText-split, takeText-whole}
 use Rattle.tokens.specs.DecimalLaws.{number-length}
-use Rattle.tokens.specs.Steps.{goes}
+use Rattle.tokens.specs.Steps.{andThen, goes}
 use Rattle.sheet.specs.NumberTrip.{noDigitFirst, torn-not-taken, number-reads, number-read}
 use Rattle.sheet.specs.SheetTrip.{then-taken}
 use Rattle.kinds.specs.declared.Kind.{Kind}
 use Rattle.kinds.specs.declared.Kind.the-variants.{Death, CohortSurvival, PeriodSurvival, CohortExpectancy, PeriodExpectancy}
+use Rattle.kinds.specs.declared.Kind.the-variants.{CohortAnnuity, PeriodAnnuity}
+use Rattle.kinds.specs.Kinds.{ruleOf, rateAside, rateOf}
 use Rattle.query.specs.declared.Query.{Query}
-use Rattle.query.specs.Query.{wordOf, onOffer, queryText, readWord, readField, alone, readQuery}
+use Rattle.query.specs.Query.{wordOf, onOffer, takesRate, withRate, kindRate, rateText, queryText}
+use Rattle.query.specs.Query.{readWord, readField, readRate, alone, readQuery}
 
 -- ---- a word
 
-word-reads : (k : Kind) (rest : List ℕ) → readWord onOffer (wordOf k ++ rest) ≡ taken k rest
-unfolding readWord onOffer wordOf bytesOf takeText
+word-reads : (k : Kind) (rest : List ℕ) → readWord onOffer (wordOf k ++ rest) ≡ taken (rateAside k) rest
+unfolding readWord onOffer wordOf bytesOf takeText rateAside
 word-reads Death rest = refl
 word-reads CohortSurvival rest = refl
 word-reads PeriodSurvival rest = refl
 word-reads CohortExpectancy rest = refl
 word-reads PeriodExpectancy rest = refl
+word-reads (CohortAnnuity rate) rest = refl
+word-reads (PeriodAnnuity rate) rest = refl
 
 word-read : (ks : List Kind) (bs : List ℕ) {k : Kind} {rest : List ℕ} → readWord ks bs ≡ taken k rest → bs ≡ wordOf k ++ rest
 unfolding readWord
@@ -50,6 +57,8 @@ word-length CohortSurvival = omega arith
 word-length PeriodSurvival = omega arith
 word-length CohortExpectancy = omega arith
 word-length PeriodExpectancy = omega arith
+word-length (CohortAnnuity rate) = omega arith
+word-length (PeriodAnnuity rate) = omega arith
 
 -- ---- a field
 
@@ -70,6 +79,89 @@ field-read name bs {v} {rest} e =
     let n = number-read after v rest r in
     record { is = rw (takeText-whole name bs q, n .is); small = n .small }
 
+-- ---- a rate
+
+rate-reads : (k : Kind) (rest : List ℕ) → natAbs (kindRate k) < 10 ^ mostDigits → T (noDigitFirst rest)
+    → readRate (rateAside k) (rateText k ++ rest) ≡ taken k rest
+unfolding readRate rateText rateAside takesRate withRate ruleOf rateOf
+rate-reads Death rest h t = refl
+rate-reads CohortSurvival rest h t = refl
+rate-reads PeriodSurvival rest h t = refl
+rate-reads CohortExpectancy rest h t = refl
+rate-reads PeriodExpectancy rest h t = refl
+rate-reads (CohortAnnuity rate) rest h t =
+    rw (append-assoc (bytesOf " rate=") (numberText rate) rest) (goes _ (field-reads (bytesOf " rate=") rate rest h t))
+rate-reads (PeriodAnnuity rate) rest h t =
+    rw (append-assoc (bytesOf " rate=") (numberText rate) rest) (goes _ (field-reads (bytesOf " rate=") rate rest h t))
+
+-- the bytes are the text of the kind's rate and the rest, and the kind's word is the word that was read
+record RateOf (word k : Kind) (bs rest : List ℕ) : Type 0 where
+  is : bs ≡ rateText k ++ rest
+  small : natAbs (kindRate k) < 10 ^ mostDigits
+  same : wordOf word ≡ wordOf k
+
+rated : (word : Kind) (rate : ℤ) (bs rest : List ℕ) → takesRate word ≡ true → FieldOf (bytesOf " rate=") rate bs rest
+    → RateOf word (withRate word rate) bs rest
+unfolding rateText takesRate withRate ruleOf rateOf wordOf
+rated Death rate bs rest e f = clash cc
+rated CohortSurvival rate bs rest e f = clash cc
+rated PeriodSurvival rate bs rest e f = clash cc
+rated CohortExpectancy rate bs rest e f = clash cc
+rated PeriodExpectancy rate bs rest e f = clash cc
+rated (CohortAnnuity old) rate bs rest e f =
+    record { is = f .is ∙ rw (append-assoc (bytesOf " rate=") (numberText rate) rest); small = f .small; same = refl }
+rated (PeriodAnnuity old) rate bs rest e f =
+    record { is = f .is ∙ rw (append-assoc (bytesOf " rate=") (numberText rate) rest); small = f .small; same = refl }
+
+unrated : (k : Kind) (bs : List ℕ) → takesRate k ≡ false → RateOf k k bs bs
+unfolding rateText takesRate ruleOf rateOf
+unrated Death bs e = record { is = refl; small = lit< tt; same = refl }
+unrated CohortSurvival bs e = record { is = refl; small = lit< tt; same = refl }
+unrated PeriodSurvival bs e = record { is = refl; small = lit< tt; same = refl }
+unrated CohortExpectancy bs e = record { is = refl; small = lit< tt; same = refl }
+unrated PeriodExpectancy bs e = record { is = refl; small = lit< tt; same = refl }
+unrated (CohortAnnuity rate) bs e = clash cc
+unrated (PeriodAnnuity rate) bs e = clash cc
+
+rate-read : (word : Kind) (bs : List ℕ) {k : Kind} {rest : List ℕ} → readRate word bs ≡ taken k rest → RateOf word k bs rest
+unfolding readRate
+rate-read word bs {k} {rest} e = go (takesRate word) refl e
+  where
+    go : (b : Bool) → takesRate word ≡ b
+        → cond b (andThen (readField (bytesOf " rate=") bs) (λ rate after. taken (withRate word rate) after)) (taken word bs)
+        ≡ taken k rest
+        → RateOf word k bs rest
+    go true t q =
+        then-taken (readField (bytesOf " rate=") bs) _ q λ rate after f g.
+        let x : withRate word rate ≡ k = cc in
+        let y : after ≡ rest = cc in
+        rw (← x, ← y) (rated word rate bs after t (field-read (bytesOf " rate=") bs f))
+    go false t q =
+        let x : word ≡ k = cc in
+        let y : bs ≡ rest = cc in
+        rw (← x, ← y) (unrated word bs t)
+
+-- no digit stands where a number before it ends
+rate-ends : (k : Kind) → T (noDigitFirst (rateText k ++ bytesOf "\n"))
+unfolding rateText takesRate bytesOf isDigit
+rate-ends Death = tt
+rate-ends CohortSurvival = tt
+rate-ends PeriodSurvival = tt
+rate-ends CohortExpectancy = tt
+rate-ends PeriodExpectancy = tt
+rate-ends (CohortAnnuity rate) = tt
+rate-ends (PeriodAnnuity rate) = tt
+
+rate-length : (k : Kind) → length (rateText k) ≤ 22
+unfolding rateText takesRate ruleOf rateOf bytesOf
+rate-length Death = omega arith
+rate-length CohortSurvival = omega arith
+rate-length PeriodSurvival = omega arith
+rate-length CohortExpectancy = omega arith
+rate-length PeriodExpectancy = omega arith
+rate-length (CohortAnnuity rate) = omega (arith, number-length rate)
+rate-length (PeriodAnnuity rate) = omega (arith, number-length rate)
+
 -- ---- a query
 
 -- the query's numbers have at most 15 digits
@@ -77,6 +169,7 @@ pub record Small (q : Query) : Type 0 where
   pub age : natAbs (q .age) < 10 ^ mostDigits
   pub year : natAbs (q .year) < 10 ^ mostDigits
   pub span : natAbs (q .span) < 10 ^ mostDigits
+  pub rate : natAbs (kindRate (q .kind)) < 10 ^ mostDigits
 
 -- the bytes are the query's line
 record LineOf (q : Query) (line : List ℕ) : Type 0 where
@@ -87,7 +180,8 @@ record LineOf (q : Query) (line : List ℕ) : Type 0 where
 query-apart : (q : Query) (rest : List ℕ)
     → queryText q ++ rest
     ≡ bytesOf "kind=" ++ (wordOf (q .kind) ++ (bytesOf " age=" ++ (numberText (q .age)
-    ++ (bytesOf " year=" ++ (numberText (q .year) ++ (bytesOf " span=" ++ (numberText (q .span) ++ rest)))))))
+    ++ (bytesOf " year=" ++ (numberText (q .year) ++ (bytesOf " span=" ++ (numberText (q .span)
+    ++ (rateText (q .kind) ++ rest))))))))
 unfolding queryText
 query-apart q rest = simp append-assoc
 
@@ -100,22 +194,24 @@ line-read : (line : List ℕ) {q : Query} {rest : List ℕ} → readQuery line �
 unfolding readQuery
 line-read line {q} e =
     then-taken (takeText (bytesOf "kind=") line) _ e λ u b₀ e₀ f₀.
-    then-taken (readWord onOffer b₀) _ f₀ λ kind b₁ e₁ f₁.
+    then-taken (readWord onOffer b₀) _ f₀ λ word b₁ e₁ f₁.
     then-taken (readField (bytesOf " age=") b₁) _ f₁ λ age b₂ e₂ f₂.
     then-taken (readField (bytesOf " year=") b₂) _ f₂ λ year b₃ e₃ f₃.
     then-taken (readField (bytesOf " span=") b₃) _ f₃ λ span b₄ e₄ f₄.
-    then-taken (takeText (bytesOf "\n") b₄) _ f₄ λ v b₅ e₅ f₅.
+    then-taken (readRate word b₄) _ f₄ λ kind b₅ e₅ f₅.
+    then-taken (takeText (bytesOf "\n") b₅) _ f₅ λ v b₆ e₆ f₆.
     let r : Query = record { kind = kind; age = age; year = year; span = span } in
-    let (none, same) = alone-taken r b₅ f₅ in
+    let (none, same) = alone-taken r b₆ f₆ in
     let a = field-read (bytesOf " age=") b₁ e₂ in
     let y = field-read (bytesOf " year=") b₂ e₃ in
     let s = field-read (bytesOf " span=") b₃ e₄ in
-    let l : b₄ ≡ bytesOf "\n" = takeText-whole (bytesOf "\n") b₄ e₅ ∙ rw (none, append-nil) in
+    let k = rate-read word b₄ e₅ in
+    let l : b₅ ≡ bytesOf "\n" = takeText-whole (bytesOf "\n") b₅ e₆ ∙ rw (none, append-nil) in
     rw (← same)
     (record {
       is = takeText-whole (bytesOf "kind=") line e₀
-          ∙ rw (word-read onOffer b₀ e₁, a .is, y .is, s .is, l, query-apart r (bytesOf "\n"));
-      small = record { age = a .small; year = y .small; span = s .small };
+          ∙ rw (word-read onOffer b₀ e₁, k .same, a .is, y .is, s .is, k .is, l, query-apart r (bytesOf "\n"));
+      small = record { age = a .small; year = y .small; span = s .small; rate = k .small };
     })
 
 -- what reads as a query is its text and a line feed
@@ -131,7 +227,8 @@ query-small line e = line-read line e .small
 pub query-reads : (q : Query) → Small q → readQuery (queryText q ++ bytesOf "\n") ≡ taken q []
 unfolding readQuery alone bytesOf isDigit
 query-reads q h =
-    let s = bytesOf " span=" ++ (numberText (q .span) ++ bytesOf "\n") in
+    let r = rateText (q .kind) ++ bytesOf "\n" in
+    let s = bytesOf " span=" ++ (numberText (q .span) ++ r) in
     let y = bytesOf " year=" ++ (numberText (q .year) ++ s) in
     let a = bytesOf " age=" ++ (numberText (q .age) ++ y) in
     rw (query-apart q (bytesOf "\n"))
@@ -139,20 +236,21 @@ query-reads q h =
     ∙ goes _ (word-reads (q .kind) a)
     ∙ goes _ (field-reads (bytesOf " age=") (q .age) y (h .age) tt)
     ∙ goes _ (field-reads (bytesOf " year=") (q .year) s (h .year) tt)
-    ∙ goes _ (field-reads (bytesOf " span=") (q .span) (bytesOf "\n") (h .span) tt)
+    ∙ goes _ (field-reads (bytesOf " span=") (q .span) r (h .span) (rate-ends (q .kind)))
+    ∙ goes _ (rate-reads (q .kind) (bytesOf "\n") (h .rate) tt)
     ∙ goes _ (takeText-split (bytesOf "\n") []))
 
 -- ---- lengths
 
--- 22 bytes besides the word and the numbers
+-- 22 bytes besides the word, the numbers and the rate's text
 query-length : (q : Query)
     → length (queryText q)
     ≡ 22 + length (wordOf (q .kind)) + length (numberText (q .age)) + length (numberText (q .year))
-    + length (numberText (q .span))
+    + length (numberText (q .span)) + length (rateText (q .kind))
 unfolding queryText bytesOf
 query-length q = simp length-append (omega arith)
 
-query-between : (q : Query) → (26 ≤ length (queryText q)) × (length (queryText q) ≤ 74)
+query-between : (q : Query) → (26 ≤ length (queryText q)) × (length (queryText q) ≤ 96)
 query-between q =
     omega (
       arith,
@@ -161,11 +259,12 @@ query-between q =
       number-length (q .age),
       number-length (q .year),
       number-length (q .span),
+      rate-length (q .kind),
     )
 
--- at least 26 bytes, and at most 74
+-- at least 26 bytes, and at most 96
 pub query-least : (q : Query) → 26 ≤ length (queryText q)
 query-least q = query-between q .0
 
-pub query-most : (q : Query) → length (queryText q) ≤ 74
+pub query-most : (q : Query) → length (queryText q) ≤ 96
 query-most q = query-between q .1

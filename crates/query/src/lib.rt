@@ -1,8 +1,8 @@
-// A query line, `kind=… age=… year=… span=…` and a line feed, read from its bytes.
+// A query line, `kind=… age=… year=… span=…`, an annuity's with ` rate=…`, and a line feed, read from its bytes.
 ghost use mathlib.Core.Path.{_≡_};
 ghost use lib.ListN.{drop};
 ghost use Rattle.tokens.specs.Places.{numberRead};
-ghost use Rattle.query.specs.Query.{onOffer, readWord, readField, readQuery};
+ghost use Rattle.query.specs.Query.{takesRate, withRate, onOffer, readWord, readField, readRate, readQuery};
 ghost use Rattle.query.specs.Code.{kindRead, queryRead};
 use kinds::Kind;
 use tokens::NumberRead;
@@ -27,7 +27,37 @@ pub enum QueryRead {
     Of(Query),
 }
 
-// The kind whose word stands at a place.
+// Whether a kind takes a rate.
+pub fn takes_rate(kind: Kind) -> bool
+    ensures { λ r. ⌜ r ≡ takesRate kind ⌝ }
+{
+    match kind {
+        Kind::Death => false,
+        Kind::CohortSurvival => false,
+        Kind::PeriodSurvival => false,
+        Kind::CohortExpectancy => false,
+        Kind::PeriodExpectancy => false,
+        Kind::CohortAnnuity(_) => true,
+        Kind::PeriodAnnuity(_) => true,
+    }
+}
+
+// The kind with another rate, where it takes one.
+pub fn with_rate(kind: Kind, rate: i64) -> Kind
+    ensures { λ r. ⌜ r ≡ withRate kind rate ⌝ }
+{
+    match kind {
+        Kind::Death => Kind::Death,
+        Kind::CohortSurvival => Kind::CohortSurvival,
+        Kind::PeriodSurvival => Kind::PeriodSurvival,
+        Kind::CohortExpectancy => Kind::CohortExpectancy,
+        Kind::PeriodExpectancy => Kind::PeriodExpectancy,
+        Kind::CohortAnnuity(_) => Kind::CohortAnnuity(rate),
+        Kind::PeriodAnnuity(_) => Kind::PeriodAnnuity(rate),
+    }
+}
+
+// The kind whose word stands at a place, rates aside.
 pub fn kind_at(bytes: &[u8], at: usize) -> KindRead
     ensures { λ r. ⌜ kindRead (now (bytes .entry)) r ≡ readWord onOffer (drop at (now (bytes .entry))) ⌝ }
 {
@@ -46,6 +76,12 @@ pub fn kind_at(bytes: &[u8], at: usize) -> KindRead
     if tokens::text_at(bytes, at, b"eper") {
         return KindRead::Of(Kind::PeriodExpectancy, at + 4);
     }
+    if tokens::text_at(bytes, at, b"acoh") {
+        return KindRead::Of(Kind::CohortAnnuity(0), at + 4);
+    }
+    if tokens::text_at(bytes, at, b"aper") {
+        return KindRead::Of(Kind::PeriodAnnuity(0), at + 4);
+    }
     KindRead::Torn
 }
 
@@ -60,6 +96,19 @@ fn field_at(bytes: &[u8], at: usize, name: &[u8]) -> NumberRead
     numbers::number_at(bytes, at + name.len())
 }
 
+// The kind with the rate that stands at a place, where it takes one.
+fn rate_at(bytes: &[u8], at: usize, kind: Kind) -> KindRead
+    ensures { λ r. ⌜ kindRead (now (bytes .entry)) r ≡ readRate kind (drop at (now (bytes .entry))) ⌝ }
+{
+    if !takes_rate(kind) {
+        return KindRead::Of(kind, at);
+    }
+    let NumberRead::Number(rate, next) = field_at(bytes, at, b" rate=") else {
+        return KindRead::Torn;
+    };
+    KindRead::Of(with_rate(kind, rate), next)
+}
+
 // The query of a line.
 pub fn query_of(line: &[u8]) -> QueryRead
     ensures { λ r. ⌜ queryRead r ≡ readQuery (now (line .entry)) ⌝ }
@@ -67,10 +116,10 @@ pub fn query_of(line: &[u8]) -> QueryRead
     if !tokens::text_at(line, 0, b"kind=") {
         return QueryRead::Torn;
     }
-    let KindRead::Of(kind, after_kind) = kind_at(line, 5) else {
+    let KindRead::Of(word, after_word) = kind_at(line, 5) else {
         return QueryRead::Torn;
     };
-    let NumberRead::Number(age, after_age) = field_at(line, after_kind, b" age=") else {
+    let NumberRead::Number(age, after_age) = field_at(line, after_word, b" age=") else {
         return QueryRead::Torn;
     };
     let NumberRead::Number(year, after_year) = field_at(line, after_age, b" year=") else {
@@ -79,10 +128,13 @@ pub fn query_of(line: &[u8]) -> QueryRead
     let NumberRead::Number(span, after_span) = field_at(line, after_year, b" span=") else {
         return QueryRead::Torn;
     };
-    if !tokens::text_at(line, after_span, b"\n") {
+    let KindRead::Of(kind, after_rate) = rate_at(line, after_span, word) else {
+        return QueryRead::Torn;
+    };
+    if !tokens::text_at(line, after_rate, b"\n") {
         return QueryRead::Torn;
     }
-    if after_span + 1 < line.len() {
+    if after_rate + 1 < line.len() {
         return QueryRead::Torn;
     }
     QueryRead::Of(Query {

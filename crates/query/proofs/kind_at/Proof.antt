@@ -4,10 +4,12 @@ use borrow.Author.Needs.{needs}
 use mathlib.Core.Path.{_≡_, sym, _∙_}
 use Prim.Native.Nat.{ℕ}
 use native.Mathlib.Omega.{arith}
+use lib.IntN.{pos}
 use lib.ListN.{drop}
 use Rattle.tokens.specs.Text.{bytesOf}
 use Rattle.tokens.specs.TextLaws.{text-room}
 use Rattle.kinds.specs.declared.Kind.the-variants.{Death, CohortSurvival, PeriodSurvival, CohortExpectancy, PeriodExpectancy}
+use Rattle.kinds.specs.declared.Kind.the-variants.{CohortAnnuity, PeriodAnnuity}
 use Rattle.query.specs.Query.{wordOf, onOffer, readWord}
 use Rattle.query.proofs.WordSteps.{word-found, word-missing}
 use Rattle.query.proofs.kind_at.Statement.{statement}
@@ -29,6 +31,12 @@ start₄ c = start₃ (c .before .before .before)
 
 abbrev start₅ : tie.After-text-at5 → tie.Start
 start₅ c = start₄ (c .before .before .before)
+
+abbrev start₆ : tie.After-text-at6 → tie.Start
+start₆ c = start₅ (c .before .before .before)
+
+abbrev start₇ : tie.After-text-at7 → tie.Start
+start₇ c = start₆ (c .before .before .before)
 
 -- ---- the words that are left after the first n
 
@@ -64,6 +72,18 @@ left₅ c =
     left₄ (c .before .before .before)
     ∙ word-missing _ _ PeriodExpectancy _ (c .before .text-at5 .ensures) (c .if5 .left)
 
+left₆ : (c : tie.Else6) → Left 6 (start₆ (c .before))
+unfolding onOffer wordOf bytesOf
+left₆ c =
+    left₅ (c .before .before .before)
+    ∙ word-missing _ _ (CohortAnnuity (pos 0)) _ (c .before .text-at6 .ensures) (c .if6 .left)
+
+left₇ : (c : tie.Else7) → Left 7 (start₇ (c .before))
+unfolding onOffer wordOf bytesOf
+left₇ c =
+    left₆ (c .before .before .before)
+    ∙ word-missing _ _ (PeriodAnnuity (pos 0)) _ (c .before .text-at7 .ensures) (c .if7 .left)
+
 -- ---- the needs
 
 slice-aggregate-text-at : tie.Need-slice-aggregate-text-at
@@ -72,8 +92,8 @@ slice-aggregate-text-at c = search needs
 text-at-requires : tie.Need-text-at-requires
 text-at-requires c κs = search needs
 
-add-t12 : tie.Need-add-t12
-add-t12 c = omega (arith, text-room _ _ _ (sym (c .before .text-at .ensures) ∙ c .if1 .taken))
+add-t14 : tie.Need-add-t14
+add-t14 c = omega (arith, text-room _ _ _ (sym (c .before .text-at .ensures) ∙ c .if1 .taken))
 
 returns : tie.Need-returns
 unfolding onOffer wordOf bytesOf
@@ -85,8 +105,8 @@ slice-aggregate-text-at-2 c = search needs
 text-at-requires-2 : tie.Need-text-at-requires-2
 text-at-requires-2 c κs = search needs
 
-add-t17 : tie.Need-add-t17
-add-t17 c = omega (arith, text-room _ _ _ (sym (c .before .text-at2 .ensures) ∙ c .if2 .taken))
+add-t19 : tie.Need-add-t19
+add-t19 c = omega (arith, text-room _ _ _ (sym (c .before .text-at2 .ensures) ∙ c .if2 .taken))
 
 returns-2 : tie.Need-returns-2
 unfolding onOffer wordOf bytesOf
@@ -101,8 +121,8 @@ slice-aggregate-text-at-3 c = search needs
 text-at-requires-3 : tie.Need-text-at-requires-3
 text-at-requires-3 c κs = search needs
 
-add-t22 : tie.Need-add-t22
-add-t22 c = omega (arith, text-room _ _ _ (sym (c .before .text-at3 .ensures) ∙ c .if3 .taken))
+add-t24 : tie.Need-add-t24
+add-t24 c = omega (arith, text-room _ _ _ (sym (c .before .text-at3 .ensures) ∙ c .if3 .taken))
 
 returns-3 : tie.Need-returns-3
 unfolding onOffer wordOf bytesOf
@@ -117,8 +137,8 @@ slice-aggregate-text-at-4 c = search needs
 text-at-requires-4 : tie.Need-text-at-requires-4
 text-at-requires-4 c κs = search needs
 
-add-t27 : tie.Need-add-t27
-add-t27 c = omega (arith, text-room _ _ _ (sym (c .before .text-at4 .ensures) ∙ c .if4 .taken))
+add-t29 : tie.Need-add-t29
+add-t29 c = omega (arith, text-room _ _ _ (sym (c .before .text-at4 .ensures) ∙ c .if4 .taken))
 
 returns-4 : tie.Need-returns-4
 unfolding onOffer wordOf bytesOf
@@ -133,8 +153,8 @@ slice-aggregate-text-at-5 c = search needs
 text-at-requires-5 : tie.Need-text-at-requires-5
 text-at-requires-5 c κs = search needs
 
-add-t32 : tie.Need-add-t32
-add-t32 c = omega (arith, text-room _ _ _ (sym (c .before .text-at5 .ensures) ∙ c .if5 .taken))
+add-t34 : tie.Need-add-t34
+add-t34 c = omega (arith, text-room _ _ _ (sym (c .before .text-at5 .ensures) ∙ c .if5 .taken))
 
 returns-5 : tie.Need-returns-5
 unfolding onOffer wordOf bytesOf
@@ -143,9 +163,41 @@ returns-5 c =
     (left₄ (c .before .before .before)
     ∙ word-found _ _ PeriodExpectancy _ (c .before .text-at5 .ensures) (c .if5 .taken))
 
+slice-aggregate-text-at-6 : tie.Need-slice-aggregate-text-at-6
+slice-aggregate-text-at-6 c = search needs
+
+text-at-requires-6 : tie.Need-text-at-requires-6
+text-at-requires-6 c κs = search needs
+
+add-t39 : tie.Need-add-t39
+add-t39 c = omega (arith, text-room _ _ _ (sym (c .before .text-at6 .ensures) ∙ c .if6 .taken))
+
 returns-6 : tie.Need-returns-6
+unfolding onOffer wordOf bytesOf
+returns-6 c =
+    sym
+    (left₅ (c .before .before .before)
+    ∙ word-found _ _ (CohortAnnuity (pos 0)) _ (c .before .text-at6 .ensures) (c .if6 .taken))
+
+slice-aggregate-text-at-7 : tie.Need-slice-aggregate-text-at-7
+slice-aggregate-text-at-7 c = search needs
+
+text-at-requires-7 : tie.Need-text-at-requires-7
+text-at-requires-7 c κs = search needs
+
+add-t44 : tie.Need-add-t44
+add-t44 c = omega (arith, text-room _ _ _ (sym (c .before .text-at7 .ensures) ∙ c .if7 .taken))
+
+returns-7 : tie.Need-returns-7
+unfolding onOffer wordOf bytesOf
+returns-7 c =
+    sym
+    (left₆ (c .before .before .before)
+    ∙ word-found _ _ (PeriodAnnuity (pos 0)) _ (c .before .text-at7 .ensures) (c .if7 .taken))
+
+returns-8 : tie.Need-returns-8
 unfolding onOffer readWord
-returns-6 c = sym (left₅ c)
+returns-8 c = sym (left₇ c)
 
 pub kind-at-spec : {M : Type 1} → statement M
 kind-at-spec =
@@ -153,22 +205,30 @@ kind-at-spec =
     (tie.spec
     slice-aggregate-text-at
     text-at-requires
-    add-t12
+    add-t14
     returns
     slice-aggregate-text-at-2
     text-at-requires-2
-    add-t17
+    add-t19
     returns-2
     slice-aggregate-text-at-3
     text-at-requires-3
-    add-t22
+    add-t24
     returns-3
     slice-aggregate-text-at-4
     text-at-requires-4
-    add-t27
+    add-t29
     returns-4
     slice-aggregate-text-at-5
     text-at-requires-5
-    add-t32
+    add-t34
     returns-5
-    returns-6)
+    slice-aggregate-text-at-6
+    text-at-requires-6
+    add-t39
+    returns-6
+    slice-aggregate-text-at-7
+    text-at-requires-7
+    add-t44
+    returns-7
+    returns-8)

@@ -12,7 +12,7 @@ use Rattle.tokens.specs.ReadLaws.{lacks, has, held, read-torn, read-taken}
 use Rattle.tokens.specs.Steps.{goes, stops}
 use Rattle.query.specs.declared.Query.{Query}
 use Rattle.query.specs.Query.{alone, readQuery}
-use Rattle.query.proofs.QuerySteps.{lineEnd, fromSpan, fromYear, fromAge, fromKind}
+use Rattle.query.proofs.QuerySteps.{lineEnd, fromRate, fromSpan, fromYear, fromAge, fromWord}
 use Rattle.query.proofs.QuerySteps.{start-torn, start-taken, followed, at-end, kind-torn, kind-taken}
 use Rattle.query.proofs.query_of.Statement.{statement}
 use Rattle.query.proofs.query_of.Tie as tie
@@ -37,68 +37,83 @@ told₂ c = c .before .before .before .before .before
 abbrev told₃ : tie.After-known-told4 → tie.After-known-told3
 told₃ c = c .before .before .before .before .before
 
-abbrev told₄ : tie.After-text-at2 → tie.After-known-told4
-told₄ c = c .before .before
+abbrev told₄ : tie.After-known-told5 → tie.After-known-told4
+told₄ c = c .before .before .before .before
+
+abbrev told₅ : tie.After-text-at2 → tie.After-known-told5
+told₅ c = c .before .before
 
 -- the start and the end of the line, seen from its end
 abbrev first : tie.Else2 → tie.Else1
-first c = start (told (told₂ (told₃ (told₄ (c .before)))))
+first c = start (told (told₂ (told₃ (told₄ (told₅ (c .before))))))
 
 abbrev end : tie.Else2 → ℕ
-end c = told₄ (c .before) .before .span .given .0 .1 .0 + 1
+end c = told₅ (c .before) .before .kind .given .0 .1 .0 + 1
 
 -- the query that was read
-asked : tie.After-known-told4 → Query
+asked : tie.After-known-told5 → Query
 asked c =
-    let c₃ = told₃ c in
+    let c₄ = told₄ c in
+    let c₃ = told₃ c₄ in
     let c₂ = told₂ c₃ in
     record {
-      kind = told c₂ .before .kind .given .0 .0;
+      kind = c .before .kind .given .0 .0;
       age = c₂ .before .age .given .0 .0;
       year = c₃ .before .year .given .0 .0;
-      span = c .before .span .given .0 .0;
+      span = c₄ .before .span .given .0 .0;
     }
 
 -- ---- what each part leaves to be read
 
-after-start : (c : tie.Else1) → let l = line c in readQuery l ≡ fromKind (drop 5 l)
+after-start : (c : tie.Else1) → let l = line c in readQuery l ≡ fromWord (drop 5 l)
 unfolding bytesOf
 after-start c = start-taken _ (text-found _ 0 (bytesOf "kind=") (has (c .before .text-at .ensures) (c .if1 .left)))
 
-after-kind : (c : tie.After-known-told) → let l = line (start c) in let g = c .before .kind .given .0 in
+after-word : (c : tie.After-known-told) → let l = line (start c) in let g = c .before .word .given .0 in
     readQuery l ≡ fromAge (g .0) (drop (g .1 .0) l)
-after-kind c =
+after-word c =
     after-start (start c)
-    ∙ goes _ (kind-taken _ (c .before .before .before .kind-at .ensures) (c .before .kind .given .1))
+    ∙ goes _ (kind-taken _ (c .before .before .before .kind-at .ensures) (c .before .word .given .1))
 
 after-age : (c : tie.After-known-told2) → let c₁ = told c in let l = line (start c₁) in
     let g = c .before .age .given .0 in
-    readQuery l ≡ fromYear (c₁ .before .kind .given .0 .0) (g .0) (drop (g .1 .0) l)
+    readQuery l ≡ fromYear (c₁ .before .word .given .0 .0) (g .0) (drop (g .1 .0) l)
 unfolding bytesOf
 after-age c =
-    after-kind (told c)
+    after-word (told c)
     ∙ goes _ (read-taken _ (c .before .before .before .field-at .ensures) (c .before .age .given .1))
 
 after-year : (c : tie.After-known-told3) → let c₂ = told₂ c in let c₁ = told c₂ in let l = line (start c₁) in
     let g = c .before .year .given .0 in
-    readQuery l ≡ fromSpan (c₁ .before .kind .given .0 .0) (c₂ .before .age .given .0 .0) (g .0) (drop (g .1 .0) l)
+    readQuery l ≡ fromSpan (c₁ .before .word .given .0 .0) (c₂ .before .age .given .0 .0) (g .0) (drop (g .1 .0) l)
 unfolding bytesOf
 after-year c =
     after-age (told₂ c)
     ∙ goes _ (read-taken _ (c .before .before .before .field-at2 .ensures) (c .before .year .given .1))
 
-after-span : (c : tie.After-known-told4) → let l = line (start (told (told₂ (told₃ c)))) in
-    readQuery l ≡ lineEnd (asked c) (drop (c .before .span .given .0 .1 .0) l)
-unfolding asked bytesOf
+after-span : (c : tie.After-known-told4) → let c₃ = told₃ c in let c₂ = told₂ c₃ in let c₁ = told c₂ in
+    let l = line (start c₁) in
+    let g = c .before .span .given .0 in
+    readQuery l
+    ≡ fromRate (c₁ .before .word .given .0 .0) (c₂ .before .age .given .0 .0) (c₃ .before .year .given .0 .0) (g .0)
+    (drop (g .1 .0) l)
+unfolding bytesOf
 after-span c =
     after-year (told₃ c)
     ∙ goes _ (read-taken _ (c .before .before .before .field-at3 .ensures) (c .before .span .given .1))
 
+after-rate : (c : tie.After-known-told5) → let l = line (start (told (told₂ (told₃ (told₄ c))))) in
+    readQuery l ≡ lineEnd (asked c) (drop (c .before .kind .given .0 .1 .0) l)
+unfolding asked bytesOf
+after-rate c =
+    after-span (told₄ c)
+    ∙ goes _ (kind-taken _ (c .before .before .before .rate-at .ensures) (c .before .kind .given .1))
+
 after-end : (c : tie.Else2)
-    → readQuery (line (first c)) ≡ alone (asked (told₄ (c .before))) (drop (end c) (line (first c)))
+    → readQuery (line (first c)) ≡ alone (asked (told₅ (c .before))) (drop (end c) (line (first c)))
 unfolding bytesOf
 after-end c =
-    after-span (told₄ (c .before))
+    after-rate (told₅ (c .before))
     ∙ goes _ (text-found _ _ (bytesOf "\n") (has (c .before .text-at2 .ensures) (c .if2 .left)))
 
 -- ---- the needs
@@ -116,8 +131,8 @@ returns c = sym (start-torn _ (text-missing _ 0 (bytesOf "kind=") (lacks (c .bef
 kind-at-requires : tie.Need-kind-at-requires
 kind-at-requires c κs = search needs
 
-enum-known-kind : tie.Need-enum-known-kind
-enum-known-kind c = search needs
+enum-known-word : tie.Need-enum-known-word
+enum-known-word c = search needs
 
 enum-told : tie.Need-enum-told
 enum-told c = search needs
@@ -143,7 +158,7 @@ returns-3 : tie.Need-returns-3
 unfolding bytesOf
 returns-3 c =
     let f = c .before .before in
-    sym (after-kind (f .before .before) ∙ stops _ (read-torn _ (f .field-at .ensures) (c .enum-told2 .given .1)))
+    sym (after-word (f .before .before) ∙ stops _ (read-torn _ (f .field-at .ensures) (c .enum-told2 .given .1)))
 
 slice-aggregate-field-at-2 : tie.Need-slice-aggregate-field-at-2
 slice-aggregate-field-at-2 c = search needs
@@ -181,30 +196,44 @@ returns-5 c =
     let f = c .before .before in
     sym (after-year (f .before .before) ∙ stops _ (read-torn _ (f .field-at3 .ensures) (c .enum-told4 .given .1)))
 
+rate-at-requires : tie.Need-rate-at-requires
+rate-at-requires c κs = search needs
+
+enum-known-kind : tie.Need-enum-known-kind
+enum-known-kind c = search needs
+
+enum-told-5 : tie.Need-enum-told-5
+enum-told-5 c = search needs
+
+returns-6 : tie.Need-returns-6
+returns-6 c =
+    let k = c .before .before in
+    sym (after-span (k .before) ∙ stops _ (kind-torn _ (k .rate-at .ensures) (c .enum-told5 .given .1)))
+
 slice-aggregate-text-at-2 : tie.Need-slice-aggregate-text-at-2
 slice-aggregate-text-at-2 c = search needs
 
 text-at-requires-2 : tie.Need-text-at-requires-2
 text-at-requires-2 c κs = search needs
 
-returns-6 : tie.Need-returns-6
+returns-7 : tie.Need-returns-7
 unfolding bytesOf
-returns-6 c =
+returns-7 c =
     sym
-    (after-span (told₄ (c .before))
+    (after-rate (told₅ (c .before))
     ∙ stops _ (text-missing _ _ (bytesOf "\n") (lacks (c .before .text-at2 .ensures) (c .if2 .taken))))
 
 add-if3 : tie.Need-add-if3
 add-if3 c =
     omega (arith, entry (first c) .good .0, text-room _ _ _ (has (c .before .text-at2 .ensures) (c .if2 .left)))
 
-returns-7 : tie.Need-returns-7
-returns-7 c = sym (after-end (c .before) ∙ followed _ (line (first (c .before))) (end (c .before)) (omega arith))
-
 returns-8 : tie.Need-returns-8
+returns-8 c = sym (after-end (c .before) ∙ followed _ (line (first (c .before))) (end (c .before)) (omega arith))
+
+returns-9 : tie.Need-returns-9
 unfolding asked
-returns-8 c =
-    let c₄ = told₄ (c .before .before) in
+returns-9 c =
+    let c₄ = told₄ (told₅ (c .before .before)) in
     let c₃ = told₃ c₄ in
     let c₂ = told₂ c₃ in
     rw (
@@ -222,7 +251,7 @@ query-of-spec =
     text-at-requires
     returns
     kind-at-requires
-    enum-known-kind
+    enum-known-word
     enum-told
     returns-2
     slice-aggregate-field-at
@@ -240,9 +269,13 @@ query-of-spec =
     enum-known-span
     enum-told-4
     returns-5
+    rate-at-requires
+    enum-known-kind
+    enum-told-5
+    returns-6
     slice-aggregate-text-at-2
     text-at-requires-2
-    returns-6
-    add-if3
     returns-7
-    returns-8)
+    add-if3
+    returns-8
+    returns-9)

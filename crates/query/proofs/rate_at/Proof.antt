@@ -1,0 +1,68 @@
+-- `rate_at` meets its contract: the kind takes no rate, or the rate is torn, or the kind has the rate that was read.
+use borrow.Author.Needs.{needs}
+use mathlib.Core.Path.{sym, ap, _∙_}
+use lib.ListN.{drop}
+use Rattle.tokens.specs.Text.{bytesOf, taken}
+use Rattle.tokens.specs.ReadLaws.{lacks, has, held, read-torn, read-taken}
+use Rattle.kinds.specs.declared.Kind.{Kind}
+use Rattle.query.specs.Query.{withRate}
+use Rattle.query.proofs.QuerySteps.{rate-none, rate-torn, rate-taken}
+use Rattle.query.proofs.rate_at.Statement.{statement}
+use Rattle.query.proofs.rate_at.Tie as tie
+
+takes-rate-requires : tie.Need-takes-rate-requires
+takes-rate-requires c κs = search needs
+
+returns : tie.Need-returns
+returns c = sym (rate-none _ _ (lacks (c .before .takes-rate .ensures) (c .if1 .taken)))
+
+slice-aggregate-field-at : tie.Need-slice-aggregate-field-at
+slice-aggregate-field-at c = search needs
+
+field-at-requires : tie.Need-field-at-requires
+field-at-requires c κs = search needs
+
+enum-known-rate : tie.Need-enum-known-rate
+enum-known-rate c = search needs
+
+enum-told : tie.Need-enum-told
+enum-told c = search needs
+
+returns-2 : tie.Need-returns-2
+unfolding bytesOf
+returns-2 c =
+    let f = c .before .before in
+    let t = f .before .before in
+    sym
+    (rate-torn _ _ (has (t .before .takes-rate .ensures) (t .if1 .left))
+    (read-torn _ (f .field-at .ensures) (c .enum-told .given .1)))
+
+with-rate-requires : tie.Need-with-rate-requires
+with-rate-requires c κs = search needs
+
+returns-3 : tie.Need-returns-3
+unfolding bytesOf
+returns-3 c =
+    let r = c .before .before in
+    let f = r .before .before in
+    let t = f .before .before in
+    let e = held (r .rate .given .0 .0) (c .before .known-told .given .0 .1) in
+    ap (λ (k : Kind). taken k (drop (r .rate .given .0 .1 .0) (t .before .before .before .args .bytes .now)))
+    (c .with-rate .ensures ∙ ap (withRate (t .before .before .before .args .kind)) e)
+    ∙ sym
+    (rate-taken _ _ (has (t .before .takes-rate .ensures) (t .if1 .left))
+    (read-taken _ (f .field-at .ensures) (r .rate .given .1)))
+
+pub rate-at-spec : {M : Type 1} → statement M
+rate-at-spec =
+    tie.close
+    (tie.spec
+    takes-rate-requires
+    returns
+    slice-aggregate-field-at
+    field-at-requires
+    enum-known-rate
+    enum-told
+    returns-2
+    with-rate-requires
+    returns-3)
