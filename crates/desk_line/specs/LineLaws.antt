@@ -10,7 +10,7 @@ use Rattle.tokens.specs.Text.{bytesOf, Parse, torn, taken}
 use Rattle.params.specs.declared.Params.{Params}
 use Rattle.params.specs.declared.Refusal.the-variants.{Torn}
 use Rattle.kinds.specs.declared.Fold.{Fold}
-use Rattle.kinds.specs.declared.Fold.the-variants.{Death, Survival, Expectancy}
+use Rattle.kinds.specs.declared.Fold.the-variants.{Death, Survival, Expectancy, Annuity}
 use Rattle.kinds.specs.Kinds.{ruleOf, decimalsOf}
 use Rattle.path_quotes.specs.declared.Answer.{Answer}
 use Rattle.query.specs.declared.Query.{Query}
@@ -55,6 +55,7 @@ unfolding decimalsOf
 decimals-most Death = omega arith
 decimals-most Survival = omega arith
 decimals-most Expectancy = omega arith
+decimals-most (Annuity rate) = omega arith
 
 query-line-length : (ends : Bool) (q : Query) (a : Answer) → length (queryLine ends q a) ≤ length (queryText q) + (answerBytes + 5)
 unfolding queryLine
