@@ -1,4 +1,5 @@
-"""The whole run of the rate desk's programs, from input bytes to output bytes, written from paper 01, "The quote program".
+"""The whole run of the rate desk's programs, from input bytes to output bytes, written from paper 01, "The quote program",
+and for annuities from paper 02.
 
 `quotes` echoes a query with its figure, `ends` with its two ends ahead of the figure. `compare` reads two sheets and echoes a
 query with the figure of each and what the two pairs of ends tell of the two values.
@@ -6,12 +7,19 @@ query with the figure of each and what the two pairs of ends tell of the two val
 import functools
 import re
 
-from quotes import EXPECTANCIES, KINDS, OPEN, Quotes, figure
+from quotes import ANNUITIES, OPEN, TENTHS, UNRATED, Quotes, figure
 from reader import LONGEST, NUMBER, TORN, params_of, read
 
 SHEET_LINES = 370
-KIND = "|".join(KINDS).encode()
-QUERY = re.compile(rb"kind=(%b) age=(%b) year=(%b) span=(%b)\n" % (KIND, *[NUMBER.pattern] * 3))
+
+
+def form(kinds, *keys):
+    """The lines of some kinds, with the keys of their numbers."""
+    numbers = b"".join(b" %b=(%b)" % (key, NUMBER.pattern) for key in keys)
+    return re.compile(b"kind=(%b)%b\n" % ("|".join(kinds).encode(), numbers))
+
+
+FORMS = form(UNRATED, b"age", b"year", b"span"), form(ANNUITIES, b"age", b"year", b"span", b"rate")
 
 
 def lines_in(data):
@@ -20,16 +28,16 @@ def lines_in(data):
 
 
 def query_of(line):
-    """The kind, age, year and span of a query line, or None where it is torn."""
-    got = QUERY.fullmatch(line)
-    return (got[1].decode(), int(got[2]), int(got[3]), int(got[4])) if got else None
+    """The kind, age, year and span of a query line, and an annuity's rate, or None where it is torn."""
+    got = next(filter(None, (one.fullmatch(line) for one in FORMS)), None)
+    return (got[1].decode(), *map(int, got.groups()[1:])) if got else None
 
 
 def figure_text(steps, kind):
-    """A figure: five decimals for a probability, one for an expectancy, or the word."""
+    """A figure: five decimals for a probability, one for an expectancy or an annuity, or the word."""
     if steps == OPEN:
         return OPEN
-    decimals = 1 if kind in EXPECTANCIES else 5
+    decimals = 1 if kind in TENTHS else 5
     whole, part = divmod(steps, 10**decimals)
     return f"{whole}.{part:0{decimals}d}"
 

@@ -1,5 +1,5 @@
-"""Quotes of all five kinds, written from paper 01: their refusals, their ends on the grid, their figures, and their exact
-values to many digits."""
+"""Quotes of all seven kinds, written from paper 01 and, for annuities, paper 02: their refusals, their ends on the grid, their
+figures, and their exact values to many digits. A query is a kind, an age, a year and a span, and for an annuity a rate."""
 from decimal import Decimal
 from functools import cache
 
@@ -8,30 +8,34 @@ import grid
 from grid import START, UNIT, down, up
 from reader import in_limits, numbers_of
 
-KINDS = ("q", "coh", "per", "ecoh", "eper")
-SURVIVALS, EXPECTANCIES = ("coh", "per"), ("ecoh", "eper")
-OFF_SCALE, NO_AGE, NO_YEAR, NO_SPAN, STEEP = 2, 3, 4, 5, 6
+SURVIVALS, EXPECTANCIES, ANNUITIES = ("coh", "per"), ("ecoh", "eper"), ("acoh", "aper")
+TENTHS = EXPECTANCIES + ANNUITIES
+UNRATED = ("q",) + SURVIVALS + EXPECTANCIES
+KINDS = UNRATED + ANNUITIES
+OFF_SCALE, NO_AGE, NO_YEAR, NO_SPAN, STEEP, NO_RATE = 2, 3, 4, 5, 6, 8
 OLDEST, LAST_FITTED, CLOSURE = 120, 90, range(80, 91)
 FIRST_YEAR, LAST_YEAR, LAST_CELL = 2014, 2064, 2184
+RATE_UNIT, MOST_RATE = 10**6, 200_000
 OPEN = "open"
 
 
 def step(kind):
-    """A figure's step, in units: 0.1 for expectancies, else 0.00001."""
-    return UNIT // 10 if kind in EXPECTANCIES else UNIT // 10**5
+    """A figure's step, in units: 0.1 for expectancies and annuities, else 0.00001."""
+    return UNIT // 10 if kind in TENTHS else UNIT // 10**5
 
 
 def width(kind, age):
     """How far apart the ends may be."""
     if kind == "q":
         return 100 if age <= LAST_FITTED else 600
-    return 2_000_000 if kind in EXPECTANCIES else 30_000
+    return 2_000_000 if kind in TENTHS else 30_000
 
 
 def path(kind, age, year, span):
-    """The cells, (age, year), whose p or q an accepted quote is made of."""
-    count = span if kind in SURVIVALS else 1 if kind == "q" else OLDEST + 1 - age
-    on = 1 if kind in ("coh", "ecoh") else 0
+    """The cells, (age, year), whose p or q an accepted quote is made of. An annuity's last payment is at age 120, so that it
+    takes no p of that age."""
+    count = span if kind in SURVIVALS else 1 if kind == "q" else OLDEST + (kind in EXPECTANCIES) - age
+    on = 1 if kind in ("coh", "ecoh", "acoh") else 0
     return [(age + s, year + on * s) for s in range(count)]
 
 
@@ -45,6 +49,25 @@ def figure(ends, kind):
     """The number of steps that both ends round to, or open."""
     lower, upper = (rounded(end, kind) for end in ends)
     return lower if lower == upper else OPEN
+
+
+def grid_price(factors, rate):
+    """The ends of 1 paid now and after each factor: discount and survival start at 10^9 and take a step a year, outward, and
+    each payment is their product over 10^9, outward."""
+    discount = alive = total = (UNIT, UNIT)
+    for lower, upper in factors:
+        discount = down(discount[0] * RATE_UNIT, RATE_UNIT + rate), up(discount[1] * RATE_UNIT, RATE_UNIT + rate)
+        alive = down(alive[0] * lower, UNIT), up(alive[1] * upper, UNIT)
+        total = total[0] + down(discount[0] * alive[0], UNIT), total[1] + up(discount[1] * alive[1], UNIT)
+    return total
+
+
+def exact_price(factors, rate):
+    """The same with nothing rounded, from the last payment backward."""
+    total = Decimal(1)
+    for p in reversed(factors):
+        total = 1 + total * p * RATE_UNIT / (RATE_UNIT + rate)
+    return total
 
 
 class Cells:
@@ -104,8 +127,8 @@ class Quotes:
         if self.in_limits:
             self.grid, self.exact = GridCells(params), ExactCells(params)
 
-    def refusal(self, kind, age, year, span):
-        """The lowest number of the paper's table that applies, or 0."""
+    def refusal(self, kind, age, year, span, rate=None):
+        """The number of the first test that fails, or 0: the lowest that applies, but for 8, which comes after 5 and before 6."""
         if not self.in_limits:
             return OFF_SCALE
         if not 0 <= age <= OLDEST:
@@ -114,25 +137,31 @@ class Quotes:
             return NO_YEAR
         if not 0 <= span <= (OLDEST + 1 - age if kind in SURVIVALS else 0):
             return NO_SPAN
+        if kind in ANNUITIES and not 0 <= rate <= MOST_RATE:
+            return NO_RATE
         return STEEP if any(self.grid.steep(*cell) for cell in path(kind, age, year, span)) else 0
 
-    def ends(self, kind, age, year, span):
+    def ends(self, kind, age, year, span, rate=None):
         """The two ends of an accepted quote."""
         factors = [self.grid.p(*cell) for cell in path(kind, age, year, span)]
         if kind == "q":
             ((lower, upper),) = factors
             return UNIT - upper, UNIT - lower
+        if kind in ANNUITIES:
+            return grid_price(factors, rate)
         alive, total = (UNIT, UNIT), (UNIT // 2, UNIT // 2)
         for lower, upper in factors:
             alive = down(alive[0] * lower, UNIT), up(alive[1] * upper, UNIT)
             total = total[0] + alive[0], total[1] + alive[1]
         return alive if kind in SURVIVALS else total
 
-    def value(self, kind, age, year, span):
+    def value(self, kind, age, year, span, rate=None):
         """The exact value of an accepted quote, in units."""
         factors = [self.exact.p(*cell) for cell in path(kind, age, year, span)]
         if kind == "q":
             return (1 - factors[0]) * UNIT
+        if kind in ANNUITIES:
+            return exact_price(factors, rate) * UNIT
         alive, total = Decimal(1), Decimal(1) / 2
         for p in factors:
             alive *= p
