@@ -128,7 +128,7 @@ class Quotes:
             self.grid, self.exact = GridCells(params), ExactCells(params)
 
     def refusal(self, kind, age, year, span, rate=None):
-        """The number of the first test that fails, or 0: the lowest that applies, but for 8, which comes after 5 and before 6."""
+        """The lowest number of the paper's table that applies, where 8 comes after 5 and before 6, or 0."""
         if not self.in_limits:
             return OFF_SCALE
         if not 0 <= age <= OLDEST:

@@ -21,7 +21,7 @@ from quotes import FIRST_YEAR, KINDS, LAST_YEAR, OLDEST, OPEN, SURVIVALS, Quotes
 from reader import KEYS, LONGEST, SIZES, params_of, read
 from test_desk import EXAMPLES, FIXED, FLAT, LINE_ENDS, Input, closes_early, compared, complaint, damaged, endless, from_file
 from test_desk import full_device, off_scale, one_of_each, padded, piecewise, pool, some, torn_lines, with_value
-from test_quotes import at_limits, line_of, mild, moved, searched, usual
+from test_quotes import any_rate, at_limits, line_of, mild, moved, searched, usual
 
 SEED = 20142015
 LEAST_INPUTS, LEAST_PAIRS, LEAST_TOLD = 500, 48, 400
@@ -34,9 +34,11 @@ APART = {
     b"kind=q age=65 year=2020 span=0": (b" fig=0.30780", b" fig=0.12658", b" values=above", b" values=below"),
     b"kind=coh age=119 year=2020 span=2": (b" fig=0.47914", b" fig=0.76287", b" values=below", b" values=above"),
     b"kind=ecoh age=120 year=2064 span=0": (b" fig=1.2", b" fig=1.4", b" values=below", b" values=above"),
+    b"kind=acoh age=65 year=2020 span=0 rate=30000": (b" fig=3.0", b" fig=6.6", b" values=below", b" values=above"),
+    b"kind=aper age=119 year=2064 span=0 rate=0": (b" fig=1.7", b" fig=1.9", b" values=below", b" values=above"),
 }
 
-# Two sheets, the queries (kind, age, year, span) that are asked of both, and how many units lie between the ends, if searched.
+# Two sheets, the queries that are asked of both, and how many units lie between the ends, if searched.
 Pair = collections.namedtuple("Pair", "name first second queries gap")
 
 
@@ -49,11 +51,14 @@ def text_of(pair):
 def fixed_rows():
     """Two sheets, and what is printed after each query, whatever the second implementation says."""
     same = {query: end for query, end in FIXED.items() if end.startswith(b" no=")}
-    same |= {query: end * 2 + b" values=near units=0" for query, end in FIXED.items() if end == b" fig=1.00000"}
+    ones = [query for query, end in FIXED.items() if end in (b" fig=1.00000", b" fig=1.0")]
+    same |= {query: FIXED[query] * 2 + b" values=near units=0" for query in ones}
     yield "flat twice", FLAT * 2, same
     yield "flat, lower", FLAT + LOWER, {query: one + other + word for query, (one, other, word, _) in APART.items()}
     yield "lower, flat", LOWER + FLAT, {query: other + one + word for query, (one, other, _, word) in APART.items()}
     steep = dict.fromkeys(APART, b" no=6") | {b"kind=q age=121 year=2020 span=0": b" no=3"}
+    steep |= {b"kind=acoh age=65 year=2020 span=0 rate=200001": b" no=8", b"kind=aper age=65 year=2020 span=1 rate=-1": b" no=5"}
+    steep[b"kind=aper age=120 year=2014 span=0 rate=1"] = b" fig=1.0 fig=1.0 values=near units=0"
     for name, data in (("flat, steep", FLAT + STEEP), ("steep, flat", STEEP + FLAT), ("steep twice", STEEP * 2)):
         yield name, data, steep
 
@@ -213,7 +218,7 @@ def inputs(draw):
 
 def asked(draw, year, each):
     """Queries of all kinds that break no limit, of one year."""
-    return draw.sample(usual(draw, [year], each), 5 * each)
+    return draw.sample(usual(draw, [year], each), len(KINDS) * each)
 
 
 def one_unit(draw, key):
@@ -245,7 +250,7 @@ def example_pairs(draw):
     """The examples, each with each."""
     every = sorted(EXAMPLES.glob("*.sheet"))
     for one, other in itertools.product(every, every):
-        queries = [("ecoh", 65, 2015, 0)] + asked(draw, draw.randint(FIRST_YEAR, LAST_YEAR), 1)
+        queries = [("ecoh", 65, 2015, 0), ("acoh", 65, 2015, 0, 30_000)] + asked(draw, draw.randint(FIRST_YEAR, LAST_YEAR), 1)
         yield Pair(f"{one.name}, {other.name}", one.read_bytes(), other.read_bytes(), queries, None)
 
 
@@ -272,7 +277,8 @@ def met_pairs(job):
     while not out.keys() >= {0, 1}:
         params = mild(draw)
         age = draw.randint(60, 88)
-        query = (kind, age, draw.randint(FIRST_YEAR, LAST_YEAR), draw.randint(1, OLDEST + 1 - age) if kind in SURVIVALS else 0)
+        span = draw.randint(1, OLDEST + 1 - age) if kind in SURVIVALS else 0
+        query = (kind, age, draw.randint(FIRST_YEAR, LAST_YEAR), span, *any_rate(draw, kind))
         top, kept = Quotes(params).ends(*query)[1], {}
 
         def gap(by):
@@ -364,10 +370,11 @@ def tally(pair, want, counts):
 
 MET = {0: "touching", 1: "a unit apart"}
 TOLD = ("below", "above", "near", "equal", "touching", "a unit apart", "open first", "open second", "open both")
+REFUSALS = (1, 3, 4, 5, 8, 6)
 
 
 def wanted_counts():
-    out = [f"{kind} {what}" for kind in KINDS for what in TOLD] + [f"no={no}" for no in (1, 3, 4, 5, 6)]
+    out = [f"{kind} {what}" for kind in KINDS for what in TOLD] + [f"no={no}" for no in REFUSALS]
     return out + [f"sheet={sheet} no={no}" for sheet in (1, 2) for no in (1, 2)] + ["no=1 alone"]
 
 
@@ -416,7 +423,7 @@ def report(counts, everything, every_pair, checks):
     print(f"{len(everything)} inputs, and {len(every_pair)} with {checks} lines held against exact values")
     refused = [f"sheet={sheet} no={no}" for sheet in (1, 2) for no in (1, 2)]
     print("sheets refused:", ", ".join(f"{what} {counts[what]}" for what in refused))
-    print("queries refused:", ", ".join(f"no={no} {counts[f'no={no}']}" for no in (1, 3, 4, 5, 6)))
+    print("queries refused:", ", ".join(f"no={no} {counts[f'no={no}']}" for no in REFUSALS))
     print(f"runs refused: {counts['no=1 alone']}")
     for kind in KINDS:
         print(f"{kind}:", ", ".join(f"{what} {counts[f'{kind} {what}']}" for what in TOLD))

@@ -21,7 +21,7 @@ import desk
 import programs
 import sheets
 from grid import HIGHEST, flat
-from quotes import FIRST_YEAR, KINDS, LAST_CELL, OLDEST
+from quotes import ANNUITIES, FIRST_YEAR, KINDS, LAST_CELL, OLDEST, UNRATED
 from reader import KEYS, LONGEST, SIZES
 from test_quotes import at_limits, line_of, mild, searched, usual
 
@@ -54,7 +54,31 @@ FIXED = {
     b"kind=q age=-1 year=2020 span=0": b" no=3",
     b"kind=q age=0 year=-2020 span=0": b" no=4",
     b"kind=coh age=0 year=2020 span=-1": b" no=5",
+    b"kind=acoh age=65 year=2020 span=0 rate=30000": b" fig=3.0",
+    b"kind=aper age=65 year=2064 span=0 rate=0": b" fig=3.2",
+    b"kind=acoh age=119 year=2064 span=0 rate=0": b" fig=1.7",
+    b"kind=aper age=119 year=2014 span=0 rate=200000": b" fig=1.6",
+    b"kind=acoh age=120 year=2064 span=0 rate=0": b" fig=1.0",
+    b"kind=aper age=120 year=2014 span=0 rate=200000": b" fig=1.0",
+    b"kind=acoh age=65 year=2020 span=0 rate=-1": b" no=8",
+    b"kind=aper age=65 year=2020 span=0 rate=200001": b" no=8",
+    b"kind=acoh age=120 year=2064 span=0 rate=999999999999999": b" no=8",
+    b"kind=acoh age=65 year=2020 span=1 rate=200001": b" no=5",
+    b"kind=aper age=65 year=2065 span=1 rate=-1": b" no=4",
+    b"kind=acoh age=-1 year=2065 span=1 rate=-1": b" no=3",
 }
+# Lines that are torn by their rate, or for want of it.
+RATED = b"kind=acoh age=65 year=2020 span=0"
+TORN_RATES = (
+    RATED, b"kind=aper age=65 year=2020 span=0", RATED + b" ", RATED + b" rate", RATED + b" rate=", RATED + b" rate= ",
+    RATED + b" 30000", RATED + b" rate 30000", RATED + b" rate=0 rate=0", RATED + b" rate=0 span=0", RATED + b" rate=0 ",
+    RATED + b"  rate=0", RATED + b"\trate=0", RATED + b",rate=0", RATED + b"rate=0", RATED + b" Rate=0", RATED + b" rates=0",
+    RATED + b" rate=00", RATED + b" rate=-0", RATED + b" rate=030000", RATED + b" rate=-01", RATED + b" rate=+1",
+    RATED + b" rate=1.5", RATED + b" rate=3%", RATED + b" rate=1e4", RATED + b" rate=1" + b"0" * 15,
+    RATED + b" rate=-1" + b"0" * 15, b"kind=acoh age=65 year=2020 rate=0 span=0", b"kind=acoh age=65 rate=0 year=2020 span=0",
+    b"kind=acoh rate=0 age=65 year=2020 span=0", b"rate=0 " + RATED, b"kind=acoh age=65 year=2020 rate=0",
+    *(b"kind=%b age=65 year=2020 span=0 rate=%d" % (kind.encode(), rate) for kind in UNRATED for rate in (0, 200_001)),
+)
 
 
 # ---- sheets and queries
@@ -92,8 +116,12 @@ def valid(draw, ready, torn, count):
         yield Input(f"valid {i}", sheet + b"".join(body))
 
 
-def fixed():
-    yield Input("the paper's lines", FLAT + b"".join(query + b"\n" for query in FIXED))
+def fixed_runs():
+    """Those lines as inputs, each with the output of `quotes`."""
+    lines = {"the paper's lines": {query: query + end for query, end in FIXED.items()}}
+    lines["torn rates"] = dict.fromkeys(TORN_RATES, b"no=1")
+    for name, rows in lines.items():
+        yield Input(name, FLAT + b"".join(row + b"\n" for row in rows)), b"".join(row + b"\n" for row in rows.values())
 
 
 def limits():
@@ -113,14 +141,15 @@ NUMBERS = (
 )
 NAMES = (
     b"", b"Q", b"q ", b" q", b"qq", b"q\0", b"\0", b"c", b"co", b"cohh", b"COH", b"pe", b"perr", b"e", b"ec", b"eco", b"ecohh",
-    b"ep", b"epe", b"eperr", b"eq", b"acoh", b"day", b"per,coh", b"0", b"\xe9", b"q=", b"=q", b"q" * 300,
+    b"ep", b"epe", b"eperr", b"eq", b"a", b"ac", b"aco", b"acohh", b"ap", b"ape", b"aperr", b"aecoh", b"day", b"per,coh", b"0",
+    b"\xe9", b"q=", b"=q", b"q" * 300,
     *[kind.encode() for kind in KINDS],
 )
 WHOLE = (
     b"%b ", b" %b", b"%b\r", b"%b\t", b"%b\0", b"\0%b", b"%b fig=0.30780", b"%b span=0", b"%b x", b"kind=%b", b"#%b",
-    b"\xef\xbb\xbf%b",
+    b"\xef\xbb\xbf%b", b"%b rate=0", b"%b rate=", b"%b rate=-1 rate=0",
 )
-KEYS_OF_QUERY = (b"kind", b"age", b"year", b"span")
+KEYS_OF_QUERY = (b"kind", b"age", b"year", b"span", b"rate")
 
 
 def joined(fields, between=b" ", equals=b"="):
@@ -278,7 +307,7 @@ def sizes(ready):
     bad = with_value("k", b"%d" % (SIZES["k"] + 1))
     for size in (LONGEST - 1, LONGEST, LONGEST + 1, LONGEST + 2, 70_000, 2 * LONGEST, 2 * LONGEST + 1, 10**6):
         for name, data in (("flat", FLAT), ("read", sheet), ("off scale", bad), ("torn", b"x" + sheet), ("nothing", b"")):
-            for what in (lines[0], b"\n", b"x", b"kind=eper age=0 year=2014 span=0\n", b"\0"):
+            for what in (lines[0], b"\n", b"x", b"kind=eper age=0 year=2014 span=0\n", b"\0", RATED + b" rate=0\n"):
                 yield Input(f"{size} bytes, {name}, {what!r}", padded(data, size, what))
         short = lines[0] + b"x" * (size - len(FLAT) - 2 * len(lines[0]) - 1) + b"\n" + lines[0]
         yield Input(f"{size} bytes, a long line", FLAT + short)
@@ -312,7 +341,7 @@ def any_bytes(draw, ready, count):
     for i in range(60):
         body = draw.randbytes(draw.choice((1, 10, 1000, 5000)))
         yield Input(f"any bytes {i}", draw.choice((b"", FLAT, FLAT, FLAT[:-1])) + body)
-        alphabet = b"kindageyrsp=q coh0123456789-\n"
+        alphabet = b"kindageyrspt=q coh0123456789-\n"
         yield Input(f"any letters {i}", FLAT + bytes(draw.choices(alphabet, k=draw.choice((5, 50, 500)))))
 
 
@@ -354,7 +383,8 @@ def steep_examples():
 def inputs(draw):
     ready = pool(draw)
     torn = torn_lines(draw, ready)
-    parts = [fixed(), limits(), half_steps(draw), torn_queries(draw, ready, torn), ends_of_input(draw, ready)]
+    parts = [(one for one, _ in fixed_runs()), limits(), half_steps(draw)]
+    parts += [torn_queries(draw, ready, torn), ends_of_input(draw, ready)]
     parts += [line_feeds(ready), cut_sheets(draw, ready), damaged_sheets(draw, ready), off_scale(draw, ready), sizes(ready)]
     parts += [any_bytes(draw, ready, 400), valid(draw, ready, torn, 500), examples()]
     return list(itertools.chain(*parts))
@@ -393,8 +423,11 @@ def tally(one, want, counts):
         counts[f"{kind} {what if what == 'open' or what.startswith('no=') else 'printed'}"] += 1
 
 
+SAID = ("printed", "open", "no=3", "no=4", "no=5", "no=6")
+
+
 def wanted_counts():
-    out = [f"kind={kind} {what}" for kind in KINDS for what in ("printed", "open", "no=3", "no=4", "no=5", "no=6")]
+    out = [f"kind={kind} {what}" for kind in KINDS for what in SAID] + [f"kind={kind} no=8" for kind in ANNUITIES]
     return out + ["no=1 no=1", "run refused no=1", "run refused no=2"]
 
 
@@ -523,10 +556,10 @@ def other_ends(everything):
 
 # ---- all of it
 
-def fixed_lines(everything):
-    """What the second implementation says of the paper's own lines, against the lines themselves."""
-    want = b"".join(query + end + b"\n" for query, end in FIXED.items())
-    return complaint("the paper's lines", "desk.py", want, 0, desk.quotes(everything[0].data))
+def fixed_lines():
+    """What the second implementation says of the paper's own lines, and of torn rates, against the lines themselves."""
+    for one, want in fixed_runs():
+        yield complaint(one.name, "desk.py", want, 0, desk.quotes(one.data))
 
 
 def report(counts, everything):
@@ -535,7 +568,7 @@ def report(counts, everything):
     print("runs refused:", *(f"no={no} {counts[f'run refused no={no}']}" for no in (1, 2)))
     print(f"torn lines: {counts['no=1 no=1']}")
     for kind in KINDS:
-        what = ("printed", "open", "no=3", "no=4", "no=5", "no=6")
+        what = SAID + (("no=8",) if kind in ANNUITIES else ())
         print(f"{kind}:", *(f"{name} {counts[f'kind={kind} {name}']}" for name in what))
 
 
@@ -560,7 +593,7 @@ def main():
     absent = [what for what in wanted_counts() if not counts[what]]
     found.append(f"no case of: {', '.join(absent)}" if absent else None)
     found.append(None if len(everything) >= LEAST_INPUTS else f"{len(everything)} inputs, not {LEAST_INPUTS}")
-    found += [fixed_lines(everything), steep_examples()]
+    found += [*fixed_lines(), steep_examples()]
     wrong = [said for said in found if said]
     for message in wrong[:20]:
         print(message)

@@ -2,8 +2,10 @@
 exact value to many digits, which must lie between the ends and round to the printed figure.
 
 It hands sheets and query lines to the program `ends`: the flat sheet, realistic and extreme ones, steep ones, refused ones,
-and some that are searched for an end at a half step. A line has no number of more than 15 digits, so the least and greatest
-numbers are those of 15 digits. An argument is taken as the seed.
+and some that are searched for an end at a half step. Annuities are asked at each end of the rates and past it; on the flat
+sheet they are held against a geometric sum too, and at rate 0 against the expectancy and the survival of the same age. A line
+has no number of more than 15 digits, so the least and greatest numbers are those of 15 digits. An argument is taken as the
+seed.
 """
 import collections
 import concurrent.futures
@@ -11,21 +13,25 @@ import itertools
 import random
 import re
 import sys
+from decimal import Decimal
 
 import programs
 import sheets
 from desk import figure_text
-from grid import HIGHEST, LOWEST, RATE, START, down, flat, up
-from quotes import EXPECTANCIES, FIRST_YEAR, KINDS, LAST_CELL, LAST_YEAR, OLDEST, OPEN, SURVIVALS
-from quotes import Quotes, figure, rounded, step, width
+from grid import HIGHEST, LOWEST, RATE, START, UNIT, down, flat, up
+from quotes import ANNUITIES, FIRST_YEAR, KINDS, LAST_CELL, LAST_YEAR, MOST_RATE, OLDEST, OPEN, RATE_UNIT, SURVIVALS, TENTHS
+from quotes import UNRATED, Quotes, figure, rounded, step, width
 from reader import LONGEST, SIZES, params_of, read
 
 SEED = 20142064
 LEAST, GREATEST = 1 - 10**15, 10**15 - 1
 NEAR = 5
+REFUSALS = (1, 2, 3, 4, 5, 8, 6)
+LEAST_ANNUITIES = 3000
 ANSWER = re.compile(r"lo=([0-9]+) hi=([0-9]+) fig=([0-9.]+|open)")
 
-# A sheet, its queries (kind, age, year, span), and what some of the lines must end in, whatever the second implementation says.
+# A sheet, its queries (kind, age, year, span, and the rate of an annuity), and what some of the lines must end in, whatever
+# the second implementation says.
 Case = collections.namedtuple("Case", "name data queries fixed")
 
 
@@ -34,27 +40,49 @@ def case(name, params, queries, fixed=None):
 
 
 def line_of(query):
-    return b"kind=%b age=%d year=%d span=%d\n" % (query[0].encode(), *query[1:])
+    keys = ("age", "year", "span", "rate")
+    return "".join([f"kind={query[0]}", *(f" {key}={value}" for key, value in zip(keys, query[1:])), "\n"]).encode()
 
 
 # ---- queries
 
 AGES = (LEAST, -1, 0, 1, 90, 91, 119, 120, 121, GREATEST)
 YEARS = (LEAST, 2013, 2014, 2064, 2065, 2184, 2185, GREATEST)
+RATES = (LEAST, -1, 0, 1, 30_000, MOST_RATE - 1, MOST_RATE, MOST_RATE + 1, GREATEST)
 
 
-def at_limits(ages=AGES, years=YEARS):
-    """Ages, years and spans at and past every limit, and the least and greatest numbers, in all combinations."""
+def at_limits():
+    """Ages, years, spans and rates at and past every limit, and the least and greatest numbers, in all combinations, of which
+    annuities have those nearest to the limits."""
     out = []
-    for age in ages:
+    for age in AGES:
         spans = (LEAST, -1, 0, 1, 120 - age, 121 - age, 122 - age, GREATEST)
         spans = sorted({span for span in spans if LEAST <= span <= GREATEST})
-        out += [(kind, age, year, span) for kind in KINDS for year in years for span in spans]
-    return out
+        out += itertools.product(UNRATED, [age], YEARS, spans)
+    return out + list(itertools.product(ANNUITIES, (-1, 0, 119, 120, 121), (2013, 2014, 2064, 2065), (-1, 0, 1), RATES))
 
 
 def any_span(draw, age):
     return draw.choice((0, 1, OLDEST + 1 - age, draw.randint(0, OLDEST + 1 - age)))
+
+
+def any_rate(draw, kind):
+    """The end of a query of a kind: the rate of an annuity, and nothing for others."""
+    return (draw.choice((0, 1, 30_000, MOST_RATE, draw.randint(0, MOST_RATE))),) if kind in ANNUITIES else ()
+
+
+def any_query(draw, kind, age, year):
+    """A query that breaks no limit."""
+    return kind, age, year, any_span(draw, age) if kind in SURVIVALS else 0, *any_rate(draw, kind)
+
+
+def at_rates(draw, queries, count):
+    """Some of the annuities among queries at and past each end of the rates, and what they are held against at rate 0."""
+    out = []
+    for kind, age, year, *_ in draw.sample([query for query in queries if query[0] in ANNUITIES], count):
+        out += [(kind, age, year, 0, rate) for rate in (*RATES, draw.randint(0, MOST_RATE))]
+        out += [("e" + kind[1:], age, year, 0), (kind[1:], age, year, OLDEST + 1 - age)]
+    return out
 
 
 def usual(draw, years, each):
@@ -65,12 +93,10 @@ def usual(draw, years, each):
         for _ in range(each):
             age, later = draw.randint(0, OLDEST), draw.randint(0, 20)
             out.append(("q", age, draw.choice((year, draw.randint(FIRST_YEAR, LAST_CELL))), 0))
-            out.append(("per", age, year, any_span(draw, age)))
-            out.append(("eper", age, year, 0))
+            out += [any_query(draw, kind, age, year) for kind in ("per", "eper", "aper")]
             start, begun = youngest + later, min(LAST_YEAR, year + later)
-            out.append(("coh", start, begun, any_span(draw, start)))
-            out.append(("ecoh", start, begun, 0))
-        out += [("ecoh", 0, year, 0), ("coh", 0, year, draw.randint(1, OLDEST + 1))]
+            out += [any_query(draw, kind, start, begun) for kind in ("coh", "ecoh", "acoh")]
+        out += [("ecoh", 0, year, 0), ("coh", 0, year, draw.randint(1, OLDEST + 1)), any_query(draw, "acoh", 0, year)]
     return sorted(set(out))
 
 
@@ -87,10 +113,32 @@ def fixed_cases():
     }
     yield case("the paper's rows", flat(), list(rows) + [("coh", 120, 2064, 1), ("per", 120, 2064, 1)], rows)
     needy = [("q", 90, 2014, 0), ("q", 91, 2184, 0), ("coh", 0, 2064, 121), ("per", 30, 2020, 1)]
-    needy += [("ecoh", 0, 2014, 0), ("eper", 91, 2014, 0)]
+    needy += [("ecoh", 0, 2014, 0), ("eper", 91, 2014, 0), ("acoh", 119, 2064, 0, 0), ("aper", 0, 2014, 0, MOST_RATE)]
+    free = {("coh", 7, 2020, 0): "fig=1.00000", ("acoh", 120, 2064, 0, 0): "fig=1.0", ("aper", 120, 2014, 0, 30_000): "fig=1.0"}
     for a, end in ((HIGHEST, ""), (HIGHEST + 1, "no=6"), (LOWEST, ""), (LOWEST - 1, "no=6")):
-        rows = dict.fromkeys(needy, end) | {("coh", 7, 2020, 0): "fig=1.00000"}
+        rows = dict.fromkeys(needy, end) | free | {query: "no=8" for query in needless_rates()}
         yield case(f"every A {a}", dict(flat(), A=[a] * 91), list(rows), rows)
+
+
+def needless_rates():
+    """Annuities whose rate is refused, whatever their cells are."""
+    for kind, age, rate in itertools.product(ANNUITIES, (0, 119, 120), (LEAST, -1, MOST_RATE + 1, 2**32, GREATEST)):
+        yield kind, age, FIRST_YEAR, 0, rate
+
+
+def flat_prices():
+    """Annuities of the flat sheet, whose force is 1/e at every age, so that the price is a geometric sum; and the order of
+    their refusals."""
+    p, rows = (-Decimal(-1).exp()).exp(), {}
+    for kind, age, rate in itertools.product(ANNUITIES, (0, 1, 65, 90, 91, 118, 119, 120), (*RATES[2:-2], 12_345)):
+        factor = p * RATE_UNIT / (RATE_UNIT + rate)
+        price = (1 - factor ** (OLDEST + 1 - age)) / (1 - factor)
+        rows[kind, age, 2020, 0, rate] = f"fig={figure_text(rounded(price * UNIT, kind), kind)}"
+    for kind, rate in itertools.product(ANNUITIES, RATES):
+        for age, year, no in ((-1, 2013, 3), (121, 2065, 3), (120, 2065, 4), (0, 2013, 4), (120, 2064, 5), (0, 2014, 5)):
+            rows |= {(kind, age, year, span, rate): f"no={no}" for span in (LEAST, -1, 1, 121 - age)}
+    rows |= {query: "no=8" for query in needless_rates()}
+    yield case("flat prices", flat(), list(rows), rows)
 
 
 def limit_cases(draw):
@@ -98,7 +146,11 @@ def limit_cases(draw):
     steep = dict(flat(), A=[0] * 91)
     yield case("limits, all steep", steep, draw.sample(at_limits(), 400))
     yield case("no queries", flat(), [])
-    queries = [tuple([draw.choice(KINDS)] + [draw.randint(LEAST, GREATEST) for _ in range(3)]) for _ in range(100)]
+    queries = []
+    for _ in range(100):
+        kind = draw.choice(KINDS)
+        queries.append((kind, *(draw.randint(LEAST, GREATEST) for _ in range(4 if kind in ANNUITIES else 3))))
+        queries.append(("acoh", 65, 2020, 0, draw.randint(LEAST, GREATEST) // 10 ** draw.randrange(15)))
     yield case("numbers of any size", flat(), queries)
 
 
@@ -106,6 +158,7 @@ def refused_cases(draw):
     """Torn and off-scale sheets, and those at the very limit."""
     sheet = sheets.text(sheets.realistic(draw))
     queries = draw.sample(at_limits(), 12) + [("q", 65, 2020, 0), ("ecoh", 121, 2065, 1), ("coh", 0, 2014, 0)]
+    queries += [("acoh", 120, 2020, 0, 0), ("aper", 65, 2020, 0, MOST_RATE + 1)]
     torn = [b"", sheet[:-1], b"\n" + sheet, sheet[: len(sheet) // 2], sheet.replace(b"sex", b"Sex")]
     torn.append(sheet.ljust(LONGEST, b"\n"))
     for i, data in enumerate(torn):
@@ -132,8 +185,9 @@ def mild(draw):
 def realistic_cases(draw, count):
     for i in range(count):
         params = mild(draw) if i % 4 else sheets.realistic(draw)
-        queries = usual(draw, [draw.choice((FIRST_YEAR, LAST_YEAR, draw.randint(FIRST_YEAR, LAST_YEAR)))], 9)
-        yield case(f"realistic {i}", params, queries + draw.sample(at_limits(), 14))
+        year = draw.choice((FIRST_YEAR, LAST_YEAR, draw.randint(FIRST_YEAR, LAST_YEAR)))
+        queries = usual(draw, [year], 9)
+        yield case(f"realistic {i}", params, queries + at_rates(draw, queries, 6) + draw.sample(at_limits(), 14))
 
 
 def extreme_cases(draw, count):
@@ -145,10 +199,11 @@ def extreme_cases(draw, count):
         else:
             params = sheets.extreme(draw, draw.choice((10**8, 10**8, 10**8 - 1)), year, spread, draw.choice((40, 10**6)))
             params.update(theta=0, K=sheets.clamp(params["K"] + params["theta"] * (year - START), SIZES["K"]))
-        yield case(f"extreme {i}", params, usual(draw, [year], 7))
+        queries = usual(draw, [year], 7)
+        yield case(f"extreme {i}", params, queries + at_rates(draw, queries, 4))
     for i in range(6):
         queries = usual(draw, [draw.randint(FIRST_YEAR, LAST_YEAR)], 5)
-        yield case(f"at the edge {i}", sheets.at_edge(draw, FIRST_YEAR, i % 3), queries)
+        yield case(f"at the edge {i}", sheets.at_edge(draw, FIRST_YEAR, i % 3), queries + at_rates(draw, queries, 4))
 
 
 def around(draw, age, year):
@@ -158,10 +213,15 @@ def around(draw, age, year):
         for kind, begun in (("coh", year - back), ("per", year)):
             for span in (0, back, back + 1, OLDEST + 1 - age + back, max(0, 91 - age + back), max(0, 92 - age + back)):
                 out.append((kind, age - back, begun, span))
-            out += [("e" + kind, start, begun + (start - age + back) * (kind == "coh"), 0) for start in (age - back, age + 1)]
+            for start in (age - back, age + 1):
+                first = begun + (start - age + back) * (kind == "coh")
+                out += [any_query(draw, "e" + kind, start, first), any_query(draw, "a" + kind, start, first)]
+                out.append(("a" + kind, start, first, 0, draw.choice((-1, MOST_RATE + 1))))
     out += [("q", x, y, 0) for x in {age, age + 1, 79, 80, 90, 91, 120} for y in (year, year + 1)]
     for x, span in ((91, 0), (91, 1), (120, 0), (79, 1), (79, 2)):
         out += [(kind, x, year, span) for kind in SURVIVALS]
+    for x in {*range(117, 121), OLDEST - draw.randint(0, year - FIRST_YEAR)}:
+        out += [any_query(draw, kind, x, year - OLDEST + x) for kind in ("acoh", "ecoh")] + [any_query(draw, "aper", x, year)]
     return sorted({query for query in out if query[1] >= 0})
 
 
@@ -202,8 +262,8 @@ def searched(job):
         params = mild(draw)
         age, year = draw.randint(40, 105), draw.randint(FIRST_YEAR, LAST_YEAR)
         span = draw.randint(1, OLDEST + 1 - age) if kind in SURVIVALS else 0
-        query = (kind, age, year, span)
-        key, at = ("A", age) if age <= 79 and kind not in EXPECTANCIES and draw.randrange(2) else ("K", None)
+        query = (kind, age, year, span, *any_rate(draw, kind))
+        key, at = ("A", age) if age <= 79 and kind not in TENTHS and draw.randrange(2) else ("K", None)
         kept = {}
 
         def end(by):
@@ -239,10 +299,11 @@ def searched(job):
 
 def complaints(given, no, query, line, counts):
     """What is wrong with the line of a query; the counts take what the second implementation says of it."""
-    kind, age, _, _ = query
+    kind, age = query[:2]
     no = no or given.refusal(*query)
     if no:
         counts[f"refused {no}"] += 1
+        counts["annuities refused"] += kind in ANNUITIES
         if line != f"no={no}":
             yield f"not no={no}"
         return
@@ -267,6 +328,18 @@ def complaints(given, no, query, line, counts):
         yield f"the exact value {value:.20f} rounds to {figure_text(rounded(value, kind), kind)}"
     if upper - lower > width(kind, age):
         yield f"{upper - lower} units apart"
+
+
+def unlike_expectancies(asked_of, counts):
+    """Which annuities at rate 0 are not, end for end, half a year more than the expectancy less its last survival."""
+    ends = {query: tuple(map(int, got.groups()[:2])) for query, line in asked_of if (got := ANSWER.fullmatch(line))}
+    for (kind, age, year, _, *rate), own in ends.items():
+        along = [(f"e{kind[1:]}", age, year, 0), (kind[1:], age, year, OLDEST + 1 - age)]
+        if rate == [0] and all(query in ends for query in along):
+            counts["at rate 0"] += 1
+            expectancy, last = (ends[query] for query in along)
+            if any(own[i] + last[i] != expectancy[i] + UNIT // 2 for i in (0, 1)):
+                yield f"{kind} {age} {year} at rate 0: {own}, with the expectancy {expectancy} and the last survival {last}"
 
 
 def groups(one, no):
@@ -307,11 +380,12 @@ def compare(one):
             bad.append(f"does not end in {one.fixed[query]}")
         if bad:
             wrong.append(f"{one.name}, {' '.join(map(str, query))}: {line!r}: {', '.join(bad)}")
+    wrong += [f"{one.name}, {said}" for said in unlike_expectancies(zip(one.queries, answers), counts)]
     return counts, len(answers), wrong
 
 
 def cases(draw, pool):
-    out = list(fixed_cases()) + list(limit_cases(draw)) + list(refused_cases(draw))
+    out = list(fixed_cases()) + list(flat_prices()) + list(limit_cases(draw)) + list(refused_cases(draw))
     out += list(realistic_cases(draw, 64)) + list(extreme_cases(draw, 50)) + list(steep_cases(draw, 36))
     jobs = [(kind, side, draw.random()) for kind in KINDS for side in (0, 1, 2) for _ in range(3)]
     for found in pool.map(searched, jobs):
@@ -322,8 +396,14 @@ def cases(draw, pool):
 def missing(counts):
     """What the cases should have met and have not."""
     wanted = [f"{kind} {what}" for kind in KINDS for what in ("printed", "open", "near")]
-    wanted += [f"refused {no}" for no in range(1, 7)]
-    return [what for what in wanted if not counts[what]]
+    wanted += [f"refused {no}" for no in REFUSALS] + ["at rate 0"]
+    few = [f"{LEAST_ANNUITIES} annuities"] if annuities(counts) < LEAST_ANNUITIES else []
+    return [what for what in wanted if not counts[what]] + few
+
+
+def annuities(counts):
+    """How many were accepted, and so held against the exact price."""
+    return sum(counts[f"{kind} {what}"] for kind in ANNUITIES for what in ("printed", "open"))
 
 
 def report(counts, total):
@@ -332,7 +412,9 @@ def report(counts, total):
         name = f"an end within {NEAR} units of a half step" if what == "near" else what
         each = [counts[f"{kind} {what}"] for kind in KINDS]
         print(f"{name}: {sum(each)},", *(f"{kind} {count}" for kind, count in zip(KINDS, each)))
-    print("refused:", *(f"no={no} {counts[f'refused {no}']}" for no in range(1, 7)))
+    print("refused:", *(f"no={no} {counts[f'refused {no}']}" for no in REFUSALS))
+    refused, free = counts["annuities refused"], counts["at rate 0"]
+    print(f"annuities: {annuities(counts)} accepted, {free} of them held against expectancies at rate 0; {refused} refused")
 
 
 def main():
