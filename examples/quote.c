@@ -1,7 +1,10 @@
-/* quote SHEET: the life expectancy at 65 in 2015 of the cohort, by the parameters of a sheet. Prints its two ends and its
-   figure, or the refusal's number. `make examples` builds it. */
+/* quote SHEET [RATE]: the life expectancy at 65 in 2015 of the cohort, by the parameters of a sheet; with a rate, in units of
+   10^-6, the price of 1 a year for life instead, the first paid at once. Prints its two ends and its figure, or the refusal's
+   number. `make examples` builds it. */
+#include <errno.h>
 #include <inttypes.h>
 #include <stdio.h>
+#include <stdlib.h>
 #include "kulfizan.h"
 
 #define AGE 65
@@ -16,13 +19,24 @@ static void print_end(const char *name, uint64_t end)
     printf("%s %" PRIu64 ".%09" PRIu64 "\n", name, end / 1000000000, end % 1000000000);
 }
 
+/* The number that a word is, and whether it is one of 64 bits. */
+static int number(const char *word, int64_t *value)
+{
+    char *end;
+    errno = 0;
+    *value = strtoll(word, &end, 10);
+    return errno == 0 && end != word && *end == '\0';
+}
+
 int main(int argc, char **argv)
 {
-    static const uint8_t kind[] = {'e', 'c', 'o', 'h'};
+    static const uint8_t expectancy[] = {'e', 'c', 'o', 'h'}, annuity[] = {'a', 'c', 'o', 'h'};
     uint64_t quote[KULFIZAN_QUOTE_LENGTH];
-    FILE *file = argc == 2 ? fopen(argv[1], "rb") : NULL;
+    int64_t rate;
+    int asked = argc == 2 || (argc == 3 && number(argv[2], &rate));
+    FILE *file = asked ? fopen(argv[1], "rb") : NULL;
     if (file == NULL) {
-        fprintf(stderr, "usage: quote SHEET, a file that can be read\n");
+        fprintf(stderr, "usage: quote SHEET [RATE], a file that can be read and a whole number\n");
         return 2;
     }
     size_t length = fread(sheet, 1, sizeof sheet, file);
@@ -32,7 +46,11 @@ int main(int argc, char **argv)
         fprintf(stderr, "quote: %s: not read to its end\n", argv[1]);
         return 2;
     }
-    uint8_t no = kulfizan_quote(sheet, length, kind, sizeof kind, AGE, YEAR, 0, quote, KULFIZAN_QUOTE_LENGTH);
+    uint8_t no;
+    if (argc == 2)
+        no = kulfizan_quote(sheet, length, expectancy, sizeof expectancy, AGE, YEAR, 0, quote, KULFIZAN_QUOTE_LENGTH);
+    else
+        no = kulfizan_annuity(sheet, length, annuity, sizeof annuity, AGE, YEAR, 0, rate, quote, KULFIZAN_QUOTE_LENGTH);
     if (no != KULFIZAN_ACCEPTED) {
         printf("no=%d\n", no);
         return 1;

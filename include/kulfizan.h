@@ -1,11 +1,11 @@
-/* Kulfizan for C: the AG2014 table with the parameters of a sheet. A sheet read and written, a query of it answered,
-   and the whole run of the desk. `make lib` writes libkulfizan.a and libkulfizan.so into target/lib.
+/* Kulfizan for C: the AG2014 table with the parameters of a sheet. A sheet read and written, a query of it answered, an
+   annuity of it priced, and the whole run of the desk. `make lib` writes libkulfizan.a and libkulfizan.so into target/lib.
 
    A set is 369 numbers: the sex (0 for M, 1 for F), a, theta, K, k, and then for ages 0 to 90 A, B, alpha, beta, in
    the sheet's order and its units.
 
    A call gives 0, or the number of its refusal and then leaves everything that it is lent as it was. The lowest number
-   that applies is given.
+   that applies is given, where 8 comes after 5 and before 6.
 
    The caller sees to it that no pointer is null, also where its length is 0; that each points to as many elements as its
    length says; and that nothing that is written overlaps anything else that is lent. Nothing else is asked: each call
@@ -23,7 +23,10 @@
 #define KULFIZAN_LONGEST_SHEET 65536
 
 /* The room that a run of n bytes of input wants. */
-#define KULFIZAN_RUN_ROOM(n) (5 * (size_t)(n) + 139)
+#define KULFIZAN_RUN_ROOM(n) (5 * (size_t)(n) + 161)
+
+/* The highest rate of an annuity, in units of 10^-6. */
+#define KULFIZAN_HIGHEST_RATE 200000
 
 /* The refusals, and none. */
 enum kulfizan_refusal {
@@ -32,9 +35,10 @@ enum kulfizan_refusal {
     KULFIZAN_OFF_SCALE = 2,    /* a parameter, or K + 171*theta, is past its size */
     KULFIZAN_NO_SUCH_AGE = 3,  /* the age is outside 0 to 120 */
     KULFIZAN_NO_SUCH_YEAR = 4, /* the year is outside the kind's range */
-    KULFIZAN_NO_SUCH_SPAN = 5, /* the span is outside 0 to 121 - age; for q and expectancies, not 0 */
+    KULFIZAN_NO_SUCH_SPAN = 5, /* the span is outside 0 to 121 - age; for q, expectancies and annuities, not 0 */
     KULFIZAN_STEEP = 6,        /* a needed cell's log force leaves its range */
-    KULFIZAN_SHORT = 7         /* what is lent has too little room */
+    KULFIZAN_SHORT = 7,        /* what is lent has too little room */
+    KULFIZAN_NO_SUCH_RATE = 8  /* the rate is outside 0 to 200,000 */
 };
 
 #ifdef __cplusplus
@@ -58,6 +62,13 @@ uint8_t kulfizan_write(const int64_t *values, size_t values_length, uint8_t *buf
    short where there are fewer than four numbers. */
 uint8_t kulfizan_quote(const uint8_t *sheet, size_t sheet_length, const uint8_t *kind, size_t kind_length, int64_t age,
                        int64_t year, int64_t span, uint64_t *quote, size_t quote_length);
+
+/* Prices one annuity of a sheet: 1 paid now and on each 1 January while alive, at most to age 120. The kind is one of the
+   words acoh and aper, with no byte after it, and the rate is in units of 10^-6. The quote is as above, in steps of 0.1.
+   Torn where the sheet or the kind is, off scale, no such age, year, span or rate, steep, and short where there are fewer
+   than four numbers. */
+uint8_t kulfizan_annuity(const uint8_t *sheet, size_t sheet_length, const uint8_t *kind, size_t kind_length, int64_t age,
+                         int64_t year, int64_t span, int64_t rate, uint64_t *quote, size_t quote_length);
 
 /* Writes the whole run of the desk into the buffer, and its length; bytes after the output keep their values. The input is
    a sheet and then query lines, as the programs take it from standard input; with `ends` 0 the output is what the program

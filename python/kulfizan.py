@@ -22,14 +22,15 @@ REFUSALS = {
     2: "off scale: a parameter, or K + 171*theta, is past its size",
     3: "no such age: the age is outside 0 to 120",
     4: "no such year: the year is outside the kind's range",
-    5: "no such span: the span is outside 0 to 121 - age; for q and expectancies, not 0",
+    5: "no such span: the span is outside 0 to 121 - age; for q, expectancies and annuities, not 0",
     6: "steep: a needed cell's log force leaves its range",
     7: "short: what is lent has too little room",
+    8: "no such rate: the rate is outside 0 to 200,000",
 }
 
 Quote = collections.namedtuple("Quote", "lower upper steps")
-Quote.__doc__ = """The two ends in units of 10^-9, and the figure's number of steps (of 0.00001, for an expectancy 0.1),
-None where it is open."""
+Quote.__doc__ = """The two ends in units of 10^-9, and the figure's number of steps (of 0.00001, for an expectancy or an
+annuity 0.1), None where it is open."""
 
 
 class Refused(Exception):
@@ -57,10 +58,11 @@ def load(where):
     counts, signed = ctypes.POINTER(ctypes.c_uint64), ctypes.c_int64
     library.kulfizan_read.argtypes = [data, size, numbers, size]
     library.kulfizan_write.argtypes = [numbers, size, data, size, counts]
-    library.kulfizan_quote.argtypes = [data, size, data, size, signed, signed, signed, counts, size]
+    library.kulfizan_quote.argtypes = [data, size, data, size, *[signed] * 3, counts, size]
+    library.kulfizan_annuity.argtypes = [data, size, data, size, *[signed] * 4, counts, size]
     library.kulfizan_run.argtypes = [data, size, ctypes.c_uint8, data, size, counts]
-    for call in (library.kulfizan_read, library.kulfizan_write, library.kulfizan_quote, library.kulfizan_run):
-        call.restype = ctypes.c_uint8
+    for name in ("read", "write", "quote", "annuity", "run"):
+        getattr(library, f"kulfizan_{name}").restype = ctypes.c_uint8
     return library
 
 
@@ -100,12 +102,14 @@ def write(values):
     return written(LIBRARY.kulfizan_write, numbers, count, room=LONGEST_SHEET)
 
 
-def quote(sheet, kind, age, year, span=0):
-    """The quote of a query of a sheet. The kind is "q", "coh", "per", "ecoh" or "eper"."""
+def quote(sheet, kind, age, year, span=0, rate=None):
+    """The quote of a query of a sheet. The kind is "q", "coh", "per", "ecoh" or "eper" with no rate, or "acoh" or "aper" with
+    one, in units of 10^-6; the other way round it is torn, as such a line is."""
     sheet, word = bytes(sheet), kind.encode()
-    (age, year, span), _ = signed((age, year, span))
+    call, rates = (LIBRARY.kulfizan_quote, ()) if rate is None else (LIBRARY.kulfizan_annuity, (rate,))
+    given, _ = signed((age, year, span, *rates))
     numbers = (ctypes.c_uint64 * QUOTE_LENGTH)()
-    accepted(LIBRARY.kulfizan_quote(sheet, len(sheet), word, len(word), age, year, span, numbers, QUOTE_LENGTH))
+    accepted(call(sheet, len(sheet), word, len(word), *given, numbers, QUOTE_LENGTH))
     lower, upper, printed, steps = numbers
     return Quote(lower, upper, steps if printed else None)
 
@@ -113,4 +117,4 @@ def quote(sheet, kind, age, year, span=0):
 def run(data, ends=False):
     """The whole run of the desk: a sheet and then query lines, as bytes, to what the program `quotes` prints, or `ends`."""
     data = bytes(data)
-    return written(LIBRARY.kulfizan_run, data, len(data), bool(ends), room=5 * len(data) + 139)
+    return written(LIBRARY.kulfizan_run, data, len(data), bool(ends), room=5 * len(data) + 161)

@@ -75,8 +75,8 @@ def run(library, data, ends, before, length):
     return into(library.kulfizan_run, data, len(data), ends, before=before, length=length)
 
 
-def quote(library, sheet, word, age, year, span, before):
-    """The number that a query gives, and the numbers after it."""
-    values = held("Q", before)
-    number = library.kulfizan_quote(sheet, len(sheet), word, len(word), age, year, span, values, len(before))
+def quote(library, sheet, word, *numbers, before):
+    """The number that a query of age, year and span gives, or an annuity's that has a rate too, and the numbers after it."""
+    call, values = library.kulfizan_annuity if len(numbers) == 4 else library.kulfizan_quote, held("Q", before)
+    number = call(sheet, len(sheet), word, len(word), *numbers, values, len(before))
     return number, kept(values, before)

@@ -19,8 +19,8 @@ import sheets
 from grid import HIGHEST, flat
 from quotes import FIRST_YEAR, KINDS, LAST_YEAR, OLDEST, OPEN, SURVIVALS, Quotes, rounded
 from reader import KEYS, LONGEST, SIZES, params_of, read
-from test_desk import EXAMPLES, FIXED, FLAT, LINE_ENDS, Input, closes_early, compared, complaint, damaged, endless, from_file
-from test_desk import full_device, off_scale, one_of_each, padded, piecewise, pool, some, torn_lines, with_value
+from test_desk import EXAMPLES, FIXED, FLAT, LINE_ENDS, RATED, Input, closes_early, compared, complaint, damaged, endless
+from test_desk import from_file, full_device, off_scale, one_of_each, padded, piecewise, pool, some, torn_lines, with_value
 from test_quotes import any_rate, at_limits, line_of, mild, moved, searched, usual
 
 SEED = 20142015
@@ -57,7 +57,7 @@ def fixed_rows():
     yield "flat, lower", FLAT + LOWER, {query: one + other + word for query, (one, other, word, _) in APART.items()}
     yield "lower, flat", LOWER + FLAT, {query: other + one + word for query, (one, other, _, word) in APART.items()}
     steep = dict.fromkeys(APART, b" no=6") | {b"kind=q age=121 year=2020 span=0": b" no=3"}
-    steep |= {b"kind=acoh age=65 year=2020 span=0 rate=200001": b" no=8", b"kind=aper age=65 year=2020 span=1 rate=-1": b" no=5"}
+    steep |= {RATED + b" rate=200001": b" no=8", b"kind=aper age=65 year=2020 span=1 rate=-1": b" no=5"}
     steep[b"kind=aper age=120 year=2014 span=0 rate=1"] = b" fig=1.0 fig=1.0 values=near units=0"
     for name, data in (("flat, steep", FLAT + STEEP), ("steep, flat", STEEP + FLAT), ("steep twice", STEEP * 2)):
         yield name, data, steep

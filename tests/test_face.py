@@ -1,10 +1,11 @@
-"""The library's calls from other languages: every answer to a query of a sheet against a second implementation, the refusal,
-both ends and the figure, with every number that was lent; the whole run of the desk, with every byte that was lent; the Python
-module's own functions; and the example in C.
+"""The library's calls from other languages: every answer to a query of a sheet, with a rate or without, against a second
+implementation, the refusal, both ends and the figure, with every number that was lent; the whole run of the desk, with every
+byte that was lent; the Python module's own functions; and the example in C.
 
 Sheets, sets and the two calls between them are tests/test_sheets.py. An argument is taken as the seed.
 """
 import collections
+import itertools
 import os
 import pathlib
 import random
@@ -19,7 +20,7 @@ import sheets
 import test_quotes
 from face import GREATEST, LEAST, QUOTE_LENGTH, ROOT
 from grid import flat
-from quotes import KINDS, OPEN, Quotes, figure
+from quotes import ANNUITIES, KINDS, OPEN, UNRATED, Quotes, figure
 from reader import KEYS, LIMITS, LONGEST, SHORT, SIZES, TORN, numbers_of, params_of, read
 
 SEED = 20142065
@@ -31,6 +32,7 @@ PLACES = (QUOTE_LENGTH, QUOTE_LENGTH, QUOTE_LENGTH, QUOTE_LENGTH + 1, 9, QUOTE_L
 AGES = (LEAST, LEAST + 1, -(2**32) + 65, -1, 0, 65, 120, 121, 2**32 + 65, GREATEST)
 YEARS = (LEAST, 2013, 2014, 2064, 2065, 2184, 2185, 2**32 + 2020, GREATEST)
 SPANS = (LEAST, -1, 0, 1, 2**32, 2**32 + 1, GREATEST)
+RATES = (LEAST, -(2**32) + 30_000, -1, 0, 1, 30_000, 199_999, 200_000, 200_001, 2**32, 2**32 + 30_000, GREATEST)
 
 
 def any_number(draw):
@@ -39,16 +41,23 @@ def any_number(draw):
 
 
 def at_ends(draw):
-    """Numbers at and past the limits of the table and at both ends of 64 bits, in all combinations, and any others."""
-    yield from ((kind, age, year, span) for kind in KINDS for age in AGES for year in YEARS for span in SPANS)
+    """Numbers at and past the limits of the table and at both ends of 64 bits, in all combinations, and any others; all rates
+    where nothing else is refused, else some."""
+    yield from itertools.product(UNRATED, AGES, YEARS, SPANS)
+    for query in itertools.product(ANNUITIES, AGES, YEARS, SPANS):
+        yield from ((*query, rate) for rate in (RATES if query[1:] == (65, 2014, 0) else draw.sample(RATES, 2)))
     for _ in range(300):
-        yield (draw.choice(KINDS), *(draw.choice((65, 2020, 0, any_number(draw))) for _ in range(3)))
+        kind = draw.choice(KINDS)
+        numbers = 4 if kind in ANNUITIES else 3
+        yield (kind, *(draw.choice((65, 2020, 0, any_number(draw))) for _ in range(numbers)))
+        yield (draw.choice(ANNUITIES), 65, 2020, 0, any_number(draw))
 
 
 def cases(draw):
     """Sheets with queries: all limits, every refusal, realistic and extreme sets, and figures that are open."""
     yield test_quotes.case("64 bits", flat(), list(at_ends(draw)))
     yield from test_quotes.fixed_cases()
+    yield from test_quotes.flat_prices()
     yield from test_quotes.limit_cases(draw)
     yield from test_quotes.refused_cases(draw)
     yield from test_quotes.realistic_cases(draw, 8)
@@ -91,14 +100,14 @@ def compare_queries(count, counts, draw, library, one):
             before = lent(draw, places)
             wanted = after(refused, quoted, before)
             counts["short"] += wanted[0] == SHORT
-            got = face.quote(library, one.data, kind.encode(), *numbers, before)
+            got = face.quote(library, one.data, kind.encode(), *numbers, before=before)
             count.take(got == wanted, f"{one.name}, {query}, {places} places: {got} and not {wanted}")
 
 
 def met(count, counts):
     """Every answer that there is was met."""
-    wanted = [f"{kind} {what}" for kind in KINDS for what in ("printed", "open")] + [f"refused {no}" for no in range(1, 7)]
-    for what in wanted + ["short"]:
+    wanted = [f"{kind} {what}" for kind in KINDS for what in ("printed", "open")]
+    for what in wanted + [f"refused {no}" for no in test_quotes.REFUSALS] + ["short"]:
         count.take(counts[what] > 0, f"no case of: {what}")
 
 
@@ -119,17 +128,18 @@ def words(draw):
 
 
 def compare_words(count, draw, library):
-    """Such a word is torn whatever the sheet, the age and the places are."""
+    """Such a word is torn whatever the sheet, the age and the places are; and so are the words of a rate without one, and the
+    other way round."""
     good = sheets.text(flat())
     off_scale = sheets.text(dict(flat(), a=SIZES["a"] + 1))
-    known = {kind.encode() for kind in KINDS}
     for word in words(draw):
-        if word in known:
-            continue
-        sheet, age = draw.choice((good, good, off_scale, b"")), draw.choice((65, 65, 121, LEAST))
-        before = lent(draw, draw.choice(PLACES))
-        got = face.quote(library, sheet, word, age, 2020, 0, before)
-        count.take(got == (TORN, before), f"the kind {word}: {got[0]}")
+        for kinds, rates in ((UNRATED, ()), (ANNUITIES, (0, 30_000, 200_001))):
+            if word.decode("latin-1") in kinds:
+                continue
+            sheet, age = draw.choice((good, good, off_scale, b"")), draw.choice((65, 65, 121, LEAST))
+            before, rate = lent(draw, draw.choice(PLACES)), [draw.choice(rates)] if rates else []
+            got = face.quote(library, sheet, word, age, 2020, 0, *rate, before=before)
+            count.take(got == (TORN, before), f"the kind {word}, rate {rate}: {got[0]}")
 
 
 # ---- the whole run
@@ -137,10 +147,11 @@ def compare_words(count, draw, library):
 def inputs(draw):
     """Sheets with lines after them: good, torn and refused ones, many, and none; refused sheets; and inputs at the longest."""
     sheet = sheets.text(flat())
-    queries = (("ecoh", 65, 2020, 0), ("q", 65, 2020, 0), ("coh", 119, 2020, 2), ("q", 121, 1, -1), ("per", 0, 2064, 122))
+    queries = [("ecoh", 65, 2020, 0), ("q", 65, 2020, 0), ("coh", 119, 2020, 2), ("q", 121, 1, -1), ("per", 0, 2064, 122)]
+    queries += [("acoh", 65, 2020, 0, 30_000), ("aper", 0, 2064, 0, 0), ("aper", 120, 2014, 0, 200_001)]
     lines = [test_quotes.line_of(query) for query in queries]
     good = lines[0]
-    lines += [b"\n", b"kind=q\n", good[:-1] + b" \n", good.upper(), draw.randbytes(50) + b"\n"]
+    lines += [b"\n", b"kind=q\n", good[:-1] + b" \n", good[:-1] + b" rate=0\n", good.upper(), draw.randbytes(50) + b"\n"]
     yield from (b"", b"\n", sheet, sheet[:-1], b"\n" + sheet, sheets.text(dict(flat(), a=SIZES["a"] + 1)) + good)
     yield sheets.text(dict(flat(), A=[0] * 91)) + good
     for size in (LONGEST - 1, LONGEST, LONGEST + 1):
@@ -157,7 +168,7 @@ def compare_runs(count, draw, module):
         for ends in (0, draw.choice((1, 2, 128, 255))):
             wanted = desk.run(data, ends != 0)
             count.take(module.run(data, ends != 0) == wanted, f"a run of {len(data)} bytes gives something else")
-            need = 5 * len(data) + 139
+            need = 5 * len(data) + 161
             for room in (need, need - 1, need + draw.randrange(1, 300), draw.randrange(need)):
                 before, length = draw.randbytes(room), draw.getrandbits(64)
                 got = face.run(module.LIBRARY, data, ends, before, length)
@@ -185,11 +196,13 @@ def compare_module(count, draw, module):
     largest = [1] + [0 if key == "theta" else -most for key, most in zip(KEYS, LIMITS)]
     count.take(module.read(module.write(largest)) == largest, "a set at its limits is not read back")
     given = Quotes(params)
-    for kind, age, year in (("q", 65, 2020), ("ecoh", 65, 2020), ("per", 30, 2064)):
-        no, numbers = answer(given, 0, (kind, age, year, 0))
+    asked = [("q", 65, 2020, 0), ("ecoh", 65, 2020, 0), ("per", 30, 2064, 0)]
+    for query in asked + [("acoh", 65, 2020, 0, 30_000), ("aper", 119, 2064, 0, 0), ("acoh", 120, 2014, 0, 200_000)]:
+        no, numbers = answer(given, 0, query)
         wanted = None if no else (*numbers[:2], numbers[3] if numbers[2] else None)
-        got = raised(module.quote, sheet, kind, age, year) or tuple(module.quote(sheet, kind, age, year))
+        got = raised(module.quote, sheet, *query) or tuple(module.quote(sheet, *query))
         count.take(got == (no or wanted), f"quote gives {got} and not {no or wanted}")
+    count.take(module.quote(sheet, "aper", 120, 2020, rate=0) == (10**9, 10**9, 10), "an annuity at 120 is not 1")
     off_scale, steep = sheets.text(dict(flat(), a=SIZES["a"] + 1)), sheets.text(dict(flat(), A=[0] * 91))
     refusals = [
         (TORN, module.read, b""), (2, module.read, off_scale), (TORN, module.write, []), (TORN, module.write, values + [0]),
@@ -198,13 +211,19 @@ def compare_module(count, draw, module):
         (2, module.quote, off_scale, "q", 121, 2020), (3, module.quote, sheet, "q", 121, 2020),
         (3, module.quote, sheet, "q", LEAST, LEAST, LEAST), (4, module.quote, sheet, "q", 65, 2185),
         (5, module.quote, sheet, "q", 65, 2020, 1), (6, module.quote, steep, "q", 65, 2020),
+        (TORN, module.quote, sheet, "acoh", 65, 2020), (TORN, module.quote, sheet, "ecoh", 65, 2020, 0, 0),
+        (TORN, module.quote, off_scale, "q", 121, 2020, 0, -1), (5, module.quote, sheet, "acoh", 65, 2020, 1, -1),
+        (8, module.quote, steep, "aper", 65, 2020, 0, 200_001), (6, module.quote, steep, "aper", 65, 2020, 0, 200_000),
+        ("OverflowError", module.quote, sheet, "acoh", 65, 2020, 0, GREATEST + 1),
+        ("TypeError", module.quote, sheet, "acoh", 65, 2020, 0, 0.03),
         ("OverflowError", module.quote, sheet, "q", GREATEST + 1, 2020), ("TypeError", module.quote, sheet, "q", 65.5, 2020),
         ("OverflowError", module.write, [0, LEAST - 1] + values[2:]),
     ]
     for wanted, call, *rest in refusals:
         got = raised(call, *rest)
         count.take(got == wanted, f"{call.__name__} {str(rest[-3:])[:60]}: {got} and not {wanted}")
-    count.take("torn" in str(module.Refused(1)), "a refusal has no words")
+    for no, word in ((1, "torn"), (8, "rate")):
+        count.take(word in str(module.Refused(no)), f"refusal {no} has no words")
 
 
 def compare_places(count, module):
@@ -232,10 +251,10 @@ def compare_places(count, module):
 
 # ---- the example in C
 
-def shown(data):
-    """What the example prints for a sheet, and its exit status."""
+def shown(data, *rate):
+    """What the example prints for a sheet, or a sheet and a rate, and its exit status."""
     no, which = read(data)
-    no, numbers = answer(None if no else Quotes(params_of(which)), no, ("ecoh", 65, 2015, 0))
+    no, numbers = answer(None if no else Quotes(params_of(which)), no, ("acoh" if rate else "ecoh", 65, 2015, 0, *rate))
     if no:
         return 1, f"no={no}\n"
     lower, upper, printed, steps = numbers
@@ -250,12 +269,14 @@ def compare_example(count, draw):
     with tempfile.NamedTemporaryFile() as file:
         for data in inputs:
             pathlib.Path(file.name).write_bytes(data)
-            done = subprocess.run([face.EXAMPLE, file.name], capture_output=True, check=False)
-            got, wanted = (done.returncode, done.stdout.decode()), shown(data)
-            count.take(got == wanted, f"the example prints {got} and not {wanted}")
-        for words in ([], [file.name, file.name], [file.name + "-none"]):
+            for rate in ([], [30_000], [0], [-1], [200_001]):
+                done = subprocess.run([face.EXAMPLE, file.name, *map(str, rate)], capture_output=True, check=False)
+                got, wanted = (done.returncode, done.stdout.decode()), shown(data, *rate)
+                count.take(got == wanted, f"the example with the rate {rate} prints {got} and not {wanted}")
+        rates = ([file.name, rate] for rate in (file.name, "", "3%", "0.03", str(2**63)))
+        for words in ([], [file.name, "0", "0"], [file.name + "-none"], *rates):
             done = subprocess.run([face.EXAMPLE, *words], capture_output=True, check=False)
-            count.take(done.returncode == 2 and not done.stdout, f"the example with {len(words)} files")
+            count.take(done.returncode == 2 and not done.stdout, f"the example with {words[1:]}")
 
 
 def main():

@@ -1,9 +1,9 @@
 // The library's face for programs in other languages: a sheet read into numbers, numbers written as a sheet, a query of a
-// sheet answered, and the whole run of the desk.
+// sheet answered, with a rate or without, and the whole run of the desk.
 ghost use mathlib.Core.Path.{_≡_};
 ghost use lib.ListN.{length};
 ghost use Rattle.set_numbers.specs.SetNumbers.{readNo, numbersAfter, writeNo, bufferAfter, lengthAfter};
-ghost use Rattle.sheet_quote.specs.SheetQuote.{sheetAnswer, quoteNo, quoteAfter};
+ghost use Rattle.sheet_quote.specs.SheetQuote.{kindOf, ratedKindOf, sheetAnswer, quoteNo, quoteAfter};
 ghost use Rattle.kulfizan.specs.Run.{runNo, runBuffer, runLength};
 
 // Reads a sheet into the first 369 numbers: the sex, a, theta, K and k, and then A, B, alpha and beta of each age. The
@@ -27,8 +27,9 @@ pub extern "C" fn kulfizan_write(values: &[i64], buffer: &mut [u8], len: &mut u6
     set_numbers::write_from(values, buffer, len)
 }
 
-// Answers a query of a sheet in the first four numbers: the two ends in units of 10^-9, 1 where the figure is printed and 0
-// where it is open, and its steps. The refusal's number, or 0; refused, the call leaves every number as it was.
+// Answers a query of a sheet, of a kind that takes no rate, in the first four numbers: the two ends in units of 10^-9, 1 where
+// the figure is printed and 0 where it is open, and its steps. The refusal's number, or 0; refused, the call leaves every number
+// as it was.
 #[no_mangle]
 pub extern "C" fn kulfizan_quote(
     sheet: &[u8],
@@ -38,16 +39,37 @@ pub extern "C" fn kulfizan_quote(
     span: i64,
     quote: &mut [u64],
 ) -> u8
-    ensures { λ r. ⌜ r ≡ quoteNo (sheetAnswer (now (sheet .entry)) (now (kind .entry)) age year span)
+    ensures { λ r. ⌜ r ≡ quoteNo (sheetAnswer (now (sheet .entry)) (kindOf (now (kind .entry))) age year span)
         (length (now (quote .entry))) ⌝ }
-    ensures { λ r. ⌜ now (quote .exit) ≡ quoteAfter (sheetAnswer (now (sheet .entry)) (now (kind .entry)) age year span)
+    ensures { λ r. ⌜ now (quote .exit) ≡ quoteAfter
+        (sheetAnswer (now (sheet .entry)) (kindOf (now (kind .entry))) age year span)
         (now (quote .entry)) ⌝ }
 {
     sheet_quote::quote_into(sheet, kind, age, year, span, quote)
 }
 
+// The same of a kind that takes a rate, in units of 10^-6.
+#[no_mangle]
+pub extern "C" fn kulfizan_annuity(
+    sheet: &[u8],
+    kind: &[u8],
+    age: i64,
+    year: i64,
+    span: i64,
+    rate: i64,
+    quote: &mut [u64],
+) -> u8
+    ensures { λ r. ⌜ r ≡ quoteNo (sheetAnswer (now (sheet .entry)) (ratedKindOf (now (kind .entry)) rate) age year span)
+        (length (now (quote .entry))) ⌝ }
+    ensures { λ r. ⌜ now (quote .exit) ≡ quoteAfter
+        (sheetAnswer (now (sheet .entry)) (ratedKindOf (now (kind .entry)) rate) age year span)
+        (now (quote .entry)) ⌝ }
+{
+    sheet_quote::annuity_into(sheet, kind, age, year, span, rate, quote)
+}
+
 // Writes the whole run of the desk on an input into the buffer, and its length: as the program `quotes` prints it where
-// `ends` is 0, else as `ends` does. 0, or 7 where the buffer has fewer than 5·n + 139 bytes for n bytes of input; refused, the
+// `ends` is 0, else as `ends` does. 0, or 7 where the buffer has fewer than 5·n + 161 bytes for n bytes of input; refused, the
 // call leaves every byte and the length as they were.
 #[no_mangle]
 pub extern "C" fn kulfizan_run(input: &[u8], ends: u8, out: &mut [u8], len: &mut u64) -> u8

@@ -1,10 +1,11 @@
 -- What a query of a sheet is answered, and what stands in the numbers after, in each case.
 use mathlib.Core.Path.{_≡_, refl, sym, ap, _∙_}
+use mathlib.Core.Bool.{true, false}
 use mathlib.Core.List.{List, [], _∷_}
 use Prim.Native.Nat.{ℕ, _≤_, _<_}
 use borrow.Author.Tests.{le-leb, lt-leb, ne-eqb}
 use lib.IntN.{ℤ}
-use lib.ListN.{length, drop, set}
+use lib.ListN.{length, drop, set, drop-of-length-le}
 use lib.Seq.{sets-eq}
 use Rattle.tokens.specs.Text.{Parse, torn, taken}
 use Rattle.tokens.specs.Steps.{goes, stops}
@@ -18,49 +19,82 @@ use Rattle.path_quotes.specs.declared.Quote.{Quote}
 use Rattle.path_quotes.specs.declared.Answer.{Answer}
 use Rattle.path_quotes.specs.declared.Answer.the-variants.{Quoted, Refused}
 use Rattle.quote.specs.Quote.{answerOf}
-use Rattle.query.specs.Query.{onOffer, readWord}
+use Rattle.query.specs.Query.{onOffer, takesRate, withRate, readWord}
 use Rattle.query.proofs.QuerySteps.{followed, at-end}
-use Rattle.sheet_quote.specs.SheetQuote.{kindOf, answerTo, sheetAnswer, quoteLength, printedNumber, stepsNumber}
-use Rattle.sheet_quote.specs.SheetQuote.{quoteNumbers, quoteOver, quotedNo, quotedAfter, quoteNo, quoteAfter}
+use Rattle.sheet_quote.specs.SheetQuote.{wordKind, kindOf, ratedKindOf, answerTo, sheetAnswer}
+use Rattle.sheet_quote.specs.SheetQuote.{quoteLength, printedNumber, stepsNumber, quoteNumbers, quoteOver}
+use Rattle.sheet_quote.specs.SheetQuote.{quotedNo, quotedAfter, quoteNo, quoteAfter}
 
 -- ---- the kind of a word
 
 module _ (word : List ℕ) where
-  pub word-torn : readWord onOffer word ≡ torn → kindOf word ≡ torn
-  unfolding kindOf
+  -- rates aside
+  pub word-torn : readWord onOffer word ≡ torn → wordKind word ≡ torn
+  unfolding wordKind
   word-torn e = stops _ e
 
   module _ {kind : Kind} (n : ℕ) (e : readWord onOffer word ≡ taken kind (drop n word)) where
-    pub word-goes-on : n < length word → kindOf word ≡ torn
-    unfolding kindOf
+    pub word-goes-on : n < length word → wordKind word ≡ torn
+    unfolding wordKind
     word-goes-on h = goes _ e ∙ followed kind word n h
 
-    pub word-ends : length word ≤ n → kindOf word ≡ taken kind []
+    pub word-ends : length word ≤ n → wordKind word ≡ taken kind (drop n word)
+    unfolding wordKind
+    word-ends h = goes _ e ∙ at-end kind word n h ∙ rw (drop-of-length-le word h)
+
+  -- where no rate is given, and where one is
+  pub kind-torn : wordKind word ≡ torn → kindOf word ≡ torn
+  unfolding kindOf
+  kind-torn e = stops _ e
+
+  pub rated-kind-torn : (rate : ℤ) → wordKind word ≡ torn → ratedKindOf word rate ≡ torn
+  unfolding ratedKindOf
+  rated-kind-torn rate e = stops _ e
+
+  module _ {kind : Kind} {rest : List ℕ} (e : wordKind word ≡ taken kind rest) where
+    pub rate-wanting : takesRate kind ≡ true → kindOf word ≡ torn
     unfolding kindOf
-    word-ends h = goes _ e ∙ at-end kind word n h
+    rate-wanting t = goes _ e ∙ rw t
+
+    pub no-rate : takesRate kind ≡ false → kindOf word ≡ taken kind rest
+    unfolding kindOf
+    no-rate t = goes _ e ∙ rw t
+
+    pub rate-unasked : (rate : ℤ) → takesRate kind ≡ false → ratedKindOf word rate ≡ torn
+    unfolding ratedKindOf
+    rate-unasked rate t = goes _ e ∙ rw t
+
+    pub rate-given : (rate : ℤ) → takesRate kind ≡ true → ratedKindOf word rate ≡ taken (withRate kind rate) rest
+    unfolding ratedKindOf
+    rate-given rate t = goes _ e ∙ rw t
 
 -- ---- the answer
 
-module _ (sheet word : List ℕ) (age year span : ℤ) where
-  pub answer-torn : kindOf word ≡ torn → Refused Torn ≡ sheetAnswer sheet word age year span
-  unfolding sheetAnswer answerTo
-  answer-torn e = sym (ap (λ (k : Parse Kind). answerTo k (readSheet sheet) age year span) e)
+module _ (sheet : List ℕ) (age year span : ℤ) where
+  -- of a torn kind, and of one that was read, whatever follows it
+  module _ {k : Parse Kind} where
+    pub answer-torn : k ≡ torn → sheetAnswer sheet k age year span ≡ Refused Torn
+    unfolding sheetAnswer answerTo
+    answer-torn e = ap (λ (q : Parse Kind). answerTo q (readSheet sheet) age year span) e
 
-  module _ {kind : Kind} (e : kindOf word ≡ taken kind []) {got : Reading} (r : got ≡ readSheet sheet) {number : ℕ}
+    pub answer-taken : {kind : Kind} {rest : List ℕ} → k ≡ taken kind rest
+        → sheetAnswer sheet k age year span ≡ sheetAnswer sheet (taken kind []) age year span
+    unfolding sheetAnswer answerTo
+    answer-taken e = ap (λ (q : Parse Kind). answerTo q (readSheet sheet) age year span) e
+
+  module _ (kind : Kind) {got : Reading} (r : got ≡ readSheet sheet) {number : ℕ}
       (n : number ≡ refusalNumber (got .refusal)) where
     -- the answer is that of what was read
-    of-read : answerTo (taken kind []) got age year span ≡ sheetAnswer sheet word age year span
+    of-read : answerTo (taken kind []) got age year span ≡ sheetAnswer sheet (taken kind []) age year span
     unfolding sheetAnswer
-    of-read =
-        ap (λ (g : Reading). answerTo (taken kind []) g age year span) r
-        ∙ sym (ap (λ (k : Parse Kind). answerTo k (readSheet sheet) age year span) e)
+    of-read = ap (λ (g : Reading). answerTo (taken kind []) g age year span) r
 
-    pub answer-refused : (number ≡ 0 → ⊥) → Refused (got .refusal) ≡ sheetAnswer sheet word age year span
+    pub answer-refused : (number ≡ 0 → ⊥) → Refused (got .refusal) ≡ sheetAnswer sheet (taken kind []) age year span
     unfolding answerTo
     answer-refused h = rw (← of-read, ← n, ne-eqb number 0 h)
 
     pub answer-given : number ≡ 0 → {a : Answer} → a ≡ answerOf (got .set) kind age year span
-        → a ≡ sheetAnswer sheet word age year span
+        → a ≡ sheetAnswer sheet (taken kind []) age year span
     unfolding answerTo
     answer-given h q = q ∙ rw (← of-read, ← n, h)
 
@@ -97,3 +131,13 @@ module _ {a : Answer} (before : List ℕ) {number : ℕ} where
   pub put-refused : {r : Refusal} → a ≡ Refused r → number ≡ refusalNumber r → PutAnswer a before number before
   unfolding quoteNo quoteAfter
   put-refused e k = rw e (k, refl)
+
+-- a query of a sheet, by the kind that was read
+module _ (sheet : List ℕ) {k : Parse Kind} (age year span : ℤ) (before : List ℕ) {number : ℕ} where
+  pub put-torn : k ≡ torn → number ≡ refusalNumber Torn → PutAnswer (sheetAnswer sheet k age year span) before number before
+  put-torn e n = put-refused before (answer-torn sheet age year span e) n
+
+  pub put-taken : {kind : Kind} {rest : List ℕ} → k ≡ taken kind rest
+      → {a : Answer} → a ≡ sheetAnswer sheet (taken kind []) age year span
+      → {after : List ℕ} → PutAnswer a before number after → PutAnswer (sheetAnswer sheet k age year span) before number after
+  put-taken e q put = rw (answer-taken sheet age year span e, ← q) put

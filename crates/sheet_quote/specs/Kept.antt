@@ -11,7 +11,7 @@ use lib.IntN.{ℤ}
 use lib.ListN.{length}
 use Rattle.tokens.specs.Text.{Parse, torn, taken}
 use Rattle.params.specs.declared.Refusal.{Refusal}
-use Rattle.params.specs.declared.Refusal.the-variants.{Accepted, Torn, OffScale, NoSuchAge, NoSuchYear, NoSuchSpan, Steep, Short}
+use Rattle.params.specs.declared.Refusal.the-variants.{Accepted, Torn, Short}
 use Rattle.params.specs.Refusals.{refusalNumber}
 use Rattle.sheet.specs.declared.Reading.{Reading}
 use Rattle.sheet.specs.Sheet.{readSheet}
@@ -20,8 +20,9 @@ use Rattle.path_quotes.specs.declared.Quote.{Quote}
 use Rattle.path_quotes.specs.declared.Answer.{Answer}
 use Rattle.path_quotes.specs.declared.Answer.the-variants.{Quoted, Refused}
 use Rattle.quote.specs.Quote.{refusalOf, quoteOf, answerBy, answerOf}
+use Rattle.quote.specs.AnswerLaws.{AnswerBy, quoted, refused, answer-by}
 use Rattle.quote.specs.Demand.{numberOf}
-use Rattle.sheet_quote.specs.SheetQuote.{kindOf, answerTo, sheetAnswer, quoteLength, quoteOver}
+use Rattle.sheet_quote.specs.SheetQuote.{answerTo, sheetAnswer, quoteLength, quoteOver}
 use Rattle.sheet_quote.specs.SheetQuote.{quotedNo, quotedAfter, quoteNo, quoteAfter}
 
 pub refused-keeps : (a : Answer) (before : List ℕ) → (quoteNo a (length before) ≡ 0 → ⊥) → quoteAfter a before ≡ before
@@ -46,15 +47,11 @@ unfolding numberOf
 numbered-refusal r h e = absurd (h e)
 
 numbered-by : (r : Refusal) (q : Quote) → Numbered (answerBy r q)
-unfolding answerBy numberOf refusalNumber
-numbered-by Accepted q e = record { quote = q; is = refl }
-numbered-by Torn q e = absurd (omega arith)
-numbered-by OffScale q e = absurd (omega arith)
-numbered-by NoSuchAge q e = absurd (omega arith)
-numbered-by NoSuchYear q e = absurd (omega arith)
-numbered-by NoSuchSpan q e = absurd (omega arith)
-numbered-by Steep q e = absurd (omega arith)
-numbered-by Short q e = absurd (omega arith)
+numbered-by r q = go (answer-by r q)
+  where
+    go : {a : Answer} → AnswerBy r q a → Numbered a
+    go (quoted e) z = record { quote = q; is = refl }
+    go (refused n) z = numbered-refusal r n z
 
 numbered-to : (k : Parse Kind) (got : Reading) (age year span : ℤ) → Numbered (answerTo k got age year span)
 unfolding answerTo refusalNumber answerOf
@@ -72,11 +69,11 @@ unfolding quoteNo numberOf
 number-of (Quoted q) places e = refl
 number-of (Refused r) places e = e
 
-pub accepted-quotes : (sheet word : List ℕ) (age year span : ℤ) (places : ℕ)
-    → quoteNo (sheetAnswer sheet word age year span) places ≡ 0 → IsQuote (sheetAnswer sheet word age year span)
+pub accepted-quotes : (sheet : List ℕ) (kind : Parse Kind) (age year span : ℤ) (places : ℕ)
+    → quoteNo (sheetAnswer sheet kind age year span) places ≡ 0 → IsQuote (sheetAnswer sheet kind age year span)
 unfolding sheetAnswer
-accepted-quotes sheet word age year span places e =
-    numbered-to (kindOf word) (readSheet sheet) age year span (number-of _ places e)
+accepted-quotes sheet kind age year span places e =
+    numbered-to kind (readSheet sheet) age year span (number-of _ places e)
 
 -- which then stands in the first places
 pub quote-stands : (q : Quote) (before : List ℕ) → quoteNo (Quoted q) (length before) ≡ 0

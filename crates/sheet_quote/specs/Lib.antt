@@ -1,5 +1,7 @@
 -- definitions
 pub mod SheetQuote
+-- examples
+pub mod Rows
 -- laws
 pub mod AnswerLaws
 pub mod Kept

@@ -1,4 +1,4 @@
--- A query of a sheet: its answer, the answer's number, and the four numbers in which a quote is told.
+-- A query of a sheet, with a rate or without: its answer, the answer's number, and the four numbers in which a quote is told.
 use mathlib.Core.Bool.{cond}
 use mathlib.Core.List.{List, [], _∷_, _++_}
 use Prim.Native.Nat.{ℕ}
@@ -18,13 +18,23 @@ use Rattle.path_quotes.specs.declared.Quote.{Quote}
 use Rattle.path_quotes.specs.declared.Answer.{Answer}
 use Rattle.path_quotes.specs.declared.Answer.the-variants.{Quoted, Refused}
 use Rattle.quote.specs.Quote.{answerOf}
-use Rattle.query.specs.Query.{onOffer, readWord, alone}
+use Rattle.query.specs.Query.{onOffer, takesRate, withRate, readWord, alone}
+
+-- ---- the kind
+
+-- the kind of a word, rates aside, and torn where the word is no kind's or goes on
+unfoldable pub wordKind : List ℕ → Parse Kind
+wordKind word = andThen (readWord onOffer word) (λ kind rest. alone kind rest)
+
+-- "A line of these kinds without `rate=`, or of another kind with it, is torn": so is a call. The kind of a word where no rate
+-- is given, and where one is
+unfoldable pub kindOf : List ℕ → Parse Kind
+kindOf word = andThen (wordKind word) (λ kind rest. cond (takesRate kind) torn (taken kind rest))
+
+unfoldable pub ratedKindOf : List ℕ → ℤ → Parse Kind
+ratedKindOf word rate = andThen (wordKind word) (λ kind rest. cond (takesRate kind) (taken (withRate kind rate) rest) torn)
 
 -- ---- the answer
-
--- the kind of a word, and torn where the word is no kind's or goes on
-unfoldable pub kindOf : List ℕ → Parse Kind
-kindOf word = andThen (readWord onOffer word) (λ kind rest. alone kind rest)
 
 -- torn, which has the lowest number; else the sheet's refusal; else the answer of its set
 unfoldable pub answerTo : Parse Kind → Reading → ℤ → ℤ → ℤ → Answer
@@ -32,8 +42,9 @@ answerTo torn got age year span = Refused Torn
 answerTo (taken kind rest) got age year span =
     cond (eqb (refusalNumber (got .refusal)) 0) (answerOf (got .set) kind age year span) (Refused (got .refusal))
 
-unfoldable pub sheetAnswer : List ℕ → List ℕ → ℤ → ℤ → ℤ → Answer
-sheetAnswer sheet word age year span = answerTo (kindOf word) (readSheet sheet) age year span
+-- the answer to a query of a sheet's bytes, by the kind that was read
+unfoldable pub sheetAnswer : List ℕ → Parse Kind → ℤ → ℤ → ℤ → Answer
+sheetAnswer sheet kind age year span = answerTo kind (readSheet sheet) age year span
 
 -- ---- a quote as four numbers: its ends, whether its figure is printed, and the figure's steps
 

@@ -1,11 +1,16 @@
-// A query of a sheet: the sheet's bytes, a kind's word, an age, a year and a span to an answer, and the answer as four
-// numbers in places that the caller lends.
+// A query of a sheet: the sheet's bytes, a kind's word, an age, a year and a span, and for an annuity a rate, to an answer, and
+// the answer as four numbers in places that the caller lends.
 ghost use mathlib.Core.Path.{_≡_};
+ghost use mathlib.Core.List.{[]};
 ghost use Prim.Native.Nat.{_≤_};
 ghost use lib.ListN.{length};
-ghost use Rattle.sheet_quote.specs.SheetQuote.{quoteLength, printedNumber, stepsNumber, sheetAnswer, quoteOver};
+ghost use Rattle.tokens.specs.Text.{taken};
+ghost use Rattle.query.specs.Code.{kindRead};
+ghost use Rattle.sheet_quote.specs.SheetQuote.{wordKind, kindOf, ratedKindOf, sheetAnswer};
+ghost use Rattle.sheet_quote.specs.SheetQuote.{quoteLength, printedNumber, stepsNumber, quoteOver};
 ghost use Rattle.sheet_quote.specs.SheetQuote.{quotedNo, quotedAfter, quoteNo, quoteAfter};
 use exact::Figure;
+use kinds::Kind;
 use params::Refusal;
 use path_quotes::Answer;
 use path_quotes::Quote;
@@ -14,16 +19,49 @@ use query::KindRead;
 // The two ends, whether the figure is printed, and its steps.
 const QUOTE_LENGTH: usize = 4;
 
-// The answer to a query of a sheet.
-fn sheet_answer(sheet: &[u8], word: &[u8], age: i64, year: i64, span: i64) -> Answer
-    ensures { λ r. ⌜ r ≡ sheetAnswer (now (sheet .entry)) (now (word .entry)) age year span ⌝ }
+// The kind of a whole word, rates aside.
+fn word_kind(word: &[u8]) -> KindRead
+    ensures { λ r. ⌜ kindRead (now (word .entry)) r ≡ wordKind (now (word .entry)) ⌝ }
 {
     let KindRead::Of(kind, end) = query::kind_at(word, 0) else {
-        return Answer::Refused(Refusal::Torn);
+        return KindRead::Torn;
     };
     if end < word.len() {
-        return Answer::Refused(Refusal::Torn);
+        return KindRead::Torn;
     }
+    KindRead::Of(kind, end)
+}
+
+// The kind of a word where no rate is given: torn where it takes one.
+fn kind_of(word: &[u8]) -> KindRead
+    ensures { λ r. ⌜ kindRead (now (word .entry)) r ≡ kindOf (now (word .entry)) ⌝ }
+{
+    let KindRead::Of(kind, end) = word_kind(word) else {
+        return KindRead::Torn;
+    };
+    if query::takes_rate(kind) {
+        return KindRead::Torn;
+    }
+    KindRead::Of(kind, end)
+}
+
+// The kind of a word with a rate: torn where it takes none.
+fn rated_kind_of(word: &[u8], rate: i64) -> KindRead
+    ensures { λ r. ⌜ kindRead (now (word .entry)) r ≡ ratedKindOf (now (word .entry)) rate ⌝ }
+{
+    let KindRead::Of(kind, end) = word_kind(word) else {
+        return KindRead::Torn;
+    };
+    if !query::takes_rate(kind) {
+        return KindRead::Torn;
+    }
+    KindRead::Of(query::with_rate(kind, rate), end)
+}
+
+// The answer to a query of a sheet.
+fn sheet_answer(sheet: &[u8], kind: Kind, age: i64, year: i64, span: i64) -> Answer
+    ensures { λ r. ⌜ r ≡ sheetAnswer (now (sheet .entry)) (taken kind []) age year span ⌝ }
+{
     let got = sheet_reader::read(sheet);
     let refusal = got.refusal;
     let set = got.set;
@@ -77,8 +115,19 @@ fn put_quote(numbers: &mut [u64], quote: Quote) -> u8
     params::refusal_number(Refusal::Accepted)
 }
 
-// Answers a query of a sheet in the first four numbers. The refusal's number, or 0; refused, the call leaves every number
-// as it was.
+// Puts an answer into the first four numbers: the refusal's number, or 0; refused, every number stays as it was.
+fn put_answer(numbers: &mut [u64], answer: Answer) -> u8
+    ensures { λ r. ⌜ r ≡ quoteNo answer (length (now (numbers .entry))) ⌝ }
+    ensures { λ r. ⌜ now (numbers .exit) ≡ quoteAfter answer (now (numbers .entry)) ⌝ }
+{
+    match answer {
+        Answer::Quoted(quote) => put_quote(numbers, quote),
+        Answer::Refused(refusal) => params::refusal_number(refusal),
+    }
+}
+
+// Answers a query of a sheet, of a kind that takes no rate, in the first four numbers. The refusal's number, or 0; refused,
+// the call leaves every number as it was.
 pub fn quote_into(
     sheet: &[u8],
     word: &[u8],
@@ -87,13 +136,36 @@ pub fn quote_into(
     span: i64,
     numbers: &mut [u64],
 ) -> u8
-    ensures { λ r. ⌜ r ≡ quoteNo (sheetAnswer (now (sheet .entry)) (now (word .entry)) age year span)
+    ensures { λ r. ⌜ r ≡ quoteNo (sheetAnswer (now (sheet .entry)) (kindOf (now (word .entry))) age year span)
         (length (now (numbers .entry))) ⌝ }
-    ensures { λ r. ⌜ now (numbers .exit) ≡ quoteAfter (sheetAnswer (now (sheet .entry)) (now (word .entry)) age year span)
+    ensures { λ r. ⌜ now (numbers .exit) ≡ quoteAfter
+        (sheetAnswer (now (sheet .entry)) (kindOf (now (word .entry))) age year span)
         (now (numbers .entry)) ⌝ }
 {
-    match sheet_answer(sheet, word, age, year, span) {
-        Answer::Quoted(quote) => put_quote(numbers, quote),
-        Answer::Refused(refusal) => params::refusal_number(refusal),
-    }
+    let KindRead::Of(kind, _) = kind_of(word) else {
+        return params::refusal_number(Refusal::Torn);
+    };
+    put_answer(numbers, sheet_answer(sheet, kind, age, year, span))
+}
+
+// The same of a kind that takes a rate.
+pub fn annuity_into(
+    sheet: &[u8],
+    word: &[u8],
+    age: i64,
+    year: i64,
+    span: i64,
+    rate: i64,
+    numbers: &mut [u64],
+) -> u8
+    ensures { λ r. ⌜ r ≡ quoteNo (sheetAnswer (now (sheet .entry)) (ratedKindOf (now (word .entry)) rate) age year span)
+        (length (now (numbers .entry))) ⌝ }
+    ensures { λ r. ⌜ now (numbers .exit) ≡ quoteAfter
+        (sheetAnswer (now (sheet .entry)) (ratedKindOf (now (word .entry)) rate) age year span)
+        (now (numbers .entry)) ⌝ }
+{
+    let KindRead::Of(kind, _) = rated_kind_of(word, rate) else {
+        return params::refusal_number(Refusal::Torn);
+    };
+    put_answer(numbers, sheet_answer(sheet, kind, age, year, span))
 }

@@ -1,57 +1,68 @@
--- `quote_into` meets its contract: a refusal's number, or a quote's numbers.
+-- `quote_into` meets its contract: torn where the word's kind is, else the numbers of the answer.
 use borrow.Author.Needs.{needs}
-use mathlib.Core.Path.{_≡_, sym, _∙_}
+use mathlib.Core.Path.{_≡_}
 use mir.Facts.{toZ-ofZ}
-use Rattle.sheet_quote.specs.SheetQuote.{sheetAnswer}
-use Rattle.sheet_quote.specs.AnswerLaws.{put-quoted, put-refused}
+use Rattle.query.specs.Code.{kindRead}
+use Rattle.query.proofs.QuerySteps.{kind-torn, kind-taken}
+use Rattle.sheet_quote.specs.SheetQuote.{kindOf}
+use Rattle.sheet_quote.specs.AnswerLaws.{put-torn, put-taken}
 use Rattle.sheet_quote.proofs.quote_into.Statement.{statement}
 use Rattle.sheet_quote.proofs.quote_into.Tie as tie
 
-sheet-answer-requires : tie.Need-sheet-answer-requires
-sheet-answer-requires c κs = search needs
+abbrev start : tie.After-kind-of → tie.Start
+start c = c .before .before .before .before
 
--- the answer, where the code has it
-answer : (c : tie.After-sheet-answer) → let s = c .before .before .before .before .args in
-    c .sheet-answer .result ≡ sheetAnswer (s .sheet .now) (s .word .now) (s .age) (s .year) (s .span)
-answer c =
-    let f = c .before .before .before .before .fits in
-    rw (toZ-ofZ (f .age), toZ-ofZ (f .year), toZ-ofZ (f .span)) at (c .sheet-answer .ensures)
+-- the kind that was read
+known : (c : tie.After-kind-of) → let s = start c in
+    kindRead (s .args .word .now) (c .kind-of .result) ≡ kindOf (s .args .word .now)
+known k = k .kind-of .ensures
 
-enum-known-quote : tie.Need-enum-known-quote
-enum-known-quote c = search needs
+kind-of-requires : tie.Need-kind-of-requires
+kind-of-requires c κs = search needs
 
-put-quote-requires : tie.Need-put-quote-requires
-put-quote-requires c κs = search needs
+enum-known-kind : tie.Need-enum-known-kind
+enum-known-kind c = search needs
 
-enum-known-refusal : tie.Need-enum-known-refusal
-enum-known-refusal c = search needs
+enum-told : tie.Need-enum-told
+enum-told c = search needs
 
 refusal-number-requires : tie.Need-refusal-number-requires
 refusal-number-requires c κs = search needs
 
+returns : tie.Need-returns
+returns c =
+    let t = c .before in
+    put-torn _ _ _ _ _ (kind-torn _ (known (t .before .before)) (t .enum-told .given .1)) (c .refusal-number .ensures)
+
+sheet-answer-requires : tie.Need-sheet-answer-requires
+sheet-answer-requires c κs = search needs
+
+put-answer-requires : tie.Need-put-answer-requires
+put-answer-requires c κs = search needs
+
 same-length : tie.Need-same-length
 same-length c = search needs
 
-returns : tie.Need-returns
-returns c =
-    let p = c .before .before in
-    let k = p .before .before .before in
-    put-quoted _ (sym (answer (k .before .before)) ∙ k .quote .given .1) (p .put-quote .ensures)
-
 returns-2 : tie.Need-returns-2
 returns-2 c =
-    let k = c .before .before in
-    put-refused _ (sym (answer (k .before .before)) ∙ k .refusal .given .1) (c .refusal-number .ensures)
+    let p = c .before .before in
+    let a = p .before in
+    let k = a .before .before .before in
+    let f = start (k .before .before) .fits in
+    put-taken _ _ _ _ _ (kind-taken _ (known (k .before .before)) (k .kind .given .1))
+    (rw (toZ-ofZ (f .age), toZ-ofZ (f .year), toZ-ofZ (f .span)) at (a .sheet-answer .ensures))
+    (p .put-answer .ensures)
 
 pub quote-into-spec : {M : Type 1} → statement M
 quote-into-spec =
     tie.close
     (tie.spec
-    sheet-answer-requires
-    enum-known-quote
-    put-quote-requires
-    enum-known-refusal
+    kind-of-requires
+    enum-known-kind
+    enum-told
     refusal-number-requires
-    same-length
     returns
+    sheet-answer-requires
+    put-answer-requires
+    same-length
     returns-2)

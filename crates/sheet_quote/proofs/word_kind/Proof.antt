@@ -1,0 +1,47 @@
+-- `word_kind` meets its contract: the kind at the front of the word, where nothing follows it.
+use borrow.Author.Needs.{needs}
+use mathlib.Core.Path.{_≡_, sym}
+use Prim.Native.Nat.{ℕ}
+use native.Mathlib.Omega.{arith}
+use lib.ListN.{drop}
+use Rattle.tokens.specs.Text.{taken}
+use Rattle.query.specs.Query.{onOffer, readWord}
+use Rattle.query.proofs.QuerySteps.{kind-torn, kind-taken}
+use Rattle.sheet_quote.specs.AnswerLaws.{word-torn, word-goes-on, word-ends}
+use Rattle.sheet_quote.proofs.word_kind.Statement.{statement}
+use Rattle.sheet_quote.proofs.word_kind.Tie as tie
+
+abbrev called : tie.After-known-told → tie.After-kind-at
+called c = c .before .before .before
+
+-- the place after the word
+abbrev after : tie.After-known-told → ℕ
+after c = c .before .kind .given .0 .1 .0
+
+-- the word's kind, and what follows it
+word-taken : (c : tie.After-known-told) → let w = called c .before .before .args .word .now in
+    readWord onOffer w ≡ taken (c .before .kind .given .0 .0) (drop (after c) w)
+word-taken c = kind-taken _ (called c .kind-at .ensures) (c .before .kind .given .1)
+
+kind-at-requires : tie.Need-kind-at-requires
+kind-at-requires c κs = search needs
+
+enum-known-kind : tie.Need-enum-known-kind
+enum-known-kind c = search needs
+
+enum-told : tie.Need-enum-told
+enum-told c = search needs
+
+returns : tie.Need-returns
+returns c =
+    let k = c .before .before in
+    sym (word-torn _ (kind-torn _ (k .kind-at .ensures) (c .enum-told .given .1)))
+
+returns-2 : tie.Need-returns-2
+returns-2 c = let k = c .before in sym (word-goes-on _ (after k) (word-taken k) (omega (arith, c .if1 .taken)))
+
+returns-3 : tie.Need-returns-3
+returns-3 c = let k = c .before in sym (word-ends _ (after k) (word-taken k) (omega (arith, c .if1 .left)))
+
+pub word-kind-spec : {M : Type 1} → statement M
+word-kind-spec = tie.close (tie.spec kind-at-requires enum-known-kind enum-told returns returns-2 returns-3)
