@@ -11,11 +11,11 @@ use Rattle.kinds.specs.declared.Kind.the-variants.{
   CohortAnnuity,
   PeriodAnnuity,
 }
-use Rattle.kinds.specs.Kinds.{ruleOf, rateAside, OneKind, stepOf}
+use Rattle.kinds.specs.Kinds.{ruleOf, withRate, rateAside, OneKind, stepOf}
 
 -- a kind's step is that of the kind with its rate aside
 step-aside : (k : Kind) → stepOf (ruleOf k .fold) ≡ stepOf (ruleOf (rateAside k) .fold)
-unfolding ruleOf rateAside stepOf
+unfolding ruleOf withRate rateAside stepOf
 step-aside Death = refl
 step-aside CohortSurvival = refl
 step-aside PeriodSurvival = refl

@@ -1,6 +1,6 @@
 -- The kinds of figure (paper 01, "Figures on offer"; paper 02, E1): of each the fold, the path and the years; and of each fold
 -- the path's length, the longest span, the step and how far apart the ends may lie.
-use mathlib.Core.Bool.{true, false}
+use mathlib.Core.Bool.{Bool, true, false}
 use mathlib.Core.Path.{_≡_}
 use Prim.Native.Nat.{ℕ, suc, _-_}
 use lib.IntN.{ℤ, pos, natAbs}
@@ -28,15 +28,29 @@ ruleOf kind.PeriodExpectancy = record { fold = Expectancy; cohort = false; years
 ruleOf (kind.CohortAnnuity rate) = record { fold = Annuity rate; cohort = true; years = pos quoteYears }
 ruleOf (kind.PeriodAnnuity rate) = record { fold = Annuity rate; cohort = false; years = pos quoteYears }
 
+-- "for these two kinds only"
+unfoldable pub takesRate : Kind → Bool
+takesRate kind.Death = false
+takesRate kind.CohortSurvival = false
+takesRate kind.PeriodSurvival = false
+takesRate kind.CohortExpectancy = false
+takesRate kind.PeriodExpectancy = false
+takesRate (kind.CohortAnnuity rate) = true
+takesRate (kind.PeriodAnnuity rate) = true
+
+-- the kind with another rate, where it takes one
+unfoldable pub withRate : Kind → ℤ → Kind
+withRate kind.Death rate = kind.Death
+withRate kind.CohortSurvival rate = kind.CohortSurvival
+withRate kind.PeriodSurvival rate = kind.PeriodSurvival
+withRate kind.CohortExpectancy rate = kind.CohortExpectancy
+withRate kind.PeriodExpectancy rate = kind.PeriodExpectancy
+withRate (kind.CohortAnnuity old) rate = kind.CohortAnnuity rate
+withRate (kind.PeriodAnnuity old) rate = kind.PeriodAnnuity rate
+
 -- one kind, whatever the rate
 unfoldable pub rateAside : Kind → Kind
-rateAside kind.Death = kind.Death
-rateAside kind.CohortSurvival = kind.CohortSurvival
-rateAside kind.PeriodSurvival = kind.PeriodSurvival
-rateAside kind.CohortExpectancy = kind.CohortExpectancy
-rateAside kind.PeriodExpectancy = kind.PeriodExpectancy
-rateAside (kind.CohortAnnuity rate) = kind.CohortAnnuity (pos 0)
-rateAside (kind.PeriodAnnuity rate) = kind.PeriodAnnuity (pos 0)
+rateAside k = withRate k (pos 0)
 
 abbrev pub OneKind : Kind → Kind → Type 0
 OneKind k k′ = rateAside k ≡ rateAside k′

@@ -12,7 +12,8 @@ use Rattle.kinds.specs.declared.Kind.{Kind}
 use Rattle.query.specs.declared.Query.{Query}
 use Rattle.query.specs.declared.KindRead.{KindRead}
 use Rattle.query.specs.declared.KindRead.the-variants.{Torn, Of}
-use Rattle.query.specs.Query.{onOffer, takesRate, withRate, readWord, readField, readRate, alone, readQuery}
+use Rattle.kinds.specs.Kinds.{takesRate, withRate}
+use Rattle.query.specs.Query.{onOffer, readWord, readField, readRate, alone, readQuery}
 use Rattle.query.specs.Code.{kindRead}
 
 -- ---- what is still to be read

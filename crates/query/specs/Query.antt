@@ -2,7 +2,7 @@
 -- `kind=q age=65 year=2020 span=0`; the line of an annuity (paper 02, E1) "for these two kinds only, ends with `rate=`":
 -- `kind=acoh age=65 year=2020 span=0 rate=30000`. What a line asks, and the text of what is asked.
 use Prim.Native.Nat.{ℕ}
-use mathlib.Core.Bool.{Bool, true, false, cond}
+use mathlib.Core.Bool.{cond}
 use mathlib.Core.List.{List, [], _∷_, _++_}
 use lib.IntN.{ℤ, pos}
 use Rattle.tokens.specs.Text.{bytesOf, Parse, torn, taken, takeText}
@@ -11,7 +11,7 @@ use Rattle.tokens.specs.Steps.{andThen}
 use Rattle.kinds.specs.declared.Kind.{Kind}
 use Rattle.kinds.specs.declared.Kind.the-variants.{Death, CohortSurvival, PeriodSurvival, CohortExpectancy, PeriodExpectancy}
 use Rattle.kinds.specs.declared.Kind.the-variants.{CohortAnnuity, PeriodAnnuity}
-use Rattle.kinds.specs.Kinds.{ruleOf, rateOf}
+use Rattle.kinds.specs.Kinds.{ruleOf, takesRate, withRate, rateOf}
 use Rattle.query.specs.declared.Query.{Query}
 
 -- ---- the kinds' words
@@ -32,32 +32,11 @@ onOffer =
     Death ∷ CohortSurvival ∷ PeriodSurvival ∷ CohortExpectancy ∷ PeriodExpectancy
     ∷ CohortAnnuity (pos 0) ∷ PeriodAnnuity (pos 0) ∷ []
 
--- ---- a kind's rate
+-- ---- a query's text
 
--- "for these two kinds only"
-unfoldable pub takesRate : Kind → Bool
-takesRate Death = false
-takesRate CohortSurvival = false
-takesRate PeriodSurvival = false
-takesRate CohortExpectancy = false
-takesRate PeriodExpectancy = false
-takesRate (CohortAnnuity rate) = true
-takesRate (PeriodAnnuity rate) = true
-
--- the kind with another rate, where it takes one
-unfoldable pub withRate : Kind → ℤ → Kind
-withRate Death rate = Death
-withRate CohortSurvival rate = CohortSurvival
-withRate PeriodSurvival rate = PeriodSurvival
-withRate CohortExpectancy rate = CohortExpectancy
-withRate PeriodExpectancy rate = PeriodExpectancy
-withRate (CohortAnnuity old) rate = CohortAnnuity rate
-withRate (PeriodAnnuity old) rate = PeriodAnnuity rate
-
+-- the rate of a kind that takes one
 abbrev pub kindRate : Kind → ℤ
 kindRate k = rateOf (ruleOf k .fold)
-
--- ---- a query's text
 
 unfoldable pub rateText : Kind → List ℕ
 rateText k = cond (takesRate k) (bytesOf " rate=" ++ numberText (kindRate k)) []

@@ -19,15 +19,15 @@ use Rattle.sheet.specs.SheetTrip.{then-taken}
 use Rattle.kinds.specs.declared.Kind.{Kind}
 use Rattle.kinds.specs.declared.Kind.the-variants.{Death, CohortSurvival, PeriodSurvival, CohortExpectancy, PeriodExpectancy}
 use Rattle.kinds.specs.declared.Kind.the-variants.{CohortAnnuity, PeriodAnnuity}
-use Rattle.kinds.specs.Kinds.{ruleOf, rateAside, rateOf}
+use Rattle.kinds.specs.Kinds.{ruleOf, takesRate, withRate, rateAside, rateOf}
 use Rattle.query.specs.declared.Query.{Query}
-use Rattle.query.specs.Query.{wordOf, onOffer, takesRate, withRate, kindRate, rateText, queryText}
+use Rattle.query.specs.Query.{wordOf, onOffer, kindRate, rateText, queryText}
 use Rattle.query.specs.Query.{readWord, readField, readRate, alone, readQuery}
 
 -- ---- a word
 
 word-reads : (k : Kind) (rest : List ℕ) → readWord onOffer (wordOf k ++ rest) ≡ taken (rateAside k) rest
-unfolding readWord onOffer wordOf bytesOf takeText rateAside
+unfolding readWord onOffer wordOf bytesOf takeText withRate rateAside
 word-reads Death rest = refl
 word-reads CohortSurvival rest = refl
 word-reads PeriodSurvival rest = refl

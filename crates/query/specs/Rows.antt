@@ -6,7 +6,8 @@ use Rattle.tokens.specs.Text.{bytesOf, torn, taken, takeText}
 use Rattle.tokens.specs.Number.{isDigit, digits, afterDigits, valueFrom, noLeadingZero, wellFormed}
 use Rattle.tokens.specs.Number.{readUnsigned, negated, positive, readNumber}
 use Rattle.kinds.specs.declared.Kind.the-variants.{Death, CohortExpectancy, CohortAnnuity, PeriodAnnuity}
-use Rattle.query.specs.Query.{wordOf, onOffer, takesRate, withRate, readWord, readField, readRate, alone, readQuery}
+use Rattle.kinds.specs.Kinds.{takesRate, withRate}
+use Rattle.query.specs.Query.{wordOf, onOffer, readWord, readField, readRate, alone, readQuery}
 
 -- ---- read
 

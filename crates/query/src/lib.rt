@@ -2,7 +2,8 @@
 ghost use mathlib.Core.Path.{_≡_};
 ghost use lib.ListN.{drop};
 ghost use Rattle.tokens.specs.Places.{numberRead};
-ghost use Rattle.query.specs.Query.{takesRate, withRate, onOffer, readWord, readField, readRate, readQuery};
+ghost use Rattle.kinds.specs.Kinds.{takesRate, withRate};
+ghost use Rattle.query.specs.Query.{onOffer, readWord, readField, readRate, readQuery};
 ghost use Rattle.query.specs.Code.{kindRead, queryRead};
 use kinds::Kind;
 use tokens::NumberRead;

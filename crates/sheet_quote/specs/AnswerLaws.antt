@@ -19,7 +19,8 @@ use Rattle.path_quotes.specs.declared.Quote.{Quote}
 use Rattle.path_quotes.specs.declared.Answer.{Answer}
 use Rattle.path_quotes.specs.declared.Answer.the-variants.{Quoted, Refused}
 use Rattle.quote.specs.Quote.{answerOf}
-use Rattle.query.specs.Query.{onOffer, takesRate, withRate, readWord}
+use Rattle.kinds.specs.Kinds.{takesRate, withRate}
+use Rattle.query.specs.Query.{onOffer, readWord}
 use Rattle.query.proofs.QuerySteps.{followed, at-end}
 use Rattle.sheet_quote.specs.SheetQuote.{wordKind, kindOf, ratedKindOf, answerTo, sheetAnswer}
 use Rattle.sheet_quote.specs.SheetQuote.{quoteLength, printedNumber, stepsNumber, quoteNumbers, quoteOver}

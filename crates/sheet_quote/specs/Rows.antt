@@ -4,7 +4,8 @@ use mathlib.Core.List.{[]}
 use lib.IntN.{pos}
 use Rattle.tokens.specs.Text.{bytesOf, torn, taken, takeText}
 use Rattle.kinds.specs.declared.Kind.the-variants.{CohortExpectancy, PeriodAnnuity}
-use Rattle.query.specs.Query.{wordOf, onOffer, takesRate, withRate, readWord, alone}
+use Rattle.kinds.specs.Kinds.{takesRate, withRate}
+use Rattle.query.specs.Query.{wordOf, onOffer, readWord, alone}
 use Rattle.sheet_quote.specs.SheetQuote.{wordKind, kindOf, ratedKindOf}
 
 expectancy : kindOf (bytesOf "ecoh") ≡ taken CohortExpectancy []

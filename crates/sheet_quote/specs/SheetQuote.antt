@@ -18,7 +18,8 @@ use Rattle.path_quotes.specs.declared.Quote.{Quote}
 use Rattle.path_quotes.specs.declared.Answer.{Answer}
 use Rattle.path_quotes.specs.declared.Answer.the-variants.{Quoted, Refused}
 use Rattle.quote.specs.Quote.{answerOf}
-use Rattle.query.specs.Query.{onOffer, takesRate, withRate, readWord, alone}
+use Rattle.kinds.specs.Kinds.{takesRate, withRate}
+use Rattle.query.specs.Query.{onOffer, readWord, alone}
 
 -- ---- the kind
 

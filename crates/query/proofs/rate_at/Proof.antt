@@ -5,7 +5,7 @@ use lib.ListN.{drop}
 use Rattle.tokens.specs.Text.{bytesOf, taken}
 use Rattle.tokens.specs.ReadLaws.{lacks, has, held, read-torn, read-taken}
 use Rattle.kinds.specs.declared.Kind.{Kind}
-use Rattle.query.specs.Query.{withRate}
+use Rattle.kinds.specs.Kinds.{withRate}
 use Rattle.query.proofs.QuerySteps.{rate-none, rate-torn, rate-taken}
 use Rattle.query.proofs.rate_at.Statement.{statement}
 use Rattle.query.proofs.rate_at.Tie as tie

@@ -1,7 +1,7 @@
 -- `takes_rate` meets its contract, case by case.
 use borrow.Author.Needs.{needs}
 use mathlib.Core.Path.{sym, ap}
-use Rattle.query.specs.Query.{takesRate}
+use Rattle.kinds.specs.Kinds.{takesRate}
 use Rattle.query.proofs.takes_rate.Statement.{statement}
 use Rattle.query.proofs.takes_rate.Tie as tie
 

@@ -4,7 +4,7 @@ use mathlib.Core.Path.{_≡_, sym, ap, _∙_}
 use mir.Facts.{toZ-ofZ}
 use Rattle.kinds.specs.declared.Kind.{Kind}
 use Rattle.kinds.specs.declared.Kind.the-variants.{CohortAnnuity, PeriodAnnuity}
-use Rattle.query.specs.Query.{withRate}
+use Rattle.kinds.specs.Kinds.{withRate}
 use Rattle.query.proofs.with_rate.Statement.{statement}
 use Rattle.query.proofs.with_rate.Tie as tie
 

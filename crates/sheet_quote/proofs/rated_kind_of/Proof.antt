@@ -6,7 +6,7 @@ use mir.Facts.{toZ-ofZ}
 use Rattle.tokens.specs.Text.{taken}
 use Rattle.tokens.specs.ReadLaws.{lacks, has}
 use Rattle.kinds.specs.declared.Kind.{Kind}
-use Rattle.query.specs.Query.{withRate}
+use Rattle.kinds.specs.Kinds.{withRate}
 use Rattle.query.proofs.QuerySteps as steps
 use Rattle.sheet_quote.specs.SheetQuote.{wordKind}
 use Rattle.sheet_quote.specs.AnswerLaws.{rated-kind-torn, rate-unasked, rate-given}
