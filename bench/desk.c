@@ -1,7 +1,8 @@
 /* desk QUOTES INPUT OUTPUT: times 1,000 queries of all kinds over one sheet, in turns in one run: by the program QUOTES, from
-   the file INPUT to the file OUTPUT, which are written and compared here; by kulfizan_run; and by kulfizan_quote for each query
-   alone. The last reads the sheet in each call: as many calls with an age past the last, which read it too and are then
-   refused, are timed in the same turns and taken off. The outputs must be the same, and each figure that of its quote. */
+   the file INPUT to the file OUTPUT, which are written and compared here; by kulfizan_run; and by kulfizan_quote, or
+   kulfizan_annuity, for each query alone. The last reads the sheet in each call: as many calls with an age past the last, which
+   read it too and are then refused, are timed in the same turns and taken off. The outputs must be the same, and each figure
+   that of its quote. */
 #include <fcntl.h>
 #include <inttypes.h>
 #include <spawn.h>
@@ -15,21 +16,21 @@
 #include "params.h"
 #include "timing.h"
 
-enum { TURNS = 80, QUERIES = 1000, KINDS = 5, FIRST_YEAR = 2014, MOST_INPUT = 65536, LONGEST_LINE = 139 };
+enum { TURNS = 80, QUERIES = 1000, KINDS = 7, FIRST_YEAR = 2014, MOST_INPUT = 65536, LONGEST_LINE = 161 };
 
-/* A kind: its word, how many years it has, whether it has spans, and the steps of its figure in one. */
+/* A kind: its word, how many years it has, whether it has spans, whether it has rates, and the steps of its figure in one. */
 typedef struct {
     const char *word;
-    int years, spans;
+    int years, spans, rates;
     uint64_t steps;
 } kind;
 
-static const kind kinds[KINDS] = {
-    {"q", 171, 0, 100000}, {"coh", 51, 1, 100000}, {"per", 51, 1, 100000}, {"ecoh", 51, 0, 10}, {"eper", 51, 0, 10}};
+static const kind kinds[KINDS] = {{"q", 171, 0, 0, 100000}, {"coh", 51, 1, 0, 100000}, {"per", 51, 1, 0, 100000},
+    {"ecoh", 51, 0, 0, 10}, {"eper", 51, 0, 0, 10}, {"acoh", 51, 0, 1, 10}, {"aper", 51, 0, 1, 10}};
 
 typedef struct {
     const kind *kind;
-    int age, year, span;
+    int age, year, span, rate;
 } query;
 
 static query queries[QUERIES];
@@ -49,12 +50,13 @@ static void stop(const char *why) {
 static query drawn(void) {
     const kind *k = kinds + draw(KINDS - 1);
     int age = (int)draw(COLUMN - 1), year = FIRST_YEAR + (int)draw(k->years - 1);
-    query q = {k, age, year, k->spans ? (int)draw(COLUMN - age) : 0};
+    query q = {k, age, year, k->spans ? (int)draw(COLUMN - age) : 0, k->rates ? (int)draw(KULFIZAN_HIGHEST_RATE) : 0};
     return q;
 }
 
 static size_t put_query(const query *q, char *text) {
-    return (size_t)sprintf(text, "kind=%s age=%d year=%d span=%d", q->kind->word, q->age, q->year, q->span);
+    int length = sprintf(text, "kind=%s age=%d year=%d span=%d", q->kind->word, q->age, q->year, q->span);
+    return (size_t)(q->kind->rates ? length + sprintf(text + length, " rate=%d", q->rate) : length);
 }
 
 /* The sheet and the queries as one input, in its file too. */
@@ -95,8 +97,12 @@ static void by_run(int which) {
 }
 
 static int quoted(const query *q, int age, uint64_t *quote) {
-    return kulfizan_quote((const uint8_t *)input, sheet_length, (const uint8_t *)q->kind->word, strlen(q->kind->word), age,
-        q->year, q->span, quote, KULFIZAN_QUOTE_LENGTH);
+    const uint8_t *sheet = (const uint8_t *)input, *word = (const uint8_t *)q->kind->word;
+    size_t length = strlen(q->kind->word);
+    if (q->kind->rates)
+        return kulfizan_annuity(sheet, sheet_length, word, length, age, q->year, q->span, q->rate, quote,
+            KULFIZAN_QUOTE_LENGTH);
+    return kulfizan_quote(sheet, sheet_length, word, length, age, q->year, q->span, quote, KULFIZAN_QUOTE_LENGTH);
 }
 
 static void by_quotes(int which) {

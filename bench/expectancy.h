@@ -1,4 +1,4 @@
-/* Life expectancies worked by C and by Arb, at one age in year n, counted from 2013. */
+/* Life expectancies worked by C and by Arb, and annuities by C, at one age in year n, counted from 2013. */
 #ifndef EXPECTANCY_H
 #define EXPECTANCY_H
 #include "compilers.h"
@@ -10,6 +10,10 @@ enum kind { COHORT, PERIOD };
 typedef int expectancy_in_c(const params *p, enum kind kind, int age, unsigned n, uint64_t *ends);
 expectancy_in_c expectancy_by_gcc, expectancy_by_clang;
 
-/* The same by ball arithmetic at 64 bits: the middle, in years. */
+/* The same of an annuity at a rate in units of 10^-6. */
+typedef int annuity_in_c(const params *p, enum kind kind, int age, unsigned n, unsigned rate, uint64_t *ends);
+annuity_in_c annuity_by_gcc, annuity_by_clang;
+
+/* An expectancy by ball arithmetic at 64 bits: the middle, in years. */
 double expectancy_by_arb(const params *p, enum kind kind, int age, unsigned n);
 #endif

@@ -1,5 +1,6 @@
-/* An expectancy on the grid in plain C: only the cells of its path, and the eleven H of a year where an age above 90 needs
-   them. A cohort steps K and kappa along; a period path works its closure once, and takes the forces from 80 to 90 from it. */
+/* An expectancy and an annuity on the grid in plain C: only the cells of the path, and the eleven H of a year where an age
+   above 90 needs them. A cohort steps K and kappa along; a period path works its closure once, and takes the forces from 80 to
+   90 from it. */
 #include "expectancy.h"
 #include "grid.h"
 
@@ -18,34 +19,68 @@ static int close_year(const params *p, int64_t period, pair kappa, closure *c) {
     return 1;
 }
 
-int COMPILED(expectancy)(const params *p, enum kind kind, int age, unsigned n, uint64_t *out) {
-    int64_t period = period_in(p, n);
-    pair kappa = kappa_in(p, n);
-    ends alive = {UNIT, UNIT}, total = {UNIT / 2, UNIT / 2}, force;
+/* Where a path stands: K and kappa of its year, the closure of the last year that needed one, and the survival so far. */
+typedef struct {
+    int64_t period;
+    pair kappa;
     closure c;
-    if (kind == PERIOD && !close_year(p, period, kappa, &c)) return 0;
-    for (int x = age; x < COLUMN; x++) {
-        if (x >= AGES) {
-            if (kind == COHORT && !close_year(p, period, kappa, &c)) return 0;
-            force = old_force(c.fitted, x);
-        } else if (x >= FIRST_CLOSED && kind == PERIOD) {
-            force = c.force[x - FIRST_CLOSED];
-        } else {
-            pair m = log_force(p, x, period, kappa);
-            if (steep(m)) return 0;
-            force = young_force(m);
-        }
-        ends s = exp_between(force);
-        alive.lower = alive.lower * s.lower / UNIT;
-        alive.upper = up(alive.upper * s.upper, UNIT);
-        total.lower += alive.lower;
-        total.upper += alive.upper;
-        if (kind == COHORT) {
-            period += p->theta;
-            kappa = next_kappa(p, kappa);
-        }
+    ends alive;
+} place;
+
+static int begin(const params *p, enum kind kind, unsigned n, place *at) {
+    at->period = period_in(p, n);
+    at->kappa = kappa_in(p, n);
+    at->alive.lower = at->alive.upper = UNIT;
+    return kind == COHORT || close_year(p, at->period, at->kappa, &at->c);
+}
+
+/* Survives the year at age x, to the next place. */
+static inline int survive(const params *p, enum kind kind, int x, place *at) {
+    ends force;
+    if (x >= AGES) {
+        if (kind == COHORT && !close_year(p, at->period, at->kappa, &at->c)) return 0;
+        force = old_force(at->c.fitted, x);
+    } else if (x >= FIRST_CLOSED && kind == PERIOD) {
+        force = at->c.force[x - FIRST_CLOSED];
+    } else {
+        pair m = log_force(p, x, at->period, at->kappa);
+        if (steep(m)) return 0;
+        force = young_force(m);
     }
-    out[0] = total.lower;
-    out[1] = total.upper;
+    ends s = exp_between(force);
+    at->alive.lower = at->alive.lower * s.lower / UNIT;
+    at->alive.upper = up(at->alive.upper * s.upper, UNIT);
+    if (kind == COHORT) {
+        at->period += p->theta;
+        at->kappa = next_kappa(p, at->kappa);
+    }
+    return 1;
+}
+
+int COMPILED(expectancy)(const params *p, enum kind kind, int age, unsigned n, uint64_t *out) {
+    place at;
+    if (!begin(p, kind, n, &at)) return 0;
+    out[0] = out[1] = UNIT / 2;
+    for (int x = age; x < COLUMN; x++) {
+        if (!survive(p, kind, x, &at)) return 0;
+        out[0] += at.alive.lower;
+        out[1] += at.alive.upper;
+    }
+    return 1;
+}
+
+int COMPILED(annuity)(const params *p, enum kind kind, int age, unsigned n, unsigned rate, uint64_t *out) {
+    place at;
+    ends discount = {UNIT, UNIT};
+    const uint64_t divisor = MILLION + rate;
+    out[0] = out[1] = UNIT;
+    if (age < COLUMN - 1 && !begin(p, kind, n, &at)) return 0;
+    for (int x = age; x < COLUMN - 1; x++) {
+        if (!survive(p, kind, x, &at)) return 0;
+        discount.lower = discount.lower * MILLION / divisor;
+        discount.upper = up(discount.upper * MILLION, divisor);
+        out[0] += discount.lower * at.alive.lower / UNIT;
+        out[1] += up(discount.upper * at.alive.upper, UNIT);
+    }
     return 1;
 }
