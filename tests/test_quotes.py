@@ -116,11 +116,11 @@ def fixed_cases():
     needy += [("ecoh", 0, 2014, 0), ("eper", 91, 2014, 0), ("acoh", 119, 2064, 0, 0), ("aper", 0, 2014, 0, MOST_RATE)]
     free = {("coh", 7, 2020, 0): "fig=1.00000", ("acoh", 120, 2064, 0, 0): "fig=1.0", ("aper", 120, 2014, 0, 30_000): "fig=1.0"}
     for a, end in ((HIGHEST, ""), (HIGHEST + 1, "no=6"), (LOWEST, ""), (LOWEST - 1, "no=6")):
-        rows = dict.fromkeys(needy, end) | free | {query: "no=8" for query in needless_rates()}
+        rows = dict.fromkeys(needy, end) | free | {query: "no=8" for query in refused_rates()}
         yield case(f"every A {a}", dict(flat(), A=[a] * 91), list(rows), rows)
 
 
-def needless_rates():
+def refused_rates():
     """Annuities whose rate is refused, whatever their cells are."""
     for kind, age, rate in itertools.product(ANNUITIES, (0, 119, 120), (LEAST, -1, MOST_RATE + 1, 2**32, GREATEST)):
         yield kind, age, FIRST_YEAR, 0, rate
@@ -137,7 +137,7 @@ def flat_prices():
     for kind, rate in itertools.product(ANNUITIES, RATES):
         for age, year, no in ((-1, 2013, 3), (121, 2065, 3), (120, 2065, 4), (0, 2013, 4), (120, 2064, 5), (0, 2014, 5)):
             rows |= {(kind, age, year, span, rate): f"no={no}" for span in (LEAST, -1, 1, 121 - age)}
-    rows |= {query: "no=8" for query in needless_rates()}
+    rows |= {query: "no=8" for query in refused_rates()}
     yield case("flat prices", flat(), list(rows), rows)
 
 
