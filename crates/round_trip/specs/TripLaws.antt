@@ -12,11 +12,11 @@ use lib.Seq.{take-append-seam}
 use Rattle.tokens.specs.Text.{bytesOf, takeText}
 use Rattle.params.specs.declared.Params.{Params}
 use Rattle.params.specs.declared.Refusal.{Refusal}
-use Rattle.params.specs.declared.Refusal.the-variants.{Accepted, Torn, OffScale, NoSuchAge, NoSuchYear}
-use Rattle.params.specs.declared.Refusal.the-variants.{NoSuchSpan, Steep, Short}
+use Rattle.params.specs.declared.Refusal.the-variants.{Accepted, Torn, OffScale, Short}
 use Rattle.sheet.specs.declared.Reading.{Reading}
 use Rattle.sheet.specs.declared.Written.{Written}
 use Rattle.params.specs.Refusals.{refusalNumber}
+use Rattle.params.specs.RefusalLaws.{accepted as is-accepted}
 use Rattle.params.specs.Set.{Whole}
 use Rattle.params.specs.Limits.{inLimits}
 use Rattle.sheet.specs.Sheet.{sheetText, headText, readHead, readSet, refused, judged, readSheet}
@@ -62,18 +62,6 @@ read-back p w buffer (e, f) = rw (e, f) (go (inLimits p) refl (leb (length (shee
     go false q d = empty-torn
 
 -- ---- a sheet
-
--- only the first case has number 0
-is-accepted : (r : Refusal) → refusalNumber r ≡ 0 → r ≡ Accepted
-unfolding refusalNumber
-is-accepted Accepted e = refl
-is-accepted Torn e = absurd (omega arith)
-is-accepted OffScale e = absurd (omega arith)
-is-accepted NoSuchAge e = absurd (omega arith)
-is-accepted NoSuchYear e = absurd (omega arith)
-is-accepted NoSuchSpan e = absurd (omega arith)
-is-accepted Steep e = absurd (omega arith)
-is-accepted Short e = absurd (omega arith)
 
 -- what is answered for a sheet, and the buffer after
 abbrev pub Copies : List ℕ → List ℕ → Written → List ℕ → Type 0
