@@ -1,7 +1,8 @@
 /* Times life expectancies in one year by kulfizan_quote, by the same grid in C and by Arb, in turns in one run, on one set:
-   cohort ones at all ages, a period one at 65 and a cohort one at 65. The library's ends are compared with the C's first, and
-   Arb's middles must lie between them. The library reads the sheet in each call: as many calls with an age past the last, which
-   read it too and are then refused, are timed in the same turns and taken off. */
+   cohort ones at all ages, a period one at 65 and a cohort one at 65; and what factors past 120 cost, along the cohort and in
+   one year. The library's ends are compared with the C's first, and Arb's middles must lie between them. The library reads the
+   sheet in each call: as many calls with an age past the last, which read it too and are then refused, are timed in the same
+   turns and taken off. */
 #include <stdio.h>
 #include <string.h>
 
@@ -9,14 +10,17 @@
 #include "kulfizan.h"
 #include "timing.h"
 
-enum { YEAR = 2020 };
+enum { FIRST_YEAR = 2014, YEAR = 2020, LAST_YEAR = 2064 };
 
 /* What is timed: the expectancies of some ages, some times over in a turn; short turns are taken more often. */
 typedef struct {
     const char *name;
     enum kind kind;
-    int first, count, times, turns;
+    int first, count, times, turns, year;
 } load;
+
+/* Its year, counted from 2013. */
+static unsigned year_of(const load *l) { return (unsigned)(l->year - START); }
 
 #define EXPECTANCY_ROW(by) NAMED(expectancy, by),
 static expectancy_in_c *const in_c[] = {EACH_COMPILER(EXPECTANCY_ROW)};
@@ -42,23 +46,23 @@ static int library(enum kind kind, int age, int year, uint64_t *ends) {
 static void by_library(int which) {
     (void)which;
     for (int i = 0; i < work.times; i++)
-        for (int x = 0; x < work.count; x++) library(work.kind, work.first + x, YEAR, ours + 2 * x);
+        for (int x = 0; x < work.count; x++) library(work.kind, work.first + x, work.year, ours + 2 * x);
 }
 
 static void by_reading(int which) {
     (void)which;
-    for (int i = 0; i < work.times * work.count; i++) library(work.kind, COLUMN, YEAR, ours);
+    for (int i = 0; i < work.times * work.count; i++) library(work.kind, COLUMN, work.year, ours);
 }
 
 static void by_c(int which) {
     for (int i = 0; i < work.times; i++)
-        for (int x = 0; x < work.count; x++) in_c[which](&set, work.kind, work.first + x, YEAR - START, theirs + 2 * x);
+        for (int x = 0; x < work.count; x++) in_c[which](&set, work.kind, work.first + x, year_of(&work), theirs + 2 * x);
 }
 
 static void by_arb(int which) {
     (void)which;
     for (int i = 0; i < work.times; i++)
-        for (int x = 0; x < work.count; x++) middles[x] = expectancy_by_arb(&set, work.kind, work.first + x, YEAR - START);
+        for (int x = 0; x < work.count; x++) middles[x] = expectancy_by_arb(&set, work.kind, work.first + x, year_of(&work));
 }
 
 /* Whether the expectancies of all ages in a year are the same by all. */
@@ -78,6 +82,7 @@ static int agree(enum kind kind, int year) {
 
 #define EXPECTANCY_RUNNER(by) {"grid in C, " #by, by_c, 0, 0},
 enum { LIBRARY, ARB, FIRST_C, MOST_RUNNERS = FIRST_C + 3 };
+enum { MEAN, COHORT_65, PERIOD_65, COHORT_91, COHORT_120, LONGEST, SHORTEST, LOADS };
 static runner all[] = {{"proved library", by_library, 0, 0}, {"Arb at 64 bits", by_arb, 0, 0},
     EACH_COMPILER(EXPECTANCY_RUNNER) {"reading taken off", by_reading, 0, 0}};
 static const int runners = sizeof all / sizeof all[0];
@@ -93,10 +98,12 @@ static double time_load(const load *l, double *took) {
 }
 
 int main(void) {
-    const load loads[3] = {{"cohort, mean", COHORT, 0, COLUMN, 1, 40}, {"cohort at 65", COHORT, 65, 1, 20, 200},
-        {"period at 65", PERIOD, 65, 1, 20, 1000}};
-    const int years[3] = {2014, YEAR, 2064};
-    double took[3][MOST_RUNNERS], best_c[3];
+    const load loads[LOADS] = {{"cohort, mean", COHORT, 0, COLUMN, 1, 40, YEAR},
+        {"cohort at 65", COHORT, 65, 1, 20, 200, YEAR}, {"period at 65", PERIOD, 65, 1, 20, 1000, YEAR},
+        {"cohort at 91", COHORT, 91, 1, 20, 100, YEAR}, {"cohort at 120", COHORT, OLDEST, 1, 20, 100, YEAR},
+        {"120 in 2014", PERIOD, OLDEST, 1, 20, 1000, FIRST_YEAR}, {"120 in 2064", PERIOD, OLDEST, 1, 20, 1000, LAST_YEAR}};
+    const int years[3] = {FIRST_YEAR, YEAR, LAST_YEAR};
+    double took[LOADS][MOST_RUNNERS], best_c[LOADS];
     realistic(&set);
     length = sheet_of(&set, sheet);
     for (int i = 0; i < 3; i++)
@@ -105,15 +112,19 @@ int main(void) {
             return 1;
         }
     for (int i = 0; i < compilers; i++) all[FIRST_C + i].which = i;
-    for (int l = 0; l < 3; l++) best_c[l] = time_load(loads + l, took[l]);
+    for (int l = 0; l < LOADS; l++) best_c[l] = time_load(loads + l, took[l]);
     printf("%-17s", "us an expectancy");
-    for (int l = 0; l < 3; l++) printf(" %13s", loads[l].name);
+    for (int l = 0; l < LOADS; l++) printf(" %13s", loads[l].name);
     for (int i = 0; i < runners; i++) {
         printf("\n%-17s", all[i].name);
-        for (int l = 0; l < 3; l++) printf(" %13.2f", 1e6 * took[l][i]);
+        for (int l = 0; l < LOADS; l++) printf(" %13.2f", 1e6 * took[l][i]);
     }
     printf("\ncohort, mean: library / faster C %.2f (at most 1.20, goal 1.00); Arb / library %.2f (at least 4.00)\n",
-        took[0][LIBRARY] / best_c[0], took[0][ARB] / took[0][LIBRARY]);
-    printf("at 65, library: period / cohort %.2f (below 0.20)\n", took[2][LIBRARY] / took[1][LIBRARY]);
+        took[MEAN][LIBRARY] / best_c[MEAN], took[MEAN][ARB] / took[MEAN][LIBRARY]);
+    printf("at 65, library: period / cohort %.2f (below 0.20)\n", took[PERIOD_65][LIBRARY] / took[COHORT_65][LIBRARY]);
+    printf("cohort, all %d factors past 120 / from 91 on: library %.2f, faster C %.2f\n", years_on(YEAR - START),
+        took[COHORT_120][LIBRARY] / took[COHORT_91][LIBRARY], best_c[COHORT_120] / best_c[COHORT_91]);
+    printf("period at 120, %d factors / %d: library %.2f, faster C %.2f\n", years_on(FIRST_YEAR - START),
+        years_on(LAST_YEAR - START), took[LONGEST][LIBRARY] / took[SHORTEST][LIBRARY], best_c[LONGEST] / best_c[SHORTEST]);
     return 0;
 }

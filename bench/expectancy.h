@@ -6,7 +6,13 @@
 
 enum kind { COHORT, PERIOD };
 
-/* The grid of paper 01 in plain C: the two ends; returns 0 where a needed cell is steep. */
+/* The oldest age of the table; its probability serves past it. */
+enum { OLDEST = COLUMN - 1 };
+
+/* The years from year n on, to 2184. */
+static inline int years_on(unsigned n) { return 2184 - START + 1 - (int)n; }
+
+/* The grid of the papers in plain C: the two ends; returns 0 where a needed cell is steep. */
 typedef int expectancy_in_c(const params *p, enum kind kind, int age, unsigned n, uint64_t *ends);
 expectancy_in_c expectancy_by_gcc, expectancy_by_clang;
 

@@ -1,6 +1,6 @@
 /* An expectancy and an annuity on the grid in plain C: only the cells of the path, and the eleven H of a year where an age
    above 90 needs them. A cohort steps K and kappa along; a period path works its closure once, and takes the forces from 80 to
-   90 from it. */
+   90 from it. Past 120 the cell of age 120 serves: of a cohort in each year, of a period once. */
 #include "expectancy.h"
 #include "grid.h"
 
@@ -19,12 +19,13 @@ static int close_year(const params *p, int64_t period, pair kappa, closure *c) {
     return 1;
 }
 
-/* Where a path stands: K and kappa of its year, the closure of the last year that needed one, and the survival so far. */
+/* Where a path stands: K and kappa of its year, the closure of the last year that needed one, the last factor and the survival
+   so far. */
 typedef struct {
     int64_t period;
     pair kappa;
     closure c;
-    ends alive;
+    ends factor, alive;
 } place;
 
 static int begin(const params *p, enum kind kind, unsigned n, place *at) {
@@ -34,8 +35,8 @@ static int begin(const params *p, enum kind kind, unsigned n, place *at) {
     return kind == COHORT || close_year(p, at->period, at->kappa, &at->c);
 }
 
-/* Survives the year at age x, to the next place. */
-static inline int survive(const params *p, enum kind kind, int x, place *at) {
+/* The factor at age x of the table. */
+static inline int work_factor(const params *p, enum kind kind, int x, place *at) {
     ends force;
     if (x >= AGES) {
         if (kind == COHORT && !close_year(p, at->period, at->kappa, &at->c)) return 0;
@@ -47,9 +48,15 @@ static inline int survive(const params *p, enum kind kind, int x, place *at) {
         if (steep(m)) return 0;
         force = young_force(m);
     }
-    ends s = exp_between(force);
-    at->alive.lower = at->alive.lower * s.lower / UNIT;
-    at->alive.upper = up(at->alive.upper * s.upper, UNIT);
+    at->factor = exp_between(force);
+    return 1;
+}
+
+/* Survives the year at age x, to the next place. */
+static inline int survive(const params *p, enum kind kind, int x, place *at) {
+    if ((kind == COHORT || x <= OLDEST) && !work_factor(p, kind, x < OLDEST ? x : OLDEST, at)) return 0;
+    at->alive.lower = at->alive.lower * at->factor.lower / UNIT;
+    at->alive.upper = up(at->alive.upper * at->factor.upper, UNIT);
     if (kind == COHORT) {
         at->period += p->theta;
         at->kappa = next_kappa(p, at->kappa);
@@ -61,7 +68,7 @@ int COMPILED(expectancy)(const params *p, enum kind kind, int age, unsigned n, u
     place at;
     if (!begin(p, kind, n, &at)) return 0;
     out[0] = out[1] = UNIT / 2;
-    for (int x = age; x < COLUMN; x++) {
+    for (int x = age; x < age + years_on(n); x++) {
         if (!survive(p, kind, x, &at)) return 0;
         out[0] += at.alive.lower;
         out[1] += at.alive.upper;
@@ -74,8 +81,8 @@ int COMPILED(annuity)(const params *p, enum kind kind, int age, unsigned n, unsi
     ends discount = {UNIT, UNIT};
     const uint64_t divisor = MILLION + rate;
     out[0] = out[1] = UNIT;
-    if (age < COLUMN - 1 && !begin(p, kind, n, &at)) return 0;
-    for (int x = age; x < COLUMN - 1; x++) {
+    if (!begin(p, kind, n, &at)) return 0;
+    for (int x = age; x < age + years_on(n); x++) {
         if (!survive(p, kind, x, &at)) return 0;
         discount.lower = discount.lower * MILLION / divisor;
         discount.upper = up(discount.upper * MILLION, divisor);

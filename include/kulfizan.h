@@ -63,10 +63,9 @@ uint8_t kulfizan_write(const int64_t *values, size_t values_length, uint8_t *buf
 uint8_t kulfizan_quote(const uint8_t *sheet, size_t sheet_length, const uint8_t *kind, size_t kind_length, int64_t age,
                        int64_t year, int64_t span, uint64_t *quote, size_t quote_length);
 
-/* Prices one annuity of a sheet: 1 paid now and on each 1 January while alive, at most to age 120. The kind is one of the
-   words acoh and aper, with no byte after it, and the rate is in units of 10^-6. The quote is as above, in steps of 0.1.
-   Torn where the sheet or the kind is, off scale, no such age, year, span or rate, steep, and short where there are fewer
-   than four numbers. */
+/* Prices one annuity of a sheet: 1 paid now and on each 1 January while alive. The kind is one of the words acoh and aper,
+   with no byte after it, and the rate is in units of 10^-6. The quote is as above, in steps of 0.1. Torn where the sheet or
+   the kind is, off scale, no such age, year, span or rate, steep, and short where there are fewer than four numbers. */
 uint8_t kulfizan_annuity(const uint8_t *sheet, size_t sheet_length, const uint8_t *kind, size_t kind_length, int64_t age,
                          int64_t year, int64_t span, int64_t rate, uint64_t *quote, size_t quote_length);
 

@@ -1,5 +1,6 @@
-"""Quotes of all seven kinds, written from paper 01 and, for annuities, paper 02: their refusals, their ends on the grid, their
-figures, and their exact values to many digits. A query is a kind, an age, a year and a span, and for an annuity a rate."""
+"""Quotes of all seven kinds, written from paper 01 and, for annuities and lives past 120, paper 02: their refusals, their ends
+on the grid, their figures, and their exact values to many digits. A query is a kind, an age, a year and a span, and for an
+annuity a rate."""
 from decimal import Decimal
 from functools import cache
 
@@ -10,6 +11,7 @@ from reader import in_limits, numbers_of
 
 SURVIVALS, EXPECTANCIES, ANNUITIES = ("coh", "per"), ("ecoh", "eper"), ("acoh", "aper")
 TENTHS = EXPECTANCIES + ANNUITIES
+COHORT = ("coh", "ecoh", "acoh")
 UNRATED = ("q",) + SURVIVALS + EXPECTANCIES
 KINDS = UNRATED + ANNUITIES
 OFF_SCALE, NO_AGE, NO_YEAR, NO_SPAN, STEEP, NO_RATE = 2, 3, 4, 5, 6, 8
@@ -28,15 +30,20 @@ def width(kind, age):
     """How far apart the ends may be."""
     if kind == "q":
         return 100 if age <= LAST_FITTED else 600
-    return 2_000_000 if kind in TENTHS else 30_000
+    return 10_000_000 if kind in TENTHS else 30_000
+
+
+def factors_from(year):
+    """How many factors an expectancy or an annuity of a year has, whatever the age."""
+    return LAST_CELL + 1 - year
 
 
 def path(kind, age, year, span):
-    """The cells, (age, year), whose p or q an accepted quote is made of. An annuity's last payment is at age 120, so that it
-    takes no p of that age."""
-    count = span if kind in SURVIVALS else 1 if kind == "q" else OLDEST + (kind in EXPECTANCIES) - age
-    on = 1 if kind in ("coh", "ecoh", "acoh") else 0
-    return [(age + s, year + on * s) for s in range(count)]
+    """The cells, (age, year), whose p or q an accepted quote is made of. The probability of age 120, in the year reached,
+    serves all older ages; expectancies and annuities have a factor for each year to 2184, period ones as many."""
+    count = span if kind in SURVIVALS else 1 if kind == "q" else factors_from(year)
+    on = 1 if kind in COHORT else 0
+    return [(min(age + s, OLDEST), year + on * s) for s in range(count)]
 
 
 def rounded(value, kind):
@@ -60,6 +67,20 @@ def grid_price(factors, rate):
         alive = down(alive[0] * lower, UNIT), up(alive[1] * upper, UNIT)
         total = total[0] + down(discount[0] * alive[0], UNIT), total[1] + up(discount[1] * alive[1], UNIT)
     return total
+
+
+def grid_ends(kind, factors, rate=None):
+    """The ends of a quote of a kind from those of its factors."""
+    if kind == "q":
+        ((lower, upper),) = factors
+        return UNIT - upper, UNIT - lower
+    if kind in ANNUITIES:
+        return grid_price(factors, rate)
+    alive, total = (UNIT, UNIT), (UNIT // 2, UNIT // 2)
+    for lower, upper in factors:
+        alive = down(alive[0] * lower, UNIT), up(alive[1] * upper, UNIT)
+        total = total[0] + alive[0], total[1] + alive[1]
+    return alive if kind in SURVIVALS else total
 
 
 def exact_price(factors, rate):
@@ -92,7 +113,7 @@ class GridCells(Cells):
 
     def __init__(self, params):
         super().__init__(params)
-        self.kappas = grid.kappas(params, LAST_CELL - START)
+        self.kappas, self.steep = grid.kappas(params, LAST_CELL - START), cache(self.steep)
 
     def m(self, age, year):
         period = self.params["K"] + (year - START) * self.params["theta"]
@@ -143,17 +164,7 @@ class Quotes:
 
     def ends(self, kind, age, year, span, rate=None):
         """The two ends of an accepted quote."""
-        factors = [self.grid.p(*cell) for cell in path(kind, age, year, span)]
-        if kind == "q":
-            ((lower, upper),) = factors
-            return UNIT - upper, UNIT - lower
-        if kind in ANNUITIES:
-            return grid_price(factors, rate)
-        alive, total = (UNIT, UNIT), (UNIT // 2, UNIT // 2)
-        for lower, upper in factors:
-            alive = down(alive[0] * lower, UNIT), up(alive[1] * upper, UNIT)
-            total = total[0] + alive[0], total[1] + alive[1]
-        return alive if kind in SURVIVALS else total
+        return grid_ends(kind, [self.grid.p(*cell) for cell in path(kind, age, year, span)], rate)
 
     def value(self, kind, age, year, span, rate=None):
         """The exact value of an accepted quote, in units."""

@@ -17,11 +17,11 @@ import desk
 import programs
 import sheets
 from grid import HIGHEST, flat
-from quotes import FIRST_YEAR, KINDS, LAST_YEAR, OLDEST, OPEN, SURVIVALS, Quotes, rounded
-from reader import KEYS, LONGEST, SIZES, params_of, read
+from quotes import COHORT, FIRST_YEAR, KINDS, LAST_YEAR, OLDEST, OPEN, SURVIVALS, TENTHS, Quotes, rounded
+from reader import KEYS, LONGEST, SIZES
 from test_desk import EXAMPLES, FIXED, FLAT, LINE_ENDS, RATED, Input, closes_early, compared, complaint, damaged, endless
 from test_desk import from_file, full_device, off_scale, one_of_each, padded, piecewise, pool, some, torn_lines, with_value
-from test_quotes import any_rate, at_limits, line_of, mild, moved, searched, usual
+from test_quotes import any_rate, at_limits, line_of, mild, moved, moving, searched, usual
 
 SEED = 20142015
 LEAST_INPUTS, LEAST_PAIRS, LEAST_TOLD = 500, 48, 400
@@ -33,9 +33,11 @@ COMPARED = re.compile(rb"(kind=(\w+) .*) fig=([0-9.]+|open) fig=([0-9.]+|open) v
 APART = {
     b"kind=q age=65 year=2020 span=0": (b" fig=0.30780", b" fig=0.12658", b" values=above", b" values=below"),
     b"kind=coh age=119 year=2020 span=2": (b" fig=0.47914", b" fig=0.76287", b" values=below", b" values=above"),
-    b"kind=ecoh age=120 year=2064 span=0": (b" fig=1.2", b" fig=1.4", b" values=below", b" values=above"),
+    b"kind=ecoh age=120 year=2064 span=0": (b" fig=2.7", b" fig=7.4", b" values=below", b" values=above"),
     b"kind=acoh age=65 year=2020 span=0 rate=30000": (b" fig=3.0", b" fig=6.6", b" values=below", b" values=above"),
-    b"kind=aper age=119 year=2064 span=0 rate=0": (b" fig=1.7", b" fig=1.9", b" values=below", b" values=above"),
+    b"kind=aper age=119 year=2064 span=0 rate=0": (b" fig=3.2", b" fig=7.9", b" values=below", b" values=above"),
+    b"kind=eper age=120 year=2014 span=0": (b" fig=2.7", b" fig=7.4", b" values=below", b" values=above"),
+    b"kind=acoh age=120 year=2014 span=0 rate=0": (b" fig=3.2", b" fig=7.9", b" values=below", b" values=above"),
 }
 
 # Two sheets, the queries that are asked of both, and how many units lie between the ends, if searched.
@@ -51,14 +53,14 @@ def text_of(pair):
 def fixed_rows():
     """Two sheets, and what is printed after each query, whatever the second implementation says."""
     same = {query: end for query, end in FIXED.items() if end.startswith(b" no=")}
-    ones = [query for query, end in FIXED.items() if end in (b" fig=1.00000", b" fig=1.0")]
+    ones = [query for query, end in FIXED.items() if end == b" fig=1.00000"]
     same |= {query: FIXED[query] * 2 + b" values=near units=0" for query in ones}
     yield "flat twice", FLAT * 2, same
     yield "flat, lower", FLAT + LOWER, {query: one + other + word for query, (one, other, word, _) in APART.items()}
     yield "lower, flat", LOWER + FLAT, {query: other + one + word for query, (one, other, _, word) in APART.items()}
     steep = dict.fromkeys(APART, b" no=6") | {b"kind=q age=121 year=2020 span=0": b" no=3"}
     steep |= {RATED + b" rate=200001": b" no=8", b"kind=aper age=65 year=2020 span=1 rate=-1": b" no=5"}
-    steep[b"kind=aper age=120 year=2014 span=0 rate=1"] = b" fig=1.0 fig=1.0 values=near units=0"
+    steep[b"kind=per age=120 year=2014 span=0"] = b" fig=1.00000 fig=1.00000 values=near units=0"
     for name, data in (("flat, steep", FLAT + STEEP), ("steep, flat", STEEP + FLAT), ("steep twice", STEEP * 2)):
         yield name, data, steep
 
@@ -276,14 +278,15 @@ def met_pairs(job):
     out = {}
     while not out.keys() >= {0, 1}:
         params = mild(draw)
-        age = draw.randint(60, 88)
+        age = draw.randint(60, 79 if kind in TENTHS and kind in COHORT else 88)
         span = draw.randint(1, OLDEST + 1 - age) if kind in SURVIVALS else 0
         query = (kind, age, draw.randint(FIRST_YEAR, LAST_YEAR), span, *any_rate(draw, kind))
-        top, kept = Quotes(params).ends(*query)[1], {}
+        ends_at, kept = moving(params, "A", query), {}
+        top = ends_at(0)[1]
 
         def gap(by):
             if by not in kept:
-                kept[by] = Quotes(moved(params, "A", age, by)).ends(*query)[0] - top
+                kept[by] = ends_at(by)[0] - top
             return kept[by]
 
         a, b = 0, 1000
@@ -335,7 +338,7 @@ def told(pair):
     want = desk.compare(data)
     wrong, counts, checks = [complaint(pair.name, "compare", want, status, out)], collections.Counter(), 0
     tally(pair, want, counts)
-    given = [Quotes(params_of(read(sheet)[1])) for sheet in (pair.first, pair.second)]
+    given = [desk.desk_of(sheet).quotes for sheet in (pair.first, pair.second)]
     for query, line in zip(pair.queries, out.splitlines()):
         got = COMPARED.fullmatch(line)
         if not got or any(one.refusal(*query) for one in given):

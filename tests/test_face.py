@@ -57,12 +57,14 @@ def cases(draw):
     """Sheets with queries: all limits, every refusal, realistic and extreme sets, and figures that are open."""
     yield test_quotes.case("64 bits", flat(), list(at_ends(draw)))
     yield from test_quotes.fixed_cases()
-    yield from test_quotes.flat_prices()
+    yield from test_quotes.refused_in_order()
+    yield from test_quotes.even_cases(draw)
     yield from test_quotes.limit_cases(draw)
     yield from test_quotes.refused_cases(draw)
     yield from test_quotes.realistic_cases(draw, 8)
     yield from test_quotes.extreme_cases(draw, 6)
     yield from test_quotes.steep_cases(draw, 4)
+    yield from itertools.islice(test_quotes.steep_once_cases(draw), 4)
     for kind in KINDS:
         yield from test_quotes.searched((kind, 2, draw.random()))
 
@@ -202,7 +204,11 @@ def compare_module(count, draw, module):
         wanted = None if no else (*numbers[:2], numbers[3] if numbers[2] else None)
         got = raised(module.quote, sheet, *query) or tuple(module.quote(sheet, *query))
         count.take(got == (no or wanted), f"quote gives {got} and not {no or wanted}")
-    count.take(module.quote(sheet, "aper", 120, 2020, rate=0) == (10**9, 10**9, 10), "an annuity at 120 is not 1")
+    lower, upper, steps = module.quote(sheets.text(flat()), "ecoh", 120, 2064)
+    wanted = lower + 5 * 10**8, upper + 5 * 10**8, steps + 5
+    count.take(steps == 27, "the flat sheet's expectancy at 120 is not 2.7")
+    got = module.quote(sheets.text(flat()), "acoh", 120, 2064, rate=0)
+    count.take(tuple(got) == wanted, "an annuity at rate 0 is not the expectancy and a half")
     off_scale, steep = sheets.text(dict(flat(), a=SIZES["a"] + 1)), sheets.text(dict(flat(), A=[0] * 91))
     refusals = [
         (TORN, module.read, b""), (2, module.read, off_scale), (TORN, module.write, []), (TORN, module.write, values + [0]),

@@ -2,10 +2,11 @@
 exact value to many digits, which must lie between the ends and round to the printed figure.
 
 It hands sheets and query lines to the program `ends`: the flat sheet, realistic and extreme ones, steep ones, refused ones,
-and some that are searched for an end at a half step. Annuities are asked at each end of the rates and past it; on the flat
-sheet they are held against a geometric sum too, and at rate 0 against the expectancy and the survival of the same age. A line
-has no number of more than 15 digits, so the least and greatest numbers are those of 15 digits. An argument is taken as the
-seed.
+and some that are searched for an end at a half step. Annuities are asked at each end of the rates and past it, and at rate 0
+held against the expectancy of the same age. Expectancies and annuities are asked at 120 in each year; where all ages have one
+force they are held against a plain sum over the years to 2184; and some sheets have a steep cell in one year alone, which a
+life may reach past 120. A line has no number of more than 15 digits, so the least and greatest numbers are those of 15 digits.
+An argument is taken as the seed.
 """
 import collections
 import concurrent.futures
@@ -18,16 +19,18 @@ from decimal import Decimal
 import programs
 import sheets
 from desk import figure_text
-from grid import HIGHEST, LOWEST, RATE, START, UNIT, down, flat, up
-from quotes import ANNUITIES, FIRST_YEAR, KINDS, LAST_CELL, LAST_YEAR, MOST_RATE, OLDEST, OPEN, RATE_UNIT, SURVIVALS, TENTHS
-from quotes import UNRATED, Quotes, figure, rounded, step, width
+from grid import HIGHEST, LOWEST, RATE, START, UNIT, down, flat, kappas, log_force, up
+from quotes import ANNUITIES, CLOSURE, COHORT, EXPECTANCIES, FIRST_YEAR, KINDS, LAST_CELL, LAST_FITTED, LAST_YEAR, MOST_RATE
+from quotes import OLDEST, OPEN, RATE_UNIT, STEEP, SURVIVALS, TENTHS, UNRATED, GridCells, Quotes, figure, grid_ends, path
+from quotes import rounded, step, width
 from reader import LONGEST, SIZES, params_of, read
 
 SEED = 20142064
 LEAST, GREATEST = 1 - 10**15, 10**15 - 1
 NEAR = 5
 REFUSALS = (1, 2, 3, 4, 5, 8, 6)
-LEAST_ANNUITIES = 3000
+SORTS = ("flat", "realistic", "extreme")
+LEAST_ANNUITIES, LEAST_TENTHS = 3000, 3000
 ANSWER = re.compile(r"lo=([0-9]+) hi=([0-9]+) fig=([0-9.]+|open)")
 
 # A sheet, its queries (kind, age, year, span, and the rate of an annuity), and what some of the lines must end in, whatever
@@ -81,12 +84,12 @@ def at_rates(draw, queries, count):
     out = []
     for kind, age, year, *_ in draw.sample([query for query in queries if query[0] in ANNUITIES], count):
         out += [(kind, age, year, 0, rate) for rate in (*RATES, draw.randint(0, MOST_RATE))]
-        out += [("e" + kind[1:], age, year, 0), (kind[1:], age, year, OLDEST + 1 - age)]
+        out.append(("e" + kind[1:], age, year, 0))
     return out
 
 
 def usual(draw, years, each):
-    """Queries of all kinds that break no limit, in few years and along few cohorts."""
+    """Queries of all kinds that break no limit, in few years and along few cohorts; expectancies and annuities at 120 too."""
     out = []
     for year in years:
         youngest = draw.randint(0, 100)
@@ -97,6 +100,7 @@ def usual(draw, years, each):
             start, begun = youngest + later, min(LAST_YEAR, year + later)
             out += [any_query(draw, kind, start, begun) for kind in ("coh", "ecoh", "acoh")]
         out += [("ecoh", 0, year, 0), ("coh", 0, year, draw.randint(1, OLDEST + 1)), any_query(draw, "acoh", 0, year)]
+        out += [any_query(draw, kind, OLDEST, year) for kind in TENTHS]
     return sorted(set(out))
 
 
@@ -105,16 +109,21 @@ def usual(draw, years, each):
 def fixed_cases():
     """The paper's three lines, and its edges, with what they print."""
     rows = {
-        ("q", 65, 2020, 0): "fig=0.30780", ("coh", 119, 2020, 2): "fig=0.47914", ("ecoh", 120, 2064, 0): "fig=1.2",
-        ("coh", 120, 2064, 0): "fig=1.00000", ("per", 120, 2014, 0): "fig=1.00000", ("coh", 120, 2064, 2): "no=5",
-        ("per", 120, 2064, 2): "no=5", ("q", 121, 2014, 0): "no=3", ("ecoh", 121, 2014, 0): "no=3",
-        ("q", 0, 2184, 0): "fig=0.30780", ("q", 0, 2185, 0): "no=4", ("ecoh", 0, 2065, 0): "no=4",
-        ("q", 65, 2020, 1): "no=5", ("eper", 121, 2065, 1): "no=3", ("eper", 120, 2065, 1): "no=4",
+        ("q", 65, 2020, 0): "fig=0.30780", ("coh", 119, 2020, 2): "fig=0.47914", ("ecoh", 120, 2064, 0): "fig=2.7",
+        ("coh", 120, 2064, 0): "fig=1.00000", ("per", 120, 2014, 0): "fig=1.00000", ("coh", 120, 2064, 1): "fig=0.69220",
+        ("per", 120, 2064, 1): "fig=0.69220", ("coh", 120, 2064, 2): "no=5", ("per", 120, 2064, 2): "no=5",
+        ("coh", 119, 2014, 3): "no=5", ("per", 0, 2014, 122): "no=5", ("q", 121, 2014, 0): "no=3",
+        ("ecoh", 121, 2014, 0): "no=3", ("acoh", 121, 2014, 0, 0): "no=3", ("q", 0, 2184, 0): "fig=0.30780",
+        ("q", 0, 2185, 0): "no=4", ("ecoh", 0, 2065, 0): "no=4", ("q", 65, 2020, 1): "no=5",
+        ("eper", 121, 2065, 1): "no=3", ("eper", 120, 2065, 1): "no=4",
+        ("ecoh", 120, 2014, 0): "fig=2.7", ("eper", 120, 2014, 0): "fig=2.7", ("acoh", 120, 2064, 0, 0): "fig=3.2",
+        ("aper", 120, 2064, 0, 0): "fig=3.2", ("acoh", 120, 2014, 0, MOST_RATE): "fig=2.4",
     }
-    yield case("the paper's rows", flat(), list(rows) + [("coh", 120, 2064, 1), ("per", 120, 2064, 1)], rows)
+    yield case("flat, the paper's rows", flat(), list(rows), rows)
     needy = [("q", 90, 2014, 0), ("q", 91, 2184, 0), ("coh", 0, 2064, 121), ("per", 30, 2020, 1)]
     needy += [("ecoh", 0, 2014, 0), ("eper", 91, 2014, 0), ("acoh", 119, 2064, 0, 0), ("aper", 0, 2014, 0, MOST_RATE)]
-    free = {("coh", 7, 2020, 0): "fig=1.00000", ("acoh", 120, 2064, 0, 0): "fig=1.0", ("aper", 120, 2014, 0, 30_000): "fig=1.0"}
+    needy += [("ecoh", 120, 2064, 0), ("eper", 120, 2014, 0), ("acoh", 120, 2064, 0, 0), ("aper", 120, 2014, 0, 30_000)]
+    free = {("coh", 7, 2020, 0): "fig=1.00000", ("per", 120, 2064, 0): "fig=1.00000"}
     for a, end in ((HIGHEST, ""), (HIGHEST + 1, "no=6"), (LOWEST, ""), (LOWEST - 1, "no=6")):
         rows = dict.fromkeys(needy, end) | free | {query: "no=8" for query in refused_rates()}
         yield case(f"every A {a}", dict(flat(), A=[a] * 91), list(rows), rows)
@@ -126,23 +135,59 @@ def refused_rates():
         yield kind, age, FIRST_YEAR, 0, rate
 
 
-def flat_prices():
-    """Annuities of the flat sheet, whose force is 1/e at every age, so that the price is a geometric sum; and the order of
-    their refusals."""
-    p, rows = (-Decimal(-1).exp()).exp(), {}
-    for kind, age, rate in itertools.product(ANNUITIES, (0, 1, 65, 90, 91, 118, 119, 120), (*RATES[2:-2], 12_345)):
-        factor = p * RATE_UNIT / (RATE_UNIT + rate)
-        price = (1 - factor ** (OLDEST + 1 - age)) / (1 - factor)
-        rows[kind, age, 2020, 0, rate] = f"fig={figure_text(rounded(price * UNIT, kind), kind)}"
+def refused_in_order():
+    """The order of an annuity's refusals, at any rate."""
+    rows = {query: "no=8" for query in refused_rates()}
     for kind, rate in itertools.product(ANNUITIES, RATES):
         for age, year, no in ((-1, 2013, 3), (121, 2065, 3), (120, 2065, 4), (0, 2013, 4), (120, 2064, 5), (0, 2014, 5)):
             rows |= {(kind, age, year, span, rate): f"no={no}" for span in (LEAST, -1, 1, 121 - age)}
-    rows |= {query: "no=8" for query in refused_rates()}
-    yield case("flat prices", flat(), list(rows), rows)
+    yield case("flat, refusals in order", flat(), list(rows), rows)
+
+
+# Log forces of 2013, and what they rise by each year. That of 2184 is at an end of the range in two, and in two a unit past it.
+YEARLY = 10**7
+EVEN = (
+    (-(10**9), 0), (-5 * 10**9, 0), (LOWEST, 0), (-3 * 10**9, -2 * YEARLY), (-8 * 10**9, 4 * YEARLY),
+    (HIGHEST - 171 * YEARLY, YEARLY), (LOWEST + 171 * YEARLY, -YEARLY),
+    (HIGHEST - 171 * YEARLY + 1, YEARLY), (LOWEST + 171 * YEARLY - 1, -YEARLY),
+)
+
+
+def even_sum(alive_in, kind, year, rate=0):
+    """An expectancy or a price where a year has one p at all ages: a plain sum over the years to 2184, of which a period quote
+    takes its own each time."""
+    alive, total = Decimal(1), Decimal(1)
+    for now in range(year, LAST_CELL + 1):
+        alive *= alive_in[now if kind in COHORT else year] * RATE_UNIT / (RATE_UNIT + rate)
+        total += alive
+    return (total - (Decimal(1) / 2 if kind in EXPECTANCIES else 0)) * UNIT
+
+
+def even_figure(value, kind):
+    """The figure of such a sum, which no grid's ends leave open where it is a thousandth or more from a half step."""
+    past_half = (value / step(kind) + Decimal("0.5")) % 1
+    return f"fig={figure_text(rounded(value, kind), kind)}" if Decimal("0.01") < past_half < Decimal("0.99") else ""
+
+
+def even_cases(draw):
+    """Such sheets, asked at 120 in each year and at any age, with the figure of that sum. A cohort reaches the cell of 2184 at
+    any age, and a period quote does not."""
+    for level, rise in EVEN:
+        params = dict(flat(), A=[level] * 91, B=[YEARLY] * 91, theta=10 * rise)
+        logs = {year: level + rise * (year - START) for year in range(FIRST_YEAR, LAST_CELL + 1)}
+        alive_in = {year: (-(Decimal(log) / UNIT).exp()).exp() for year, log in logs.items()}
+        asked_of = [(OLDEST, year) for year in range(FIRST_YEAR, LAST_YEAR + 1)]
+        asked_of += itertools.product((0, draw.randint(1, 89), 90, 91, 119), (FIRST_YEAR, LAST_YEAR))
+        steep, rows = not LOWEST <= logs[LAST_CELL] <= HIGHEST, {}
+        for (age, year), kind in itertools.product(asked_of, TENTHS):
+            rate = any_rate(draw, kind)
+            shown = even_figure(even_sum(alive_in, kind, year, *rate), kind)
+            rows[kind, age, year, 0, *rate] = "no=6" if steep and kind in COHORT else shown
+        yield case(f"flat, {level} and {rise} a year", params, list(rows), rows)
 
 
 def limit_cases(draw):
-    yield case("limits, flat", flat(), at_limits())
+    yield case("flat, limits", flat(), at_limits())
     steep = dict(flat(), A=[0] * 91)
     yield case("limits, all steep", steep, draw.sample(at_limits(), 400))
     yield case("no queries", flat(), [])
@@ -158,7 +203,7 @@ def refused_cases(draw):
     """Torn and off-scale sheets, and those at the very limit."""
     sheet = sheets.text(sheets.realistic(draw))
     queries = draw.sample(at_limits(), 12) + [("q", 65, 2020, 0), ("ecoh", 121, 2065, 1), ("coh", 0, 2014, 0)]
-    queries += [("acoh", 120, 2020, 0, 0), ("aper", 65, 2020, 0, MOST_RATE + 1)]
+    queries += [("aper", 120, 2020, 0, 0), ("acoh", 65, 2020, 0, MOST_RATE + 1)]
     torn = [b"", sheet[:-1], b"\n" + sheet, sheet[: len(sheet) // 2], sheet.replace(b"sex", b"Sex")]
     torn.append(sheet.ljust(LONGEST, b"\n"))
     for i, data in enumerate(torn):
@@ -183,11 +228,12 @@ def mild(draw):
 
 
 def realistic_cases(draw, count):
+    """Each takes the next two of the years."""
+    years = LAST_YEAR + 1 - FIRST_YEAR
     for i in range(count):
         params = mild(draw) if i % 4 else sheets.realistic(draw)
-        year = draw.choice((FIRST_YEAR, LAST_YEAR, draw.randint(FIRST_YEAR, LAST_YEAR)))
-        queries = usual(draw, [year], 9)
-        yield case(f"realistic {i}", params, queries + at_rates(draw, queries, 6) + draw.sample(at_limits(), 14))
+        queries = usual(draw, [FIRST_YEAR + (2 * i + on) % years for on in (0, 1)], 7)
+        yield case(f"realistic {i}", params, queries + at_rates(draw, queries, 9) + draw.sample(at_limits(), 30))
 
 
 def extreme_cases(draw, count):
@@ -243,6 +289,52 @@ def steep_cases(draw, count):
         yield case(f"steep at {age}, {year}", params, sorted(set(queries)))
 
 
+def steep_once(draw, year):
+    """A set whose closure is steep in one year alone, and the age from 80 to 90 that makes it so: K's trend and kappa's fall
+    pull that age's log force opposite ways, so that it turns in the year, a unit outside an end of the range."""
+    n = year - START
+    while True:
+        params, age = dict(sheets.realistic(draw), a=97 * 10**6, k=10**10), draw.choice(CLOSURE)
+        end, beyond = draw.choice(((HIGHEST, 1), (LOWEST, -1)))
+        series = kappas(params, LAST_CELL + 1 - START)
+        params["be"][age], params["A"][age], params["al"][age] = -beyond * 10**7, 0, 0
+        pull = params["be"][age] * (series[n + 1][0] - series[n - 1][0])
+        params["B"][age] = -round(pull / (2 * params["theta"]))
+        log = log_force(params, age, params["K"] + n * params["theta"], series[n])
+        params["A"][age] = end + beyond - log[beyond == 1]
+        cells = Quotes(params).grid
+        if all(cells.steep(OLDEST, now) == (now == year) for now in range(FIRST_YEAR, LAST_CELL + 1)):
+            return params, age
+
+
+def needs(query, fitted, when):
+    """Whether a quote needs the closure of a year, or a fitted age's cell in it."""
+    kind, age, year, span = query[:4]
+    if kind not in COHORT:
+        return year == when and (kind in TENTHS or span == OLDEST + 1 - age)
+    held = age + when - year
+    return held >= age and (held == fitted or held > LAST_FITTED) and (kind in TENTHS or held < age + span)
+
+
+def steep_once_cases(draw):
+    """A closure that is steep in one year alone. A life of the age `before` reaches 120 in that year, and an older one is past
+    it; full spans end there."""
+    late = (LAST_YEAR + 1, 2100, 2121, draw.randint(2070, LAST_CELL), LAST_CELL - 1, LAST_CELL)
+    for when in (FIRST_YEAR, draw.randint(FIRST_YEAR, LAST_YEAR), LAST_YEAR, *late):
+        params, fitted = steep_once(draw, when)
+        years = {FIRST_YEAR, draw.randint(FIRST_YEAR, LAST_YEAR), LAST_YEAR, when - 1, when, when + 1}
+        queries = []
+        for year in sorted(y for y in years if FIRST_YEAR <= y <= LAST_YEAR):
+            before = OLDEST - when + year
+            ages = {0, draw.randint(1, 119), fitted, 91, 119, OLDEST}
+            ages |= {before - 1, before, before + 1, before + draw.randint(2, 60)}
+            for age in sorted(x for x in ages if 0 <= x <= OLDEST):
+                queries += [any_query(draw, kind, age, year) for kind in TENTHS]
+                queries += [(kind, age, year, OLDEST + 1 - age) for kind in SURVIVALS]
+        fixed = {query: "no=6" for query in queries if needs(query, fitted, when)}
+        yield case(f"steep at {fitted} in {when} alone", params, queries, fixed)
+
+
 # ---- sheets whose ends are searched to lie at a half step
 
 def moved(params, key, age, by):
@@ -252,6 +344,17 @@ def moved(params, key, age, by):
     return dict(params, A=[v + by * (x == age) for x, v in enumerate(params["A"])])
 
 
+def moving(params, key, query):
+    """The ends of a quote over how far K, or A at its age, is moved. A of an age below 80 moves that age's cell alone, which
+    is the quote's first, so that its other factors are worked once."""
+    kind, age, year, span, *rate = query
+    if key == "K" or age in CLOSURE:
+        return lambda by: Quotes(moved(params, key, age, by)).ends(*query)
+    cells = GridCells(params)
+    later = [cells.p(*cell) for cell in path(kind, age, year, span)[1:]]
+    return lambda by: grid_ends(kind, [GridCells(moved(params, key, age, by)).p(age, year), *later], *rate)
+
+
 def searched(job):
     """Sheets in which a quote's lower end (side 0), upper end (1) or middle (2) lies at a half step, or as near as can be on
     either side of it: by secants over K, or A at an age, and then by some tries close by."""
@@ -259,16 +362,16 @@ def searched(job):
     draw = random.Random(seed)
     out = []
     while not out:
-        params = mild(draw)
-        age, year = draw.randint(40, 105), draw.randint(FIRST_YEAR, LAST_YEAR)
+        params, long = mild(draw), kind in TENTHS and kind in COHORT
+        age, year = draw.randint(40, 79 if long else 105), draw.randint(FIRST_YEAR, LAST_YEAR)
         span = draw.randint(1, OLDEST + 1 - age) if kind in SURVIVALS else 0
         query = (kind, age, year, span, *any_rate(draw, kind))
-        key, at = ("A", age) if age <= 79 and kind not in TENTHS and draw.randrange(2) else ("K", None)
-        kept = {}
+        key = "A" if long or age <= 79 and kind not in TENTHS and draw.randrange(2) else "K"
+        ends_at, kept = moving(params, key, query), {}
 
         def end(by):
             if by not in kept:
-                ends = Quotes(moved(params, key, at, by)).ends(*query)
+                ends = ends_at(by)
                 kept[by] = sum(ends) / 2 if side == 2 else ends[side]
             return kept[by]
 
@@ -289,13 +392,19 @@ def searched(job):
             end(b + j * stride)
         near = sorted(kept, key=lambda by: abs(kept[by] - half))
         for by in [by for by in near if kept[by] >= half][:2] + [by for by in near if kept[by] < half][:2]:
-            changed = moved(params, key, at, by)
+            changed = moved(params, key, age, by)
             if not Quotes(changed).refusal(*query):
                 out.append(case(f"half step: {kind}, side {side}", changed, [query]))
     return out
 
 
 # ---- comparing
+
+def steep_to_120(given, query):
+    """Whether a cell of an expectancy or annuity is steep on the way to 120."""
+    kind, age, year, span = query[:4]
+    return any(given.grid.steep(*cell) for cell in path(kind, age, year, span)[: OLDEST + 1 - age])
+
 
 def complaints(given, no, query, line, counts):
     """What is wrong with the line of a query; the counts take what the second implementation says of it."""
@@ -304,12 +413,14 @@ def complaints(given, no, query, line, counts):
     if no:
         counts[f"refused {no}"] += 1
         counts["annuities refused"] += kind in ANNUITIES
+        counts["steep past 120 alone"] += no == STEEP and kind in TENTHS and not steep_to_120(given, query)
         if line != f"no={no}":
             yield f"not no={no}"
         return
     ends, value = given.ends(*query), given.value(*query)
     shown = figure(ends, kind)
     counts[f"{kind} {'open' if shown == OPEN else 'printed'}"] += 1
+    counts[kind, query[2]] += age == OLDEST
     size = step(kind)
     if any(min((end + size // 2) % size, -(end + size // 2) % size) <= NEAR for end in ends):
         counts[f"{kind} near"] += 1
@@ -331,15 +442,14 @@ def complaints(given, no, query, line, counts):
 
 
 def unlike_expectancies(asked_of, counts):
-    """Which annuities at rate 0 are not, end for end, half a year more than the expectancy less its last survival."""
+    """Which annuities at rate 0 are not, end for end, the expectancy and a half."""
     ends = {query: tuple(map(int, got.groups()[:2])) for query, line in asked_of if (got := ANSWER.fullmatch(line))}
     for (kind, age, year, _, *rate), own in ends.items():
-        along = [(f"e{kind[1:]}", age, year, 0), (kind[1:], age, year, OLDEST + 1 - age)]
-        if rate == [0] and all(query in ends for query in along):
+        expectancy = ends.get((f"e{kind[1:]}", age, year, 0))
+        if rate == [0] and expectancy:
             counts["at rate 0"] += 1
-            expectancy, last = (ends[query] for query in along)
-            if any(own[i] + last[i] != expectancy[i] + UNIT // 2 for i in (0, 1)):
-                yield f"{kind} {age} {year} at rate 0: {own}, with the expectancy {expectancy} and the last survival {last}"
+            if any(own[i] != expectancy[i] + UNIT // 2 for i in (0, 1)):
+                yield f"{kind} {age} {year} at rate 0: {own}, with the expectancy {expectancy}"
 
 
 def groups(one, no):
@@ -381,12 +491,14 @@ def compare(one):
         if bad:
             wrong.append(f"{one.name}, {' '.join(map(str, query))}: {line!r}: {', '.join(bad)}")
     wrong += [f"{one.name}, {said}" for said in unlike_expectancies(zip(one.queries, answers), counts)]
+    counts[one.name.split()[0].rstrip(",")] += accepted(counts, TENTHS)
     return counts, len(answers), wrong
 
 
 def cases(draw, pool):
-    out = list(fixed_cases()) + list(flat_prices()) + list(limit_cases(draw)) + list(refused_cases(draw))
-    out += list(realistic_cases(draw, 64)) + list(extreme_cases(draw, 50)) + list(steep_cases(draw, 36))
+    out = list(fixed_cases()) + list(refused_in_order()) + list(even_cases(draw)) + list(limit_cases(draw))
+    out += list(refused_cases(draw)) + list(realistic_cases(draw, 26)) + list(extreme_cases(draw, 40))
+    out += list(steep_cases(draw, 36)) + list(steep_once_cases(draw))
     jobs = [(kind, side, draw.random()) for kind in KINDS for side in (0, 1, 2) for _ in range(3)]
     for found in pool.map(searched, jobs):
         out += found
@@ -396,14 +508,17 @@ def cases(draw, pool):
 def missing(counts):
     """What the cases should have met and have not."""
     wanted = [f"{kind} {what}" for kind in KINDS for what in ("printed", "open", "near")]
-    wanted += [f"refused {no}" for no in REFUSALS] + ["at rate 0"]
-    few = [f"{LEAST_ANNUITIES} annuities"] if annuities(counts) < LEAST_ANNUITIES else []
+    wanted += [f"refused {no}" for no in REFUSALS] + ["at rate 0", "steep past 120 alone", *SORTS]
+    few = [f"{LEAST_ANNUITIES} annuities"] if accepted(counts, ANNUITIES) < LEAST_ANNUITIES else []
+    few += [f"{LEAST_TENTHS} expectancies and annuities"] if sum(counts[sort] for sort in SORTS) < LEAST_TENTHS else []
+    at_120 = itertools.product(TENTHS, range(FIRST_YEAR, LAST_YEAR + 1))
+    few += [f"{kind} at 120 in {year}" for kind, year in at_120 if not counts[kind, year]]
     return [what for what in wanted if not counts[what]] + few
 
 
-def annuities(counts):
-    """How many were accepted, and so held against the exact price."""
-    return sum(counts[f"{kind} {what}"] for kind in ANNUITIES for what in ("printed", "open"))
+def accepted(counts, kinds):
+    """How many quotes of some kinds were accepted, and so held against the exact value."""
+    return sum(counts[f"{kind} {what}"] for kind in kinds for what in ("printed", "open"))
 
 
 def report(counts, total):
@@ -414,7 +529,11 @@ def report(counts, total):
         print(f"{name}: {sum(each)},", *(f"{kind} {count}" for kind, count in zip(KINDS, each)))
     print("refused:", *(f"no={no} {counts[f'refused {no}']}" for no in REFUSALS))
     refused, free = counts["annuities refused"], counts["at rate 0"]
-    print(f"annuities: {annuities(counts)} accepted, {free} of them held against expectancies at rate 0; {refused} refused")
+    own = accepted(counts, ANNUITIES)
+    print(f"annuities: {own} accepted, {free} of them held against expectancies at rate 0; {refused} refused")
+    by_sort = ", ".join(f"{counts[sort]} of {sort} sheets" for sort in SORTS)
+    print(f"expectancies and annuities: {accepted(counts, TENTHS)} accepted, {by_sort};", end=" ")
+    print(f"{counts['steep past 120 alone']} refused for a cell past 120 alone")
 
 
 def main():

@@ -7,7 +7,6 @@ pub mod Steps
 pub mod Bounds
 pub mod Holds
 pub mod Width
-pub mod Parts
 pub mod Narrowing
 pub mod NoInterest
 -- examples

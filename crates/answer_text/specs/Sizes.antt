@@ -26,7 +26,7 @@ use Rattle.path_quotes.specs.declared.Answer.{Answer}
 use Rattle.path_quotes.specs.declared.Answer.the-variants.{Quoted, Refused}
 use Rattle.quote.specs.Quote.{queryPath, queryEnds, refusalOf, quoteOf, answerBy, answerOf}
 use Rattle.quote.specs.AnswerLaws.{AnswerBy, quoted, refused, answer-by}
-use Rattle.quote.specs.Tests.{all-passed, counted, path-ages}
+use Rattle.quote.specs.Tests.{all-passed, counted, path-room}
 use Rattle.figure_text.specs.FigureText.{Printable}
 
 -- a quote whose numbers have at most 15 digits
@@ -68,8 +68,8 @@ unfolding quoteOf queryEnds queryPath
 quote-sized p k age year span e =
     let c = counted k (all-passed p k age year span e .table) in
     let f = ruleOf k .fold in
-    let l = path-length (ruleOf k .cohort) (natAbs age) (natAbs year - startYear) (countOf f (natAbs age) (natAbs span)) in
-    let v = value-small billionths billionths-sound p (queryPath k age year span) (omega (arith, l, path-ages k c)) (foldIs f) in
+    let l = path-length (ruleOf k .cohort) (natAbs age) (natAbs year - startYear) (countOf f (natAbs year - startYear) (natAbs span)) in
+    let v = value-small billionths billionths-sound p (queryPath k age year span) (omega (arith, l, path-room k c)) (foldIs f) in
     record {
       lower = omega (arith, v .lower);
       upper = omega (arith, v .upper);

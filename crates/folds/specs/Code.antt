@@ -13,9 +13,9 @@ pub record AtMost (m : ℕ) (e : Ends) : Type 0 where
   pub lower : e .lower ≤ m
   pub upper : e .upper ≤ m
 
--- room for the factors of the longest path, ages 0 to 120
+-- room for the factors of the longest path: of a quote in 2014, "to the last factor in 2184"
 abbrev pub mostFactors : ℕ
-mostFactors = 121
+mostFactors = 171
 
 -- the code's factors as the definitions'
 abbrev pub listOf : List code.Ends → List Ends

@@ -38,6 +38,6 @@ sumOver f (suc n) = plus (sumOver f n) (f n)
 abbrev pub survivalsOver : Grid → List Ends → ℕ → Ends
 survivalsOver g ps = λ k. survivalOver g (take (suc k) ps)
 
--- "Expectancy = 500,000,000 + survivals over k + 1 years, k = 0 to 120 − x": one k for each factor
+-- "Expectancy = 500,000,000 + survivals over k + 1 years": one k for each factor
 unfoldable pub expectancyOver : Grid → List Ends → Ends
 expectancyOver g ps = plus (half g) (sumOver (survivalsOver g ps) (length ps))

@@ -9,6 +9,7 @@ pub mod Bounds
 pub mod Holds
 pub mod Width
 pub mod Parts
+pub mod Plain
 pub mod Narrowing
 -- examples
 pub mod Rows

@@ -1,7 +1,6 @@
 -- Rows that are proved by computing.
 use mathlib.Core.Path.{_≡_, refl}
 use mathlib.Core.List.{List, [], _∷_, _++_}
-use Prim.Native.Nat.{ℕ}
 use lib.ListN.{replicate}
 use Rattle.whole.specs.Division.{ceilDivℕ}
 use Rattle.expo.specs.Grid.{Ends}
@@ -23,14 +22,12 @@ two-years-on-average : expectancyOver billionths factors ≡ record { lower = 16
 unfolding factors withFactor survivalFrom survivalOver one ceilDivℕ half plus sumOver expectancyOver
 two-years-on-average = refl
 
--- the longest path: 91 factors at most 100 units wide and 30 at most 600
-widths : List ℕ
-widths = replicate 91 100 ++ replicate 30 600
-
-longest-survival : spread widths ≡ 27342
-unfolding widths spread
+-- the longest survival: 91 factors at most 100 units wide and 30 at most 600
+longest-survival : spread (replicate 91 100 ++ replicate 30 600) ≡ 27342
+unfolding spread
 longest-survival = refl
 
-longest-expectancy : spreads widths ≡ 985362
-unfolding widths spread spreads total
+-- the longest expectancy: 171 factors at most 600 units wide
+longest-expectancy : spreads (replicate 171 600) ≡ 8853012
+unfolding spread spreads total
 longest-expectancy = refl

@@ -9,8 +9,8 @@ ghost use Rattle.expo.specs.Code.{endsOf};
 ghost use Rattle.folds.specs.Folds.{withFactor, survivalOver, expectancyOver};
 ghost use Rattle.folds.specs.Code.{AtMost, listOf, Chances};
 
-// Room for the factors of the longest path, ages 0 to 120.
-pub const MOST_FACTORS: usize = 121;
+// Room for the factors of the longest path: of a quote in 2014, with its last factor in 2184.
+pub const MOST_FACTORS: usize = 171;
 
 // The half year that is lived, on average, in the year of death.
 const HALF: u64 = UNIT / 2;

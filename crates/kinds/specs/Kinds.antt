@@ -1,4 +1,4 @@
--- The kinds of figure (paper 01, "Figures on offer"; paper 02, E1): of each the fold, the path and the years; and of each fold
+-- The kinds of figure (paper 01, "Figures on offer"; paper 02, E1 and E2): of each the fold, the path and the years; and of each fold
 -- the path's length, the longest span, the step and how far apart the ends may lie.
 use mathlib.Core.Bool.{Bool, true, false}
 use mathlib.Core.Path.{_≡_}
@@ -8,7 +8,7 @@ use Rattle.params.specs.Limits.{quoteYears, lastYears}
 use Rattle.weights.specs.Weights.{lastClosed}
 use Rattle.exact.specs.Figure.{probabilityStep, expectancyStep}
 use Rattle.paths.specs.Values as path
-use Rattle.paths.specs.Width.{ageLimit, survivalLimit, expectancyLimit, annuityLimit}
+use Rattle.paths.specs.Width.{ageLimit, survivalLimit, expectancyLimit}
 use Rattle.kinds.specs.declared.Kind.{Kind}
 use Rattle.kinds.specs.declared.Kind.the-variants as kind
 use Rattle.kinds.specs.declared.Fold.{Fold}
@@ -69,9 +69,13 @@ rateOf Survival = pos 0
 rateOf Expectancy = pos 0
 rateOf (Annuity rate) = rate
 
--- ages end at 120, and so do the years from age x on
+-- the years to age 121, which end every span
 abbrev pub yearsLeft : ℕ → ℕ
 yearsLeft x = suc lastClosed - x
+
+-- the years from year n on, "to the last factor in 2184"
+abbrev pub yearsOn : ℕ → ℕ
+yearsOn n = suc lastYears - n
 
 -- "span outside 0 to 121 − age; for `q` and expectancies, not 0"; an annuity "has span 0 (any other is 5)"
 unfoldable pub mostSpan : Fold → ℕ → ℕ
@@ -80,13 +84,13 @@ mostSpan Survival x = yearsLeft x
 mostSpan Expectancy x = 0
 mostSpan (Annuity rate) x = 0
 
--- years of the path: one for q, the span of a survival, of an expectancy "k = 0 to 120 − x", and of an annuity those before
--- its last payment, "at most to age 120"
+-- years of the path from year n on: one for q, and the span of a survival; "Expectancies and annuities now run on so, to the
+-- last factor in 2184; period ones have as many factors. An annuity pays now and once after each factor."
 unfoldable pub countOf : Fold → ℕ → ℕ → ℕ
-countOf Death x span = 1
-countOf Survival x span = span
-countOf Expectancy x span = yearsLeft x
-countOf (Annuity rate) x span = lastClosed - x
+countOf Death n span = 1
+countOf Survival n span = span
+countOf Expectancy n span = yearsOn n
+countOf (Annuity rate) n span = yearsOn n
 
 -- "Steps are 0.00001 for probabilities and 0.1 for expectancies" and annuities: in units; "A probability prints five
 -- decimals, an expectancy one."
@@ -102,10 +106,10 @@ decimalsOf Survival = 5
 decimalsOf Expectancy = 1
 decimalsOf (Annuity rate) = 1
 
--- "Ends are at most this far apart, in units: q to age 90, 100; q above, 600; survival, 30,000; expectancy, 2,000,000." An annuity's
--- too are "at most 2,000,000 units apart".
+-- "Ends are at most this far apart, in units: q to age 90, 100; q above, 600; survival, 30,000"; of
+-- expectancies and annuities "ends may now lie 10,000,000 units apart".
 unfoldable pub widthOf : Fold → ℕ → ℕ
 widthOf Death x = ageLimit x
 widthOf Survival x = survivalLimit
 widthOf Expectancy x = expectancyLimit
-widthOf (Annuity rate) x = annuityLimit
+widthOf (Annuity rate) x = expectancyLimit

@@ -9,7 +9,8 @@ ghost use Rattle.expo.specs.Code.{endsOf};
 ghost use Rattle.weights.specs.Weights.{lastClosed};
 ghost use Rattle.folds.specs.Code.{listOf, Chances};
 ghost use Rattle.paths.specs.Values.{foldOver};
-ghost use Rattle.kinds.specs.Kinds.{ruleOf, foldIs, rateOf, mostSpan, countOf, stepOf, decimalsOf};
+ghost use Rattle.params.specs.Limits.{lastYears};
+ghost use Rattle.kinds.specs.Kinds.{ruleOf, foldIs, rateOf, mostSpan, yearsOn, countOf, stepOf, decimalsOf};
 ghost use Rattle.kinds.specs.Code.{RateWithin};
 use exact::EXPECTANCY_STEP;
 use exact::PROBABILITY_STEP;
@@ -107,22 +108,30 @@ pub fn most_span(fold: Fold, age: usize) -> usize
 {
     match fold {
         Fold::Death => 0,
-        Fold::Survival => MOST_FACTORS - age,
+        Fold::Survival => LAST_CLOSED + 1 - age,
         Fold::Expectancy => 0,
         Fold::Annuity(_) => 0,
     }
 }
 
-// How many years the path has.
-pub fn count_of(fold: Fold, age: usize, span: usize) -> usize
-    requires { ⌜ age ≤ lastClosed ⌝ }
-    ensures { λ r. ⌜ r ≡ countOf fold age span ⌝ }
+// The years from a year on, to the last of the table.
+fn years_on(year: u64) -> usize
+    requires { ⌜ year ≤ lastYears ⌝ }
+    ensures { λ r. ⌜ r ≡ yearsOn year ⌝ }
+{
+    (LAST_YEARS as u64 + 1 - year) as usize
+}
+
+// How many years the path has from a year on.
+pub fn count_of(fold: Fold, year: u64, span: usize) -> usize
+    requires { ⌜ year ≤ lastYears ⌝ }
+    ensures { λ r. ⌜ r ≡ countOf fold year span ⌝ }
 {
     match fold {
         Fold::Death => 1,
         Fold::Survival => span,
-        Fold::Expectancy => MOST_FACTORS - age,
-        Fold::Annuity(_) => LAST_CLOSED - age,
+        Fold::Expectancy => years_on(year),
+        Fold::Annuity(_) => years_on(year),
     }
 }
 

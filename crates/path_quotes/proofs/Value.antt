@@ -35,7 +35,7 @@ pub path-chances : {p : Params} {w : Path} {es : List code.Ends} → PathWithin 
     → listOf (take (w .count) es) ≡ factors billionths p (pathIs w) → Chances es (w .count)
 path-chances {p} {w} {es} h e =
     record {
-      room = omega (arith, h .ages);
+      room = h .room;
       each = rw (first-of (w .count) es, e) (factors-chances billionths billionths-sound p (pathIs w));
     }
 
@@ -43,7 +43,7 @@ path-chances {p} {w} {es} h e =
 pub value-fits : {p : Params} {w : Path} (fold : Fold) → PathWithin p w
     → let e = gridValue (foldIs fold) billionths p (pathIs w) in (e .lower < 2 ^ 62) × (e .upper < 2 ^ 62)
 value-fits {p} {w} fold h =
-    let l : length (pathIs w) ≤ mostFactors = rw (path-length (w .cohort) (w .age) (w .year) (w .count)) (omega (arith, h .ages)) in
+    let l : length (pathIs w) ≤ mostFactors = rw (path-length (w .cohort) (w .age) (w .year) (w .count)) (h .room) in
     let v = value-small billionths billionths-sound p (pathIs w) l (foldIs fold) in
     (omega (arith, v .lower), omega (arith, v .upper))
 

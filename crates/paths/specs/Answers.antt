@@ -94,11 +94,11 @@ path-years true x n k h c s l = omega (arith, c refl)
 path-years false x n k h c s l = h
 
 -- a path in the table whose needed cells are in range
-pub path-answered : (p : Params) (cohort : Bool) (x n k : ℕ) → T (inLimits p) → x + k ≤ suc lastClosed
+pub path-answered : (p : Params) (cohort : Bool) (x n k : ℕ) → T (inLimits p)
     → ((s : ℕ) → s < k → placeAt cohort x n s .year ≤ lastYears) → T (pathInRange p (pathOf cohort x n k))
     → AnsweredPath p (pathOf cohort x n k)
 unfolding pathOf placeAt
-path-answered p cohort x n k limits ages years t =
+path-answered p cohort x n k limits years t =
     each-with (in-range-each p (pathOf cohort x n k) t)
     (each-listed {P = λ (c : Place). (c .age ≤ lastClosed) × (c .year ≤ lastYears)} (placeAt cohort x n) 0 k
     (λ s l. (omega arith, years s (omega arith))))

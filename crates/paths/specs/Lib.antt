@@ -3,6 +3,7 @@ pub mod Path
 pub mod Values
 -- laws
 pub mod Answers
+pub mod Oldest
 pub mod Holds
 pub mod Narrowing
 pub mod Width

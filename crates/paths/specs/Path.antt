@@ -2,11 +2,12 @@
 -- from the start year. Only a path knows a cohort from a period.
 use mathlib.Core.Bool.{Bool, true, cond, _&&_}
 use mathlib.Core.List.{List, [], _∷_, map}
-use Prim.Native.Nat.{ℕ, _+_}
+use Prim.Native.Nat.{ℕ, _+_, min}
 use Rattle.whole.specs.Table.{listed}
 use Rattle.fraction.specs.Bracket.{Bracket}
 use Rattle.expo.specs.Grid.{Grid, Ends}
 use Rattle.params.specs.declared.Params.{Params}
+use Rattle.weights.specs.Weights.{lastClosed}
 use Rattle.mortality.specs.Cell.{survival, neededInRange}
 use Rattle.mortality.specs.Exact.{orderSurvival}
 
@@ -15,9 +16,10 @@ pub record Place : Type 0 where
   pub age : ℕ
   pub year : ℕ
 
--- "Cohort factors are ages x + s in years t + s; period factors stay in t."
+-- "Cohort factors are ages x + s in years t + s; period factors stay in t." Paper 02: "the probability of age 120, in the
+-- year reached, for older ages".
 unfoldable pub placeAt : Bool → ℕ → ℕ → ℕ → Place
-placeAt cohort x n s = record { age = x + s; year = cond cohort (n + s) n }
+placeAt cohort x n s = record { age = min (x + s) lastClosed; year = cond cohort (n + s) n }
 
 -- the path over k years from age x in year n
 unfoldable pub pathOf : Bool → ℕ → ℕ → ℕ → List Place

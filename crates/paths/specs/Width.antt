@@ -2,19 +2,19 @@
 use mathlib.Core.Path.{_≡_, refl, ap, ap₂, sym, _∙_}
 use mathlib.Core.Bool.{Bool, true, false, cond}
 use mathlib.Core.List.{List, [], _∷_, map, Forall₂}
-use Prim.Native.Nat.{ℕ, suc, _+_, _*_, _≤_, _<_}
-use native.Mathlib.Nat.{add-zero, zero-add, mul-le-mul-right, div-le-self}
+use Prim.Native.Nat.{ℕ, zero, suc, _+_, _*_, _≤_, _<_}
+use native.Mathlib.Nat.{add-zero, zero-add, le-refl, mul-le-mul, mul-le-mul-right, div-le-self}
 use native.Mathlib.Decide.{decLt}
 use native.Mathlib.Omega.{arith}
-use lib.Dec.{ltb}
-use lib.ListN.{length, take, drop}
+use lib.Dec.{ltb, lit≤}
+use lib.ListN.{length, take, drop, length-map}
 use borrow.Author.Tests.{lt-ltb, le-ltb}
 use Rattle.whole.specs.Table.{listed, listed-shift, listed-part, listed-map}
 use Rattle.expo.specs.Grid.{Grid}
 use Rattle.expo.specs.Billionths.{billionths}
 use Rattle.expo.specs.Facts.{Sound}
 use Rattle.expo.specs.BillionthsFacts.{billionths-sound}
-use Rattle.expo.specs.Exponential.{expBetween, total}
+use Rattle.expo.specs.Exponential.{expBetween}
 use Rattle.expo.specs.AtMostOne.{exp-lower-one, exp-upper-one}
 use Rattle.params.specs.declared.Params.{Params}
 use Rattle.weights.specs.Weights.{firstClosed, lastClosed}
@@ -23,10 +23,10 @@ use Rattle.folds.specs.Code.{AtMost, mostFactors}
 use Rattle.folds.specs.Steps.{survival-one}
 use Rattle.folds.specs.Bounds.{survival-at-most, expectancy-at-most}
 use Rattle.folds.specs.Width.{Chance, spread, spreads, survival-chance, expectancy-width}
-use Rattle.folds.specs.Parts.{spread-part, spreads-part}
+use Rattle.folds.specs.Parts.{spread-part}
+use Rattle.folds.specs.Plain.{spreads-plain}
 use Rattle.annuity.specs.Bounds.{annuity-at-most}
 use Rattle.annuity.specs.Width.{priceSpread, annuity-width}
-use Rattle.annuity.specs.Parts.{price-part}
 use Rattle.force.specs.Force.{deathOf}
 use Rattle.mortality.specs.Cell as cell
 use Rattle.mortality.specs.Answered.{Answered}
@@ -35,8 +35,10 @@ use Rattle.mortality.specs.Billionths.{youngLimit, oldLimit, p-width-young, p-w
 use Rattle.paths.specs.Path.{Place, placeAt, pathOf, factors}
 use Rattle.paths.specs.Values.{Fold, death, survival, expectancy, annuity, foldOver, gridValue}
 use Rattle.paths.specs.Answers.{AnsweredPath, factors-length}
+use Rattle.paths.specs.Oldest.{place-age}
 
--- "Ends are at most this far apart, in units: q to age 90, 100; q above, 600; survival, 30,000; expectancy, 2,000,000."
+-- "Ends are at most this far apart, in units: q to age 90, 100; q above, 600; survival, 30,000", and paper 02 of
+-- expectancies and annuities: "ends may now lie 10,000,000 units apart".
 unfoldable pub ageLimit : ℕ → ℕ
 ageLimit x = cond (ltb x firstClosed) youngLimit oldLimit
 
@@ -44,11 +46,7 @@ abbrev pub survivalLimit : ℕ
 survivalLimit = 30000
 
 abbrev pub expectancyLimit : ℕ
-expectancyLimit = 2000000
-
--- paper 02, E1: "ends at most 2,000,000 units apart"
-abbrev pub annuityLimit : ℕ
-annuityLimit = 2000000
+expectancyLimit = 10000000
 
 -- ---- one cell
 
@@ -80,30 +78,40 @@ p-chance {p} {x} {n} a =
 -- ---- a path of one cell
 
 -- the same for a cohort and a period
-one-place : (cohort : Bool) (x n : ℕ) → pathOf cohort x n 1 ≡ record { age = x; year = n } ∷ []
+one-place : (cohort : Bool) (x n : ℕ) → x ≤ lastClosed → pathOf cohort x n 1 ≡ record { age = x; year = n } ∷ []
 unfolding pathOf listed placeAt
-one-place true x n = ap₂ (λ (y m : ℕ). record { age = y; year = m } ∷ []) (add-zero x) (add-zero n)
-one-place false x n = ap (λ (y : ℕ). record { age = y; year = n } ∷ []) (add-zero x)
+one-place true x n l = ap₂ (λ (y m : ℕ). record { age = y; year = m } ∷ []) (omega arith) (omega arith)
+one-place false x n l = ap (λ (y : ℕ). record { age = y; year = n } ∷ []) (omega arith)
 
 -- its chance to die is the cell's q
-pub one-cell : (g : Grid) → 0 < g .unit → (p : Params) (cohort : Bool) (x n : ℕ)
+pub one-cell : (g : Grid) → 0 < g .unit → (p : Params) (cohort : Bool) (x n : ℕ) → x ≤ lastClosed
     → gridValue death g p (pathOf cohort x n 1) ≡ cell.death g p x n
 unfolding gridValue foldOver factors cell.death
-one-cell g positive p cohort x n =
-    rw (one-place cohort x n) (ap (deathOf g) (survival-one g positive (cell.survival g p x n)))
+one-cell g positive p cohort x n l =
+    rw (one-place cohort x n l) (ap (deathOf g) (survival-one g positive (cell.survival g p x n)))
 
-pub death-limit : {p : Params} (cohort : Bool) (x n : ℕ) → AnsweredPath p (pathOf cohort x n 1)
+pub death-limit : {p : Params} (cohort : Bool) (x n : ℕ) → x ≤ lastClosed → AnsweredPath p (pathOf cohort x n 1)
     → gridValue death billionths p (pathOf cohort x n 1) .upper
     ≤ gridValue death billionths p (pathOf cohort x n 1) .lower + ageLimit x
-death-limit {p} cohort x n a =
-    rw (one-cell billionths (billionths-sound .unit-positive) p cohort x n)
-    (death-narrowed billionths p x n (ageLimit x) (p-narrowed (first (rw (one-place cohort x n) at a))) .width)
+death-limit {p} cohort x n l a =
+    rw (one-cell billionths (billionths-sound .unit-positive) p cohort x n l)
+    (death-narrowed billionths p x n (ageLimit x) (p-narrowed (first (rw (one-place cohort x n l) at a))) .width)
   where
     first : AnsweredPath p (record { age = x; year = n } ∷ []) → Answered p x n
     first (also h none) = h
 
--- ---- a path's widths, a part of those of all ages
+-- ---- a path's widths
 
+-- of its factors, in order
+abbrev pub pathLimits : List Place → List ℕ
+pathLimits path = map (λ (c : Place). ageLimit (c .age)) path
+
+pub path-chances : {p : Params} {path : List Place} → AnsweredPath p path
+    → Forall₂ (Chance billionths) (pathLimits path) (factors billionths p path)
+unfolding factors
+path-chances a = each-places _ _ (λ c t. p-chance t) a
+
+-- to age 120 they are a part of those of all ages
 abbrev ageLimits : List ℕ
 ageLimits = listed ageLimit 0 (suc lastClosed)
 
@@ -111,62 +119,68 @@ widest-survival : spread ageLimits ≡ 27342
 unfolding spread listed ageLimit
 widest-survival = refl
 
-widest-expectancy : spreads ageLimits ≡ 985362
-unfolding spread spreads total listed ageLimit
-widest-expectancy = refl
+-- two rules that agree
+listed-same : (f h : ℕ → ℕ) (i n : ℕ) → ((k : ℕ) → k < i + n → f k ≡ h k) → listed f i n ≡ listed h i n
+unfolding listed
+listed-same f h i zero e = refl
+listed-same f h i (suc n) e =
+    ap₂ (λ (v : ℕ) (l : List ℕ). v ∷ l) (e i (omega arith)) (listed-same f h (suc i) n (λ k l. e k (omega arith)))
 
-widest-annuity : priceSpread ageLimits ≡ 1000368
-unfolding priceSpread spread spreads total listed ageLimit
-widest-annuity = refl
-
-limits-part : (cohort : Bool) (x n k : ℕ) → x + k ≤ suc lastClosed
-    → map (λ (c : Place). ageLimit (c .age)) (pathOf cohort x n k) ≡ take k (drop x ageLimits)
-unfolding pathOf placeAt
+limits-part : (cohort : Bool) (x n k : ℕ) → x + k ≤ suc lastClosed → pathLimits (pathOf cohort x n k) ≡ take k (drop x ageLimits)
+unfolding pathOf
 limits-part cohort x n k h =
-    listed-map (λ (c : Place). ageLimit (c .age)) (placeAt cohort x n) 0 k ∙ listed-shift ageLimit x 0 k
+    listed-map (λ (c : Place). ageLimit (c .age)) (placeAt cohort x n) 0 k
+    ∙ listed-same _ _ 0 k (λ s l. ap ageLimit (place-age cohort x n s (omega arith))) ∙ listed-shift ageLimit x 0 k
     ∙ ap (λ (y : ℕ). listed ageLimit y k) (add-zero x ∙ sym (zero-add x)) ∙ sym (listed-part ageLimit 0 (suc lastClosed) x k h)
 
-module _ {p : Params} (cohort : Bool) (x n k : ℕ) (h : x + k ≤ suc lastClosed) (a : AnsweredPath p (pathOf cohort x n k)) where
-  path-chances : Forall₂ (Chance billionths) (take k (drop x ageLimits)) (factors billionths p (pathOf cohort x n k))
-  unfolding factors
-  path-chances = rw (← limits-part cohort x n k h) (each-places _ _ (λ c t. p-chance t) a)
+pub survival-limit : {p : Params} (cohort : Bool) (x n k : ℕ) → x + k ≤ suc lastClosed → AnsweredPath p (pathOf cohort x n k)
+    → gridValue survival billionths p (pathOf cohort x n k) .upper
+    ≤ gridValue survival billionths p (pathOf cohort x n k) .lower + survivalLimit
+unfolding gridValue foldOver
+survival-limit cohort x n k h a =
+    omega (
+      arith,
+      survival-chance billionths (billionths-sound .unit-positive) (path-chances a) .width,
+      ap spread (limits-part cohort x n k h),
+      spread-part x k ageLimits,
+      widest-survival,
+    )
 
-  pub survival-limit : gridValue survival billionths p (pathOf cohort x n k) .upper
-      ≤ gridValue survival billionths p (pathOf cohort x n k) .lower + survivalLimit
-  unfolding gridValue foldOver
-  survival-limit =
-      omega (
-        arith,
-        survival-chance billionths (billionths-sound .unit-positive) path-chances .width,
-        spread-part x k ageLimits,
-        widest-survival,
-      )
+-- at any age none is above 600, so those of an expectancy are at most the plain sum of 602 units a factor, over 171 factors
+old-widest : (x : ℕ) → ageLimit x ≤ oldLimit
+unfolding ageLimit
+old-widest x = elim (decLt x firstClosed) [
+  | yes l ↦ rw (lt-ltb x firstClosed l) (lit≤ tt)
+  | no l ↦ let k : firstClosed ≤ x = omega arith in rw (le-ltb x firstClosed k) (le-refl oldLimit)
+]
 
-  pub expectancy-limit : gridValue expectancy billionths p (pathOf cohort x n k) .upper
-      ≤ gridValue expectancy billionths p (pathOf cohort x n k) .lower + expectancyLimit
-  unfolding gridValue foldOver
-  expectancy-limit =
-      omega (
-        arith,
-        expectancy-width billionths (billionths-sound .unit-positive) path-chances,
-        spreads-part x k ageLimits,
-        widest-expectancy,
-      )
+limits-widest : (path : List Place) → Each (λ (w : ℕ). w ≤ oldLimit) (pathLimits path)
+limits-widest [] = none
+limits-widest (c ∷ path) = also (old-widest (c .age)) (limits-widest path)
 
-  pub annuity-limit : (rate : ℕ) → gridValue (annuity rate) billionths p (pathOf cohort x n k) .upper
-      ≤ gridValue (annuity rate) billionths p (pathOf cohort x n k) .lower + annuityLimit
-  unfolding gridValue foldOver
-  annuity-limit rate =
-      omega (
-        arith,
-        annuity-width billionths (billionths-sound .unit-positive) rate path-chances,
-        price-part x k ageLimits,
-        widest-annuity,
-      )
+pub path-spreads : (path : List Place) → length path ≤ mostFactors → spreads (pathLimits path) ≤ 8853012
+path-spreads path h = omega (arith, spreads-plain oldLimit (limits-widest path) {k = mostFactors} (rw (length-map path _) h))
+
+pub expectancy-limit : {p : Params} {path : List Place} → length path ≤ mostFactors → AnsweredPath p path
+    → gridValue expectancy billionths p path .upper ≤ gridValue expectancy billionths p path .lower + expectancyLimit
+unfolding gridValue foldOver
+expectancy-limit {path = path} h a =
+    omega (arith, expectancy-width billionths (billionths-sound .unit-positive) (path-chances a), path-spreads path h)
+
+pub annuity-limit : {p : Params} {path : List Place} → length path ≤ mostFactors → AnsweredPath p path → (rate : ℕ)
+    → gridValue (annuity rate) billionths p path .upper ≤ gridValue (annuity rate) billionths p path .lower + expectancyLimit
+unfolding gridValue foldOver priceSpread
+annuity-limit {path = path} h a rate =
+    let n = length (pathLimits path) in
+    let l : n ≤ mostFactors = rw (length-map path (λ (c : Place). ageLimit (c .age))) h in
+    let a₁ : suc n ≤ suc mostFactors = omega arith in
+    let a₂ : n + 2 ≤ mostFactors + 2 = omega arith in
+    let m = mul-le-mul a₁ a₂ in
+    omega (arith, annuity-width billionths (billionths-sound .unit-positive) rate (path-chances a), path-spreads path h)
 
 -- ---- sizes
 
--- a value along any path of at most 121 cells is at most 122
+-- a value along any path of at most 171 cells is at most 172
 pub value-small : (g : Grid) (s : Sound g) (p : Params) (path : List Place) → length path ≤ mostFactors → (f : Fold)
     → AtMost (suc mostFactors * g .unit) (gridValue f g p path)
 unfolding gridValue foldOver deathOf

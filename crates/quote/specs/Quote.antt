@@ -29,7 +29,8 @@ use Rattle.path_quotes.specs.declared.Answer.the-variants.{Quoted, Refused}
 unfoldable pub queryPath : Kind → ℤ → ℤ → ℤ → List Place
 queryPath kind age year span =
     let r = ruleOf kind in
-    pathOf (r .cohort) (natAbs age) (natAbs year - startYear) (countOf (r .fold) (natAbs age) (natAbs span))
+    let n = natAbs year - startYear in
+    pathOf (r .cohort) (natAbs age) n (countOf (r .fold) n (natAbs span))
 
 unfoldable pub queryEnds : Params → Kind → ℤ → ℤ → ℤ → Ends
 queryEnds p kind age year span = gridValue (foldIs (ruleOf kind .fold)) billionths p (queryPath kind age year span)

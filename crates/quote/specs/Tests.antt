@@ -8,8 +8,9 @@ use lib.IntN.{ℤ, pos, natAbs}
 use Rattle.whole.specs.Clash.{clash}
 use Rattle.params.specs.declared.Params.{Params}
 use Rattle.params.specs.declared.Refusal.the-variants.{Accepted}
-use Rattle.params.specs.Limits.{inLimits, startYear, lastYears}
+use Rattle.params.specs.Limits.{inLimits, startYear, firstYears, lastYears}
 use Rattle.weights.specs.Weights.{lastClosed}
+use Rattle.folds.specs.Code.{mostFactors}
 use Rattle.paths.specs.Path.{placeAt, pathInRange}
 use Rattle.paths.specs.Answers.{AnsweredPath, path-years, path-answered}
 use Rattle.annuity.specs.Annuity.{mostRate}
@@ -43,38 +44,37 @@ all-passed p k age year span e =
 
 -- ---- the numbers of a query in the table
 
--- a kind's last year, and how long its path may be
+-- a kind's last year, and that its path ends in the table's last year or before
 pub record KindWithin (k : Kind) : Type 0 where
   pub years : ℕ
   pub years-are : ruleOf k .years ≡ pos years
   pub last : years ≤ lastYears
-  pub ages : (x s : ℕ) → x ≤ lastClosed → s ≤ mostSpan (ruleOf k .fold) x → x + countOf (ruleOf k .fold) x s ≤ suc lastClosed
-  pub cohort : (x s : ℕ) → x ≤ lastClosed → s ≤ mostSpan (ruleOf k .fold) x
-      → years + countOf (ruleOf k .fold) x s ≤ suc lastYears
+  pub ends : (x n s : ℕ) → x ≤ lastClosed → firstYears ≤ n → n ≤ years → s ≤ mostSpan (ruleOf k .fold) x
+      → n + countOf (ruleOf k .fold) n s ≤ suc lastYears
 
 pub kind-within : (k : Kind) → KindWithin k
 unfolding ruleOf mostSpan countOf
 kind-within kind.Death =
-    record { years = _; years-are = refl; last = omega arith; ages = λ x s h l. omega arith; cohort = λ x s h l. omega arith }
+    record { years = _; years-are = refl; last = omega arith; ends = λ x n s h f t l. omega arith }
 kind-within kind.CohortSurvival =
-    record { years = _; years-are = refl; last = omega arith; ages = λ x s h l. omega arith; cohort = λ x s h l. omega arith }
+    record { years = _; years-are = refl; last = omega arith; ends = λ x n s h f t l. omega arith }
 kind-within kind.PeriodSurvival =
-    record { years = _; years-are = refl; last = omega arith; ages = λ x s h l. omega arith; cohort = λ x s h l. omega arith }
+    record { years = _; years-are = refl; last = omega arith; ends = λ x n s h f t l. omega arith }
 kind-within kind.CohortExpectancy =
-    record { years = _; years-are = refl; last = omega arith; ages = λ x s h l. omega arith; cohort = λ x s h l. omega arith }
+    record { years = _; years-are = refl; last = omega arith; ends = λ x n s h f t l. omega arith }
 kind-within kind.PeriodExpectancy =
-    record { years = _; years-are = refl; last = omega arith; ages = λ x s h l. omega arith; cohort = λ x s h l. omega arith }
+    record { years = _; years-are = refl; last = omega arith; ends = λ x n s h f t l. omega arith }
 kind-within (kind.CohortAnnuity rate) =
-    record { years = _; years-are = refl; last = omega arith; ages = λ x s h l. omega arith; cohort = λ x s h l. omega arith }
+    record { years = _; years-are = refl; last = omega arith; ends = λ x n s h f t l. omega arith }
 kind-within (kind.PeriodAnnuity rate) =
-    record { years = _; years-are = refl; last = omega arith; ages = λ x s h l. omega arith; cohort = λ x s h l. omega arith }
+    record { years = _; years-are = refl; last = omega arith; ends = λ x n s h f t l. omega arith }
 
 -- the query's numbers as the table counts them
 pub record Counted (k : Kind) (age year span : ℤ) : Type 0 where
   pub age-is : pos (natAbs age) ≡ age
   pub age-in : natAbs age ≤ lastClosed
   pub year-is : pos (natAbs year) ≡ year
-  pub year-from : startYear ≤ natAbs year
+  pub year-from : startYear + firstYears ≤ natAbs year
   pub year-to : natAbs year ≤ startYear + kind-within k .years
   pub span-is : pos (natAbs span) ≡ span
   pub span-in : natAbs span ≤ mostSpan (ruleOf k .fold) (natAbs age)
@@ -92,7 +92,7 @@ counted k {age} {year} {span} t =
       age-is = a .0;
       age-in = a .2;
       year-is = y .0;
-      year-from = omega (arith, y .1);
+      year-from = y .1;
       year-to = y .2;
       span-is = s .0;
       span-in = s .2;
@@ -109,20 +109,24 @@ module _ (k : Kind) {age year span : ℤ} (c : Counted k age year span) where
   n = natAbs year - startYear
 
   abbrev count : ℕ
-  count = countOf (ruleOf k .fold) x (natAbs span)
-
-  pub path-ages : x + count ≤ suc lastClosed
-  path-ages = kind-within k .ages x (natAbs span) (c .age-in) (c .span-in)
+  count = countOf (ruleOf k .fold) n (natAbs span)
 
   pub path-first : n ≤ lastYears
   path-first = omega (arith, c .year-to, kind-within k .last)
 
+  -- its last year is the table's last or before
+  path-ends : n + count ≤ suc lastYears
+  path-ends =
+      kind-within k .ends x n (natAbs span) (c .age-in) (omega (arith, c .year-from)) (omega (arith, c .year-to)) (c .span-in)
+
+  pub path-room : count ≤ mostFactors
+  path-room = omega (arith, path-ends, c .year-from)
+
   pub path-in : (s : ℕ) → s < count → placeAt (ruleOf k .cohort) x n s .year ≤ lastYears
-  path-in = path-years (ruleOf k .cohort) x n count path-first
-      (λ e. omega (arith, c .year-to, kind-within k .cohort x (natAbs span) (c .age-in) (c .span-in)))
+  path-in = path-years (ruleOf k .cohort) x n count path-first (λ e. path-ends)
 
 pub query-answered : {p : Params} {k : Kind} {age year span : ℤ} → Passed p k age year span → AnsweredPath p (queryPath k age year span)
 unfolding queryPath
 query-answered {p} {k} {age} {year} {span} h =
     let c = counted k (h .table) in
-    path-answered p (ruleOf k .cohort) (natAbs age) (natAbs year - startYear) _ (h .limits) (path-ages k c) (path-in k c) (h .range)
+    path-answered p (ruleOf k .cohort) (natAbs age) (natAbs year - startYear) _ (h .limits) (path-in k c) (h .range)

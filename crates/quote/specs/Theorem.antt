@@ -2,7 +2,8 @@
 use mathlib.Core.Path.{_≡_, refl, ap, sym, _∙_}
 use mathlib.Core.Logic.{_↔_}
 use mathlib.Core.Bool.{Bool}
-use Prim.Native.Nat.{ℕ, suc, _+_, _-_, _≤_, _<_}
+use Prim.Native.Nat.{ℕ, _+_, _-_, _≤_, _<_}
+use native.Mathlib.Omega.{arith}
 use lib.Dec.{lit<}
 use lib.IntN.{ℤ, natAbs}
 use Rattle.whole.specs.Clash.{clash}
@@ -22,16 +23,17 @@ use Rattle.exact.specs.ValueLaws.{overlap-at-least, overlap-at-most}
 use Rattle.exact.specs.Figure.{figureOf}
 use Rattle.exact.specs.FigureLaws.{figure-printed, figure-open}
 use Rattle.exact.specs.Rounding.{printed-rounds, same-step}
+use Rattle.folds.specs.Code.{mostFactors}
 use Rattle.paths.specs.Values as path
 use Rattle.paths.specs.Path.{pathOf}
-use Rattle.paths.specs.Answers.{AnsweredPath}
+use Rattle.paths.specs.Answers.{AnsweredPath, path-length}
 use Rattle.paths.specs.Holds.{value-holds}
 use Rattle.paths.specs.Narrowing.{value-narrows}
 use Rattle.paths.specs.Width.{death-limit, survival-limit, expectancy-limit, annuity-limit}
 use Rattle.kinds.specs.declared.Kind.{Kind}
 use Rattle.kinds.specs.declared.Fold.{Fold}
 use Rattle.kinds.specs.declared.Fold.the-variants.{Death, Survival, Expectancy, Annuity}
-use Rattle.kinds.specs.Kinds.{OneKind, ruleOf, foldIs, countOf, stepOf, widthOf}
+use Rattle.kinds.specs.Kinds.{OneKind, ruleOf, foldIs, mostSpan, yearsOn, countOf, stepOf, widthOf}
 use Rattle.kinds.specs.KindLaws.{one-step-of}
 use Rattle.path_quotes.specs.declared.Quote.{Quote}
 use Rattle.path_quotes.specs.declared.Answer.{Answer}
@@ -39,7 +41,7 @@ use Rattle.path_quotes.specs.declared.Answer.the-variants.{Quoted, Refused}
 use Rattle.quote.specs.Quote.{queryPath, queryEnds, exactQuery, refusalOf, quoteOf, answerBy, answerOf}
 use Rattle.quote.specs.Demand.{printed, markedOpen, noFigure, shownOf, numberOf, lowerOf, upperOf, figureShown, step, RoundsAt, Kept, Demand3}
 use Rattle.quote.specs.AnswerLaws.{AnswerBy, quoted, refused, answer-by}
-use Rattle.quote.specs.Tests.{Passed, all-passed, counted, path-ages, query-answered}
+use Rattle.quote.specs.Tests.{Passed, all-passed, counted, path-room, query-answered}
 
 -- ---- which answers are quotes
 
@@ -94,21 +96,22 @@ step-positive (Annuity rate) = lit< tt
 -- ---- an accepted query
 
 -- its ends lie no further apart than its fold allows
-fold-width : (f : Fold) {p : Params} (cohort : Bool) (x n span : ℕ) → x + countOf f x span ≤ suc lastClosed
-    → AnsweredPath p (pathOf cohort x n (countOf f x span))
-    → let e = path.gridValue (foldIs f) billionths p (pathOf cohort x n (countOf f x span)) in e .upper ≤ e .lower + widthOf f x
-unfolding foldIs countOf widthOf
-fold-width Death cohort x n span l a = death-limit cohort x n a
-fold-width Survival cohort x n span l a = survival-limit cohort x n span l a
-fold-width Expectancy cohort x n span l a = expectancy-limit cohort x n _ l a
-fold-width (Annuity rate) cohort x n span l a = annuity-limit cohort x n _ l a (natAbs rate)
+fold-width : (f : Fold) {p : Params} (cohort : Bool) (x n span : ℕ) → x ≤ lastClosed → span ≤ mostSpan f x
+    → countOf f n span ≤ mostFactors → AnsweredPath p (pathOf cohort x n (countOf f n span))
+    → let e = path.gridValue (foldIs f) billionths p (pathOf cohort x n (countOf f n span)) in e .upper ≤ e .lower + widthOf f x
+unfolding foldIs countOf mostSpan widthOf
+fold-width Death cohort x n span l m r a = death-limit cohort x n l a
+fold-width Survival cohort x n span l m r a = survival-limit cohort x n span (omega arith) a
+fold-width Expectancy cohort x n span l m r a = expectancy-limit (rw (path-length cohort x n (yearsOn n)) r) a
+fold-width (Annuity rate) cohort x n span l m r a = annuity-limit (rw (path-length cohort x n (yearsOn n)) r) a (natAbs rate)
 
 module _ {p : Params} {k : Kind} {age year span : ℤ} (h : Passed p k age year span) where
   query-width : queryEnds p k age year span .upper ≤ queryEnds p k age year span .lower + widthOf (ruleOf k .fold) (natAbs age)
   unfolding queryEnds queryPath
   query-width =
-      fold-width (ruleOf k .fold) (ruleOf k .cohort) (natAbs age) (natAbs year - startYear) (natAbs span)
-      (path-ages k (counted k (h .table))) (query-answered h)
+      let c = counted k (h .table) in
+      fold-width (ruleOf k .fold) (ruleOf k .cohort) (natAbs age) (natAbs year - startYear) (natAbs span) (c .age-in) (c .span-in)
+      (path-room k c) (query-answered h)
 
   query-kept : Kept p k age year span (Quoted (quoteOf p k age year span))
   unfolding lowerOf upperOf figureShown quoteOf queryEnds exactQuery

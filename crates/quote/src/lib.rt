@@ -23,12 +23,12 @@ pub fn quote_within(p: Params, kind: Kind, age: i64, year: i64, span: i64) -> An
         return Answer::Refused(refusal);
     }
     let fold = rule.fold;
-    let x = age as usize;
+    let n = (year - START_YEAR) as u64;
     let path = Path {
         cohort: rule.cohort,
-        age: x,
-        year: (year - START_YEAR) as u64,
-        count: kinds::count_of(fold, x, span as usize),
+        age: age as usize,
+        year: n,
+        count: kinds::count_of(fold, n, span as usize),
     };
     path_quotes::answer_along(p, fold, path)
 }

@@ -8,11 +8,12 @@ use native.Mathlib.Omega.{arith}
 use lib.Dec.{T, ltb, ltb→lt}
 use lib.Ieee.Bits.{is-true}
 use borrow.Author.Tests.{lt-ltb}
-use lib.ListN.{length, set, length-set}
-use lib.Seq.{take-suc-set}
+use lib.ListN.{length, take, getD, set, length-map, length-set}
+use lib.Seq.{take-suc, take-suc-set, length-take-le, getD-at}
 use mir.Facts.{and-yes, yes-and}
 use Rattle.whole.specs.Clash.{clash}
 use Rattle.whole.specs.Table.{listed}
+use Rattle.expo.specs.Grid.{Ends}
 use Rattle.expo.specs.Billionths.{billionths}
 use Rattle.expo.specs.Code.{endsOf}
 use Rattle.expo.specs.declared.Ends as code
@@ -25,9 +26,9 @@ use Rattle.mortality.specs.Cell.{survival, neededInRange}
 use Rattle.years.specs.Code.{YearWithin}
 use Rattle.cells.specs.Code.{coded, cellOf}
 use Rattle.years.specs.YearLaws.{year-within, year-next}
-use Rattle.folds.specs.Code.{mostFactors}
+use Rattle.folds.specs.Code.{mostFactors, listOf}
 use Rattle.paths.specs.Path.{placeAt, pathOf, factors, pathInRange}
-use Rattle.paths.specs.Answers.{path-more, factors-append, in-range-more, range-out}
+use Rattle.paths.specs.Answers.{path-length, factors-length, path-more, factors-append, in-range-more, range-out}
 use Rattle.walks.specs.declared.Path.{Path}
 use Rattle.walks.specs.Code.{placeOf, pathTo, pathIs, PathWithin, Advanced, Worked, YearAt}
 
@@ -87,6 +88,20 @@ worked-more {p} {w} {es} {s} {e} h m l q =
       ends = rw (factors-more p w s, take-suc-set es s e (omega (arith, h .size)), map-append, h .ends, r .1);
       size = length-set es s e ∙ h .size;
     })
+
+-- the last factor that was put
+pub worked-last : {p : Params} {w : Path} {es : List code.Ends} {s : ℕ} (d : code.Ends) → Worked p w es (suc s)
+    → w .count ≤ mostFactors → endsOf (getD es s d) ≡ survival billionths p (placeOf w s .age) (placeOf w s .year)
+worked-last {p} {w} {es} {s} d h m =
+    let l : s < length es = omega (arith, h .some, h .size) in
+    let e : listOf (take s es) ++ (endsOf (getD es s d) ∷ [])
+    ≡ factors billionths p (pathTo w s) ++ (survival billionths p (placeOf w s .age) (placeOf w s .year) ∷ []) =
+    sym (ap listOf (take-suc es s d l) ∙ map-append endsOf (take s es) (getD es s d ∷ [])) ∙ h .ends ∙ factors-more p w s in
+    sym (getD-at (listOf (take s es)) (endsOf (getD es s d)) [] (endsOf d) s
+    (length-map (take s es) endsOf ∙ length-take-le s es (omega arith)))
+    ∙ ap (λ (l : List Ends). getD l s (endsOf d)) e
+    ∙ getD-at (factors billionths p (pathTo w s)) _ [] (endsOf d) s
+    (factors-length billionths p (pathTo w s) ∙ path-length (w .cohort) (w .age) (w .year) s)
 
 pub worked-out : (p : Params) (w : Path) {s : ℕ} → s < w .count → cellAt p w s ≡ Steep → pathInRange p (pathIs w) ≡ false
 worked-out p w {s} l q =

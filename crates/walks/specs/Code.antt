@@ -3,7 +3,7 @@
 use mathlib.Core.Path.{_≡_}
 use mathlib.Core.Bool.{Bool, false, not}
 use mathlib.Core.List.{List}
-use Prim.Native.Nat.{ℕ, suc, _+_, _≤_, _<_}
+use Prim.Native.Nat.{ℕ, _+_, _≤_, _<_}
 use lib.Dec.{T}
 use lib.IntN.{ℤ}
 use lib.ListN.{length, take}
@@ -29,10 +29,11 @@ pathTo w s = pathOf (w .cohort) (w .age) (w .year) s
 abbrev pub pathIs : Path → List Place
 pathIs w = pathTo w (w .count)
 
--- a set in its limits, and a path whose cells are the table's
+-- a set in its limits, and a path whose cells are the table's, with room for its factors
 pub record PathWithin (p : Params) (w : Path) : Type 0 where
   pub limits : T (inLimits p)
-  pub ages : w .age + w .count ≤ suc lastClosed
+  pub age : w .age ≤ lastClosed
+  pub room : w .count ≤ mostFactors
   pub first : w .year ≤ lastYears
   pub years : (s : ℕ) → s < w .count → placeOf w s .year ≤ lastYears
 

@@ -1,8 +1,8 @@
 -- `old_factors` meets its contract. The loop's invariant: the first cells are in range and their factors stand in the array,
--- and the year and its H are those of the next cell; the measure is the cells that are left.
+-- and the year and its H are those of the next cell; the measure is the cells that are left to work.
 use mathlib.Core.Path.{_≡_, ap, sym, _∙_}
 use mathlib.Core.List.{List, []}
-use Prim.Native.Nat.{ℕ, _+_, _-_, _≤_}
+use Prim.Native.Nat.{ℕ, _+_, _-_, _≤_, _<_, min}
 use native.Mathlib.Omega.{arith}
 use borrow.Author.Needs.{needs}
 use lib.IntN.{ℤ}
@@ -25,7 +25,7 @@ use Rattle.paths.specs.Path.{placeAt}
 use Rattle.walks.specs.declared.Path.{Path}
 use Rattle.walks.specs.Code.{PathWithin, Worked, YearAt}
 use Rattle.walks.proofs.Steps.{along, cellAt, worked-more, worked-out, year-may, year-step}
-use Rattle.factors.proofs.All.{worked-all, out-all}
+use Rattle.factors.proofs.All.{cells-most, cells-left, cells-some, out-all, worked-rest}
 use Rattle.factors.proofs.old_factors.Statement.{statement}
 use Rattle.factors.proofs.old_factors.Tie as tie
 
@@ -38,18 +38,18 @@ record Going (p : Params) (w : ℕ → Path) (done₀ : ℕ) (ends₀ : List cod
   heights : FittedOf p (year .number) fitted
 
 abbrev Inv-loop : tie.InvT-loop
-Inv-loop p cohort age count table done₀ ends₀ year₀ fitted₀ done ends year fitted =
+Inv-loop p cohort age count worked table done₀ ends₀ year₀ fitted₀ done ends year fitted =
     Going p (λ (n : ℕ). along cohort age n count) done₀ ends₀ year₀ done ends year fitted
 
 abbrev μ-loop : tie.MeasureT-loop
-μ-loop p cohort age count table done₀ ends₀ year₀ fitted₀ done ends year fitted = count - done
+μ-loop p cohort age count worked table done₀ ends₀ year₀ fitted₀ done ends year fitted = worked - done
 
 -- the table of weights, and the function's start
 abbrev tabled : tie.At-loop Inv-loop μ-loop → tie.After-table Inv-loop μ-loop
 tabled l = l .before .before .before .before .before .before .before .before .before
 
 abbrev begun : tie.At-loop Inv-loop μ-loop → tie.Start Inv-loop μ-loop
-begun l = tabled l .before
+begun l = tabled l .before .before
 
 -- the cells so far and the year of the next, of the function's own path
 so-far : (l : tie.At-loop Inv-loop μ-loop) → let s = begun l in
@@ -59,21 +59,29 @@ so-far l =
     l .loop .inv .so-far (s .args .path .year) (s .pre .0) (s .pre .1 .worked (s .pre .2)) (s .pre .1 .next (s .pre .2))
 
 short : (s : tie.Start Inv-loop μ-loop) → s .args .path .count ≤ mostFactors
-short s = omega (arith, s .pre .0 .ages)
+short s = s .pre .0 .room
 
--- the age is closed, and its row is the table's
-closed : (t : tie.In-loop Inv-loop μ-loop) → let l = t .before in let x = begun l .args .path .age + l .loop .done in
-    (firstClosed ≤ x) × (x ≤ lastClosed)
-closed t =
-    let l = t .before in
-    (l .loop .inv .above, omega (arith, begun l .pre .0 .ages, t .loop-test .taken))
+-- the cell at a turn is on the path
+on-path : (t : tie.In-loop Inv-loop μ-loop) → t .before .loop .done < begun (t .before) .args .path .count
+on-path t =
+    let w = begun (t .before) .args .path in
+    omega (
+      arith,
+      t .loop-test .taken,
+      tabled (t .before) .before .worked-count .ensures,
+      cells-most (w .cohort) (w .age) (w .count),
+    )
 
-row-is : (t : tie.In-loop Inv-loop μ-loop) → let l = t .before in let x = begun l .args .path .age + l .loop .done in
-    getD (tabled l .table .result) (x - firstClosed) [] ≡ weightRow x
+-- its age, at most 120, is closed, and its row is the table's
+abbrev closing : tie.In-loop Inv-loop μ-loop → ℕ
+closing t = min (begun (t .before) .args .path .age + t .before .loop .done) lastClosed
+
+closed : (t : tie.In-loop Inv-loop μ-loop) → (firstClosed ≤ closing t) × (closing t ≤ lastClosed)
+closed t = (omega (arith, t .before .loop .inv .above), omega arith)
+
+row-is : (t : tie.In-loop Inv-loop μ-loop) → getD (tabled (t .before) .table .result) (closing t - firstClosed) [] ≡ weightRow (closing t)
 row-is t =
-    let l = t .before in
-    ap (λ (rows : List (List ℤ)). getD rows (begun l .args .path .age + l .loop .done - firstClosed) [])
-    (tabled l .table .ensures)
+    ap (λ (rows : List (List ℤ)). getD rows (closing t - firstClosed) []) (tabled (t .before) .table .ensures)
     ∙ table-row (closed t .0) (closed t .1)
 
 -- the path, had it begun in year n
@@ -81,49 +89,60 @@ abbrev from : tie.At-loop Inv-loop μ-loop → ℕ → Path
 from l n = let w = begun l .args .path in along (w .cohort) (w .age) n (w .count)
 
 -- so the cell is the path's
-cell-read : (c : tie.After-old-cell Inv-loop μ-loop) (n : ℕ) → let l = c .before .before .before in let s = begun l in
+row-read : (c : tie.After-closed-row Inv-loop μ-loop) → let t = c .before in
+    getD (tabled (t .before) .table .result) (c .closed-row .result) [] ≡ weightRow (closing t)
+row-read c =
+    ap (λ (i : ℕ). getD (tabled (c .before .before) .table .result) i []) (c .closed-row .ensures) ∙ row-is (c .before)
+
+cell-read : (c : tie.After-old-cell Inv-loop μ-loop) (n : ℕ) → let l = c .before .before .before .before in let s = begun l in
     YearAt (s .args .t1) (from l n) (l .loop .done) (l .loop .year)
     → cellAt (s .args .t1) (from l n) (l .loop .done) ≡ c .old-cell .result
 unfolding placeAt
 cell-read c n y =
-    let t = c .before .before in
+    let r = c .before .before in
+    let t = r .before in
     let l = t .before in
     let s = begun l in
-    let x = s .args .path .age + l .loop .done in
-    ap (cellOf (s .args .t1) x) (sym (y .place (t .loop-test .taken)))
-    ∙ sym (rw (row-is t) at (c .old-cell .ensures) ∙ old-cell (l .loop .inv .heights) (closed t .0))
+    ap (cellOf (s .args .t1) (closing t)) (sym (y .place (on-path t)))
+    ∙ sym (rw (row-read r) at (c .old-cell .ensures) ∙ old-cell (l .loop .inv .heights) (closed t .0))
+
+worked-count-requires : tie.Need-worked-count-requires Inv-loop μ-loop
+worked-count-requires c κs = c .pre .0 .age
 
 table-requires : tie.Need-table-requires Inv-loop μ-loop
 table-requires c κs = search needs
 
 fitted-in-requires : tie.Need-fitted-in-requires Inv-loop μ-loop
-fitted-in-requires c κs = let s = c .before .before .before .before .before .before .before .before in lent (s .pre .1 .next (s .pre .2) .year)
+fitted-in-requires c κs =
+    let s = c .before .before .before .before .before .before .before .before .before in
+    lent (s .pre .1 .next (s .pre .2) .year)
 
 loop-holds : tie.Need-loop-holds Inv-loop μ-loop
 loop-holds c =
-    let s = c .before .before .before .before .before .before .before .before .before in
+    let s = c .before .before .before .before .before .before .before .before .before .before in
     record {
       so-far = λ n k a b. (a, b);
       above = s .pre .1 .old (s .pre .2) (s .pre .3);
       heights = c .fitted-in .ensures (lent (s .pre .1 .next (s .pre .2) .year));
     }
 
-add-row : tie.Need-add-row Inv-loop μ-loop
-add-row c = omega (arith, closed c)
+add-x : tie.Need-add-x Inv-loop μ-loop
+add-x c = let s = begun (c .before) in omega (arith, s .pre .0 .age, s .pre .0 .room, on-path c)
 
-sub-row : tie.Need-sub-row Inv-loop μ-loop
-sub-row c = omega (arith, closed c)
+closed-row-requires : tie.Need-closed-row-requires Inv-loop μ-loop
+closed-row-requires c κs = c .before .loop .inv .above
 
 mul-row : tie.Need-mul-row Inv-loop μ-loop
-mul-row c = omega (arith, closed c)
+mul-row c = omega (arith, c .closed-row .ensures)
 
 array-copy-out-row : tie.Need-array-copy-out-row Inv-loop μ-loop
-array-copy-out-row c = omega (arith, closed c)
+array-copy-out-row c = omega (arith, c .closed-row .ensures)
 
 old-cell-requires : tie.Need-old-cell-requires Inv-loop μ-loop
 old-cell-requires c κs =
-    let t = c .before in
-    (rw (row-is t) (row-within (closed t .0) (closed t .1)), t .before .loop .inv .heights .limit)
+    let r = c .before in
+    let t = r .before in
+    (rw (row-read r) (row-within (closed t .0) (closed t .1)), t .before .loop .inv .heights .limit)
 
 enum-known-e : tie.Need-enum-known-e Inv-loop μ-loop
 enum-known-e c = search needs
@@ -134,23 +153,23 @@ enum-told c = search needs
 returns : tie.Need-returns Inv-loop μ-loop
 returns c =
     let k = c .before .before in
-    let t = k .before .before in
+    let t = k .before .before .before in
     let s = begun (t .before) in
-    out-all (worked-out (s .args .t1) (s .args .path) (t .loop-test .taken)
+    out-all (worked-out (s .args .t1) (s .args .path) (on-path t)
     (cell-read k (s .args .path .year) (so-far (t .before) .1) ∙ c .enum-told .given .1))
 
 -- the turn after its cell was in range
 abbrev turn : tie.After-known-told Inv-loop μ-loop → tie.In-loop Inv-loop μ-loop
-turn c = c .before .before .before .before .before
+turn c = c .before .before .before .before .before .before
 
 mul-ends : tie.Need-mul-ends Inv-loop μ-loop
-mul-ends c = let t = turn c in omega (arith, t .loop-test .taken, short (begun (t .before)))
+mul-ends c = let t = turn c in omega (arith, on-path t, short (begun (t .before)))
 
 array-set-from-ends : tie.Need-array-set-from-ends Inv-loop μ-loop
-array-set-from-ends c = let t = turn c in omega (arith, t .loop-test .taken, short (begun (t .before)))
+array-set-from-ends c = let t = turn c in omega (arith, on-path t, short (begun (t .before)))
 
 add-done : tie.Need-add-done Inv-loop μ-loop
-add-done c = let t = turn c in omega (arith, t .loop-test .taken, short (begun (t .before)))
+add-done c = let t = turn c in omega (arith, on-path t, short (begun (t .before)))
 
 goes-on-requires : tie.Need-goes-on-requires Inv-loop μ-loop
 goes-on-requires c κs = search needs
@@ -162,7 +181,7 @@ year-after-requires c κs =
     let s = begun (t .before) in
     let i = in-limits-series (s .args .t1) (s .pre .0 .limits) in
     λ on. rw (back (i .a) tt, back (i .index .theta) tt)
-    (year-may (s .pre .0) (so-far (t .before) .1) (t .loop-test .taken) (g .goes-on .ensures) on)
+    (year-may (s .pre .0) (so-far (t .before) .1) (on-path t) (g .goes-on .ensures) on)
 
 -- one cell more, whichever year the path began in
 further : (c : tie.After-year-after Inv-loop μ-loop) → let g = c .before .before .before in let k = g .before in let t = turn k in
@@ -179,8 +198,8 @@ further c n h a b =
     let v = l .loop .inv .so-far n h a b in
     let i = in-limits-series (s .args .t1) (h .limits) in
     let y = rw (back (i .a) tt, back (i .index .theta) tt) at (c .year-after .ensures) in (
-      worked-more (v .0) (short s) (t .loop-test .taken) (cell-read (k .before .before .before) n (v .1) ∙ k .before .e .given .1),
-      year-step h (v .1) (t .loop-test .taken) (g .goes-on .result) (g .goes-on .ensures) y,
+      worked-more (v .0) (short s) (on-path t) (cell-read (k .before .before .before) n (v .1) ∙ k .before .e .given .1),
+      year-step h (v .1) (on-path t) (g .goes-on .result) (g .goes-on .ensures) y,
     )
 
 -- the year after is the set's
@@ -222,10 +241,28 @@ loop-again-2 c =
       heights = rw e (t .before .loop .inv .heights);
     }
 
+-- after the loop some cell is worked
+some : (c : tie.After-loop Inv-loop μ-loop) → 0 < c .before .loop .done
+some c =
+    let l = c .before in
+    let s = begun l in
+    let w = s .args .path in
+    cells-some (w .cohort) (w .age) (w .count) (tabled l .before .worked-count .ensures) (s .pre .0 .age) (omega (arith, s .pre .3))
+    (c .loop-test .left)
+
+repeated-requires : tie.Need-repeated-requires Inv-loop μ-loop
+repeated-requires c κs =
+    let h = so-far (c .before) .0 in
+    record { some = some c; rest = h .some; room = short (begun (c .before)); size = h .size }
+
 returns-2 : tie.Need-returns-2 Inv-loop μ-loop
 returns-2 c =
-    let l = c .before in
-    worked-all (so-far l .0) (omega (arith, so-far l .0 .some, c .loop-test .left))
+    let e = c .before in
+    let l = e .before in
+    let w = begun l .args .path in
+    worked-rest (l .loop .done) (some e) (short (begun l)) (so-far l .0)
+    (cells-left (w .cohort) (w .age) (w .count) (tabled l .before .worked-count .ensures) (e .loop-test .left))
+    (c .repeated .ensures)
 
 pub old-factors-spec : {M : Type 1} → statement M
 old-factors-spec =
@@ -233,11 +270,12 @@ old-factors-spec =
     (tie.spec
     Inv-loop
     μ-loop
+    worked-count-requires
     table-requires
     fitted-in-requires
     loop-holds
-    add-row
-    sub-row
+    add-x
+    closed-row-requires
     mul-row
     array-copy-out-row
     old-cell-requires
@@ -254,4 +292,5 @@ old-factors-spec =
     loop-again
     loop-less-2
     loop-again-2
+    repeated-requires
     returns-2)

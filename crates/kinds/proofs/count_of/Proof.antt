@@ -1,6 +1,6 @@
 -- `count_of` meets its contract, case by case.
 use borrow.Author.Needs.{needs}
-use mathlib.Core.Path.{sym, ap}
+use mathlib.Core.Path.{sym, ap, _∙_}
 use Rattle.kinds.specs.declared.Fold.{Fold}
 use Rattle.kinds.specs.Kinds.{countOf}
 use Rattle.kinds.proofs.count_of.Statement.{statement}
@@ -15,31 +15,35 @@ enum-told-2 c = search needs
 enum-told-3 : tie.Need-enum-told-3
 enum-told-3 c = search needs
 
-sub-result : tie.Need-sub-result
-sub-result c = search needs
+years-on-requires : tie.Need-years-on-requires
+years-on-requires c κs = search needs
 
 enum-told-4 : tie.Need-enum-told-4
 enum-told-4 c = search needs
 
-sub-result-2 : tie.Need-sub-result-2
-sub-result-2 c = search needs
+years-on-requires-2 : tie.Need-years-on-requires-2
+years-on-requires-2 c κs = search needs
 
 returns : tie.Need-returns
 unfolding countOf
-returns c = sym (ap (λ (f : Fold). countOf f (c .before .before .args .age) (c .before .before .args .span)) (c .enum-told .given .1))
+returns c = sym (ap (λ (f : Fold). countOf f (c .before .before .args .year) (c .before .before .args .span)) (c .enum-told .given .1))
 
 returns-2 : tie.Need-returns-2
 unfolding countOf
-returns-2 c = sym (ap (λ (f : Fold). countOf f (c .before .before .args .age) (c .before .before .args .span)) (c .enum-told2 .given .1))
+returns-2 c = sym (ap (λ (f : Fold). countOf f (c .before .before .args .year) (c .before .before .args .span)) (c .enum-told2 .given .1))
 
 returns-3 : tie.Need-returns-3
 unfolding countOf
-returns-3 c = sym (ap (λ (f : Fold). countOf f (c .before .before .args .age) (c .before .before .args .span)) (c .enum-told3 .given .1))
+returns-3 c =
+    c .years-on .ensures
+    ∙ sym (ap (λ (f : Fold). countOf f (c .before .before .before .args .year) (c .before .before .before .args .span)) (c .before .enum-told3 .given .1))
 
 returns-4 : tie.Need-returns-4
 unfolding countOf
-returns-4 c = sym (ap (λ (f : Fold). countOf f (c .before .before .args .age) (c .before .before .args .span)) (c .enum-told4 .given .1))
+returns-4 c =
+    c .years-on2 .ensures
+    ∙ sym (ap (λ (f : Fold). countOf f (c .before .before .before .args .year) (c .before .before .before .args .span)) (c .before .enum-told4 .given .1))
 
 pub count-of-spec : {M : Type 1} → statement M
 count-of-spec =
-    tie.close (tie.spec enum-told enum-told-2 enum-told-3 sub-result enum-told-4 sub-result-2 returns returns-2 returns-3 returns-4)
+    tie.close (tie.spec enum-told enum-told-2 enum-told-3 years-on-requires enum-told-4 years-on-requires-2 returns returns-2 returns-3 returns-4)

@@ -12,6 +12,9 @@ enum-told c = search needs
 enum-told-2 : tie.Need-enum-told-2
 enum-told-2 c = search needs
 
+add-result : tie.Need-add-result
+add-result c = search needs
+
 sub-result : tie.Need-sub-result
 sub-result c = search needs
 
@@ -39,4 +42,4 @@ returns-4 c = sym (ap (λ (f : Fold). mostSpan f (c .before .before .args .age))
 
 pub most-span-spec : {M : Type 1} → statement M
 most-span-spec =
-    tie.close (tie.spec enum-told enum-told-2 sub-result enum-told-3 enum-told-4 returns returns-2 returns-3 returns-4)
+    tie.close (tie.spec enum-told enum-told-2 add-result sub-result enum-told-3 enum-told-4 returns returns-2 returns-3 returns-4)

@@ -14,7 +14,7 @@ use Rattle.kinds.specs.Kinds.{ruleOf, countOf}
 use Rattle.table_tests.specs.TableTests.{firstFailed, tableTests}
 use Rattle.table_tests.specs.TableLaws.{InTable, in-table}
 use Rattle.quote.specs.Quote.{queryPath}
-use Rattle.quote.specs.Tests.{Counted, counted, path-ages, path-first, path-in}
+use Rattle.quote.specs.Tests.{Counted, counted, path-first, path-room, path-in}
 use Rattle.params.specs.RefusalLaws.{accepted}
 use Rattle.kinds.proofs.Casts.{cast-whole}
 use Rattle.quote.proofs.Steps.{table-answer, along-answer, years-under, years-from}
@@ -51,7 +51,7 @@ years-read : (c : tie.Else1) → let y = c .before .before .before .before .args
 years-read c =
     let s = c .before .before .before .before in
     let k = numbers c in
-    let e = years-from (k .year-is) (k .year-from) in
+    let e = years-from (k .year-is) (omega (arith, k .year-from)) in
     let f : SFits w64 (pos (natAbs (s .args .year) - startYear)) = fits (under-pos {k = lastYears} (path-first (s .args .kind) k)) tt in
     rw (toZ-ofZ (s .fits .year), e) (f, toZ-ofZ f)
 
@@ -72,28 +72,28 @@ returns c =
     table-answer (s .args .p) (s .args .kind) (s .args .age) (s .args .year) (s .args .span) (s .pre) (refusal-is r)
     (λ e. c .if1 .taken (n .refusal-number .ensures ∙ e))
 
-cast-x : tie.Need-cast-x
-cast-x c = cast-whole (c .before .before .before .before .fits .age) (numbers c .age-is)
+sub-n : tie.Need-sub-n
+sub-n c = years-read c .0
 
-sub-t13 : tie.Need-sub-t13
-sub-t13 c = years-read c .0
+cast-n : tie.Need-cast-n
+cast-n c = rw (years-read c .1) (tt, record { fits = omega (arith, path-first _ (numbers c)) })
 
 cast-t14 : tie.Need-cast-t14
-cast-t14 c = rw (years-read c .1) (tt, record { fits = omega (arith, path-first _ (numbers c)) })
+cast-t14 c = cast-whole (c .before .before .before .before .fits .age) (numbers c .age-is)
 
 cast-count-of : tie.Need-cast-count-of
 cast-count-of c = cast-whole (c .before .before .before .before .fits .span) (numbers c .span-is)
 
 count-of-requires : tie.Need-count-of-requires
-count-of-requires c κs = rw (toZ-ofZ (c .before .before .before .before .fits .age)) (numbers c .age-in)
+count-of-requires c κs = rw (years-read c .1) (path-first _ (numbers c))
 
 -- the path is the query's
 count-is : (c : tie.After-count-of) → let s = c .before .before .before .before .before in
-    c .count-of .result ≡ countOf (ruleOf (s .args .kind) .fold) (natAbs (s .args .age)) (natAbs (s .args .span))
+    c .count-of .result ≡ countOf (ruleOf (s .args .kind) .fold) (natAbs (s .args .year) - startYear) (natAbs (s .args .span))
 count-is c =
     let r = c .before .before .before .before in
     let s = r .before in
-    rw (toZ-ofZ (s .fits .age), toZ-ofZ (s .fits .span), r .rule-of .ensures) at (c .count-of .ensures)
+    rw (years-read (c .before) .1, toZ-ofZ (s .fits .span), r .rule-of .ensures) at (c .count-of .ensures)
 
 answer-along-requires : tie.Need-answer-along-requires
 answer-along-requires c κs =
@@ -102,7 +102,7 @@ answer-along-requires c κs =
     let s = r .before in
     let k = numbers e in
     rw (toZ-ofZ (s .fits .age), years-read e .1, count-is c, r .rule-of .ensures)
-    (record { limits = s .pre; ages = path-ages _ k; first = path-first _ k; years = path-in _ k }, k .rate-in)
+    (record { limits = s .pre; age = k .age-in; room = path-room _ k; first = path-first _ k; years = path-in _ k }, k .rate-in)
 
 returns-2 : tie.Need-returns-2
 unfolding queryPath
@@ -122,8 +122,8 @@ quote-within-spec =
     table-refusal-requires
     refusal-number-requires
     returns
-    cast-x
-    sub-t13
+    sub-n
+    cast-n
     cast-t14
     cast-count-of
     count-of-requires

@@ -1,6 +1,6 @@
 -- `young_factors` meets its contract. The loop's invariant: the first cells are in range and their factors stand in the array,
 -- and the year is that of the next cell; the measure is the ages to 90 that are left.
-use mathlib.Core.Path.{_≡_, refl, ap, sym, _∙_}
+use mathlib.Core.Path.{_≡_, refl, ap, ap₂, sym, _∙_}
 use Prim.Native.Nat.{ℕ, _+_, _-_, _≤_, _<_, min}
 use native.Mathlib.Nat.{min-le-left, min-le-right, min-eq-left, min-eq-right, le-of-lt}
 use native.Mathlib.Decide.{decLt}
@@ -15,6 +15,7 @@ use Rattle.years.specs.YearLaws.{cell-within, year-force}
 use Rattle.cells.specs.Answers.{young-cell}
 use Rattle.cells.specs.Code.{cellOf}
 use Rattle.paths.specs.Path.{placeAt}
+use Rattle.paths.specs.Oldest.{place-age}
 use Rattle.walks.specs.declared.Path.{Path}
 use Rattle.walks.specs.Code.{PathWithin, Worked, YearAt}
 use Rattle.walks.proofs.Steps.{along, cellAt, worked-none, worked-more, worked-out, first-year, year-may, year-step}
@@ -82,7 +83,8 @@ cell-read c =
     let y = t .before .loop .inv .1 in
     let l = young-turn t in
     let e = rw (age-read a, year-force (y .year) (s .args .path .age + t .before .loop .done)) at (c .young-cell .ensures) in
-    ap (cellOf (s .args .t1) (s .args .path .age + t .before .loop .done)) (sym (y .place (l .0)))
+    let w = path (first t) in
+    ap₂ (cellOf (s .args .t1)) (place-age (w .cohort) (w .age) (w .year) (t .before .loop .done) (omega arith)) (sym (y .place (l .0)))
     ∙ sym (e ∙ young-cell (s .args .t1) (t .before .loop .year .number) (l .1))
 
 young-count-requires : tie.Need-young-count-requires Inv-loop μ-loop
@@ -134,7 +136,7 @@ in-turn c = turn (c .before .before .before .before)
 
 -- the path is no longer than the array
 short : (f : tie.After-year-at Inv-loop μ-loop) → path f .count ≤ mostFactors
-short f = omega (arith, within f .ages)
+short f = within f .room
 
 mul-ends : tie.Need-mul-ends Inv-loop μ-loop
 mul-ends c = let t = in-turn c in omega (arith, young-turn t, short (first t))
