@@ -1,11 +1,12 @@
 /* Kulfizan for C: the AG2014 table with the parameters of a sheet. A sheet read and written, a query of it answered, an
-   annuity of it priced, and the whole run of the desk. `make lib` writes libkulfizan.a and libkulfizan.so into target/lib.
+   annuity of it priced, a published column checked by it, and the whole run of the desk. `make lib` writes libkulfizan.a and
+   libkulfizan.so into target/lib.
 
    A set is 369 numbers: the sex (0 for M, 1 for F), a, theta, K, k, and then for ages 0 to 90 A, B, alpha, beta, in
    the sheet's order and its units.
 
    A call gives 0, or the number of its refusal and then leaves everything that it is lent as it was. The lowest number
-   that applies is given, where 8 comes after 5 and before 6.
+   that applies is given, where 8 comes after 5 and before 6, and 9 after 2 and before 4.
 
    The caller sees to it that no pointer is null, also where its length is 0; that each points to as many elements as its
    length says; and that nothing that is written overlaps anything else that is lent. Nothing else is asked: each call
@@ -38,7 +39,15 @@ enum kulfizan_refusal {
     KULFIZAN_NO_SUCH_SPAN = 5, /* the span is outside 0 to 121 - age; for q, expectancies and annuities, not 0 */
     KULFIZAN_STEEP = 6,        /* a needed cell's log force leaves its range */
     KULFIZAN_SHORT = 7,        /* what is lent has too little room */
-    KULFIZAN_NO_SUCH_RATE = 8  /* the rate is outside 0 to 200,000 */
+    KULFIZAN_NO_SUCH_RATE = 8, /* the rate is outside 0 to 200,000 */
+    KULFIZAN_TORN_COLUMN = 9   /* the column breaks its form */
+};
+
+/* The verdicts on a column. */
+enum kulfizan_column_verdict {
+    KULFIZAN_RIGHT = 0, /* every entry is the exact value, rounded */
+    KULFIZAN_WRONG = 1, /* some entry isn't */
+    KULFIZAN_OPEN = 2   /* some figure is open here, and no other differs */
 };
 
 #ifdef __cplusplus
@@ -68,6 +77,13 @@ uint8_t kulfizan_quote(const uint8_t *sheet, size_t sheet_length, const uint8_t 
    the kind is, off scale, no such age, year, span or rate, steep, and short where there are fewer than four numbers. */
 uint8_t kulfizan_annuity(const uint8_t *sheet, size_t sheet_length, const uint8_t *kind, size_t kind_length, int64_t age,
                          int64_t year, int64_t span, int64_t rate, uint64_t *quote, size_t quote_length);
+
+/* Checks a column of q for one year that somebody published: 121 lines `age=0 q=0.00312`, each ended by a line feed, in any order,
+   each age from 0 to 120 once. The verdict is wrong where some age with a printed figure here has another entry; else open, where
+   some age's figure is open here; else right. Torn where the sheet is, off scale, torn column, no such year where it is none of
+   those of q, and steep. */
+uint8_t kulfizan_verdict(const uint8_t *sheet, size_t sheet_length, int64_t year, const uint8_t *column,
+                         size_t column_length, uint64_t *verdict);
 
 /* Writes the whole run of the desk into the buffer, and its length; bytes after the output keep their values. The input is
    a sheet and then query lines, as the programs take it from standard input; with `ends` 0 the output is what the program

@@ -26,7 +26,10 @@ REFUSALS = {
     6: "steep: a needed cell's log force leaves its range",
     7: "short: what is lent has too little room",
     8: "no such rate: the rate is outside 0 to 200,000",
+    9: "torn column: the column breaks its form",
 }
+
+VERDICTS = ("right", "wrong", "open")
 
 Quote = collections.namedtuple("Quote", "lower upper steps")
 Quote.__doc__ = """The two ends in units of 10^-9, and the figure's number of steps (of 0.00001, for an expectancy or an
@@ -60,8 +63,9 @@ def load(where):
     library.kulfizan_write.argtypes = [numbers, size, data, size, counts]
     library.kulfizan_quote.argtypes = [data, size, data, size, *[signed] * 3, counts, size]
     library.kulfizan_annuity.argtypes = [data, size, data, size, *[signed] * 4, counts, size]
+    library.kulfizan_verdict.argtypes = [data, size, signed, data, size, counts]
     library.kulfizan_run.argtypes = [data, size, ctypes.c_uint8, data, size, counts]
-    for name in ("read", "write", "quote", "annuity", "run"):
+    for name in ("read", "write", "quote", "annuity", "verdict", "run"):
         getattr(library, f"kulfizan_{name}").restype = ctypes.c_uint8
     return library
 
@@ -112,6 +116,16 @@ def quote(sheet, kind, age, year, span=0, rate=None):
     accepted(call(sheet, len(sheet), word, len(word), *given, numbers, QUOTE_LENGTH))
     lower, upper, printed, steps = numbers
     return Quote(lower, upper, steps if printed else None)
+
+
+def verdict(sheet, year, column):
+    """The verdict on a column of q for one year that somebody published, by a sheet: "right", "wrong" or "open". The column is
+    bytes, 121 lines `age=0 q=0.00312`."""
+    sheet, column = bytes(sheet), bytes(column)
+    (year,), _ = signed((year,))
+    number = ctypes.c_uint64()
+    accepted(LIBRARY.kulfizan_verdict(sheet, len(sheet), year, column, len(column), ctypes.byref(number)))
+    return VERDICTS[number.value]
 
 
 def run(data, ends=False):

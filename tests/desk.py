@@ -1,12 +1,14 @@
 """The whole run of the rate desk's programs, from input bytes to output bytes, written from paper 01, "The quote program",
-and for annuities from paper 02.
+and for annuities and for `verdict` from paper 02.
 
 `quotes` echoes a query with its figure, `ends` with its two ends ahead of the figure. `compare` reads two sheets and echoes a
-query with the figure of each and what the two pairs of ends tell of the two values.
+query with the figure of each and what the two pairs of ends tell of the two values. `verdict` reads a sheet, a year and a
+column, and prints the verdict on the column.
 """
 import functools
 import re
 
+from columns import columns_of
 from quotes import ANNUITIES, OPEN, TENTHS, UNRATED, Quotes, figure
 from reader import LONGEST, NUMBER, TORN, params_of, read
 
@@ -141,5 +143,23 @@ def compare(data):
     return text(compared(first, second, line) for line in lines[2 * SHEET_LINES :])
 
 
+# ---- a published column
+
+YEAR = re.compile(b"year=(%b)\n" % NUMBER.pattern)
+
+
+def verdict(data):
+    """What `verdict` prints for its whole input: a torn year's line comes before a sheet that is off scale."""
+    lines = lines_in(data)
+    sheet, given = b"".join(lines[:SHEET_LINES]), YEAR.fullmatch(b"".join(lines[SHEET_LINES : SHEET_LINES + 1]))
+    if len(data) > LONGEST or not given:
+        return text([refused(TORN)])
+    columns, year = columns_of(sheet), int(given[1])
+    if columns.no:
+        return text([refused(columns.no)])
+    no, said = columns.verdict(year, b"".join(lines[SHEET_LINES + 1 :]))
+    return text([f"year={year} {refused(no) if no else f'verdict={said}'}"])
+
+
 ONE_SHEET = {"quotes": quotes, "ends": ends}
-PROGRAMS = ONE_SHEET | {"compare": compare}
+PROGRAMS = ONE_SHEET | {"compare": compare, "verdict": verdict}

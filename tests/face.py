@@ -80,3 +80,10 @@ def quote(library, sheet, word, *numbers, before):
     call, values = library.kulfizan_annuity if len(numbers) == 4 else library.kulfizan_quote, held("Q", before)
     number = call(sheet, len(sheet), word, len(word), *numbers, values, len(before))
     return number, kept(values, before)
+
+
+def verdict(library, sheet, year, column, before):
+    """The number that a verdict on a column gives, and the verdict's own number after it."""
+    told = held("Q", [before])
+    number = library.kulfizan_verdict(sheet, len(sheet), year, column, len(column), told)
+    return number, kept(told, [before])[0]

@@ -1,5 +1,5 @@
 """The whole run of `quotes` and `ends`, byte for byte, against the second implementation in desk.py; and what README.md shows
-of these programs and of `compare`.
+of these programs, of `compare` and of `verdict`.
 
 It runs both programs on some thousand inputs each: sheets that are whole, torn and off scale, queries of every kind, torn at
 every field and byte, inputs up to, at and past the longest, and any bytes; whole, in pieces, and with a reader that closes

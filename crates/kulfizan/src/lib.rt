@@ -1,9 +1,10 @@
 // The library's face for programs in other languages: a sheet read into numbers, numbers written as a sheet, a query of a
-// sheet answered, with a rate or without, and the whole run of the desk.
+// sheet answered, with a rate or without, the verdict on a published column, and the whole run of the desk.
 ghost use mathlib.Core.Path.{_≡_};
 ghost use lib.ListN.{length};
 ghost use Rattle.set_numbers.specs.SetNumbers.{readNo, numbersAfter, writeNo, bufferAfter, lengthAfter};
 ghost use Rattle.sheet_quote.specs.SheetQuote.{kindOf, ratedKindOf, sheetAnswer, quoteNo, quoteAfter};
+ghost use Rattle.sheet_verdict.specs.SheetVerdict.{sheetVerdict, verdictNo, verdictAfter};
 ghost use Rattle.kulfizan.specs.Run.{runNo, runBuffer, runLength};
 
 // Reads a sheet into the first 369 numbers: the sex, a, theta, K and k, and then A, B, alpha and beta of each age. The
@@ -66,6 +67,17 @@ pub extern "C" fn kulfizan_annuity(
         (now (quote .entry)) ⌝ }
 {
     sheet_quote::annuity_into(sheet, kind, age, year, span, rate, quote)
+}
+
+// Checks a published column of q for one year by a sheet: the number is then 0 for right, 1 for wrong and 2 for open. The refusal's
+// number, or 0; refused, the call leaves the number as it was.
+#[no_mangle]
+pub extern "C" fn kulfizan_verdict(sheet: &[u8], year: i64, column: &[u8], verdict: &mut u64) -> u8
+    ensures { λ r. ⌜ r ≡ verdictNo (sheetVerdict (now (sheet .entry)) year (now (column .entry))) ⌝ }
+    ensures { λ r. ⌜ now (verdict .exit)
+        ≡ verdictAfter (sheetVerdict (now (sheet .entry)) year (now (column .entry))) (now (verdict .entry)) ⌝ }
+{
+    sheet_verdict::verdict_into(sheet, year, column, verdict)
 }
 
 // Writes the whole run of the desk on an input into the buffer, and its length: as the program `quotes` prints it where

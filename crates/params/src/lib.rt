@@ -56,6 +56,7 @@ pub enum Refusal {
     Steep,
     Short,
     NoSuchRate,
+    TornColumn,
 }
 
 // The number of a refusal in the papers, and 0 where nothing is refused.
@@ -72,6 +73,7 @@ pub fn refusal_number(r: Refusal) -> u8
         Refusal::Steep => 6,
         Refusal::Short => 7,
         Refusal::NoSuchRate => 8,
+        Refusal::TornColumn => 9,
     }
 }
 

@@ -78,7 +78,7 @@ p-chance {p} {x} {n} a =
 -- ---- a path of one cell
 
 -- the same for a cohort and a period
-one-place : (cohort : Bool) (x n : ℕ) → x ≤ lastClosed → pathOf cohort x n 1 ≡ record { age = x; year = n } ∷ []
+pub one-place : (cohort : Bool) (x n : ℕ) → x ≤ lastClosed → pathOf cohort x n 1 ≡ record { age = x; year = n } ∷ []
 unfolding pathOf listed placeAt
 one-place true x n l = ap₂ (λ (y m : ℕ). record { age = y; year = m } ∷ []) (omega arith) (omega arith)
 one-place false x n l = ap (λ (y : ℕ). record { age = y; year = n } ∷ []) (omega arith)

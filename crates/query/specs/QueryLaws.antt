@@ -62,17 +62,17 @@ word-length (PeriodAnnuity rate) = omega arith
 
 -- ---- a field
 
-field-reads : (name : List ℕ) (v : ℤ) (rest : List ℕ) → natAbs v < 10 ^ mostDigits → T (noDigitFirst rest)
+pub field-reads : (name : List ℕ) (v : ℤ) (rest : List ℕ) → natAbs v < 10 ^ mostDigits → T (noDigitFirst rest)
     → readField name (name ++ (numberText v ++ rest)) ≡ taken v rest
 unfolding readField
 field-reads name v rest h t = goes _ (takeText-split name (numberText v ++ rest)) ∙ number-reads v rest h t
 
 -- the bytes are the name, the number's text and the rest
-record FieldOf (name : List ℕ) (v : ℤ) (bs rest : List ℕ) : Type 0 where
-  is : bs ≡ name ++ (numberText v ++ rest)
-  small : natAbs v < 10 ^ mostDigits
+pub record FieldOf (name : List ℕ) (v : ℤ) (bs rest : List ℕ) : Type 0 where
+  pub is : bs ≡ name ++ (numberText v ++ rest)
+  pub small : natAbs v < 10 ^ mostDigits
 
-field-read : (name bs : List ℕ) {v : ℤ} {rest : List ℕ} → readField name bs ≡ taken v rest → FieldOf name v bs rest
+pub field-read : (name bs : List ℕ) {v : ℤ} {rest : List ℕ} → readField name bs ≡ taken v rest → FieldOf name v bs rest
 unfolding readField
 field-read name bs {v} {rest} e =
     then-taken (takeText name bs) _ e λ u after q r.
@@ -185,7 +185,7 @@ query-apart : (q : Query) (rest : List ℕ)
 unfolding queryText
 query-apart q rest = simp append-assoc
 
-alone-taken : {A : Type 0} (a : A) (bs : List ℕ) {b : A} {rest : List ℕ} → alone a bs ≡ taken b rest → (bs ≡ []) × (a ≡ b)
+pub alone-taken : {A : Type 0} (a : A) (bs : List ℕ) {b : A} {rest : List ℕ} → alone a bs ≡ taken b rest → (bs ≡ []) × (a ≡ b)
 unfolding alone
 alone-taken a [] e = (refl, cc)
 alone-taken a (c ∷ bs) e = torn-not-taken e

@@ -87,7 +87,7 @@ pub fn kind_at(bytes: &[u8], at: usize) -> KindRead
 }
 
 // The number behind a name at a place.
-fn field_at(bytes: &[u8], at: usize, name: &[u8]) -> NumberRead
+pub fn field_at(bytes: &[u8], at: usize, name: &[u8]) -> NumberRead
     ensures { λ r. ⌜ numberRead (now (bytes .entry)) r
         ≡ readField (now (name .entry)) (drop at (now (bytes .entry))) ⌝ }
 {

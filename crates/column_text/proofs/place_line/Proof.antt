@@ -1,0 +1,52 @@
+-- `place_line` meets its contract: the line is torn, or its entry is put into the table.
+use borrow.Author.Needs.{needs}
+use mathlib.Core.Path.{_≡_, sym, ap, _∙_}
+use mathlib.Core.List.{[]}
+use native.Mathlib.Omega.{arith}
+use lib.IntN.{ℤ}
+use Rattle.tokens.specs.Text.{taken}
+use Rattle.tokens.specs.Steps.{goes, stops}
+use Rattle.tokens.specs.ReadLaws.{held}
+use Rattle.column_text.specs.Column.{readEntry}
+use Rattle.column_text.specs.Table.{withEntry, withLine}
+use Rattle.column_text.specs.Code.{entryRead}
+use Rattle.column_text.specs.QLaws.{entry-small}
+use Rattle.column_text.proofs.place_line.Statement.{statement}
+use Rattle.column_text.proofs.place_line.Tie as tie
+
+-- the entry that was read
+entry-taken : (c : tie.After-entry) → let s = c .before .before .before .before .args in
+    readEntry (s .line .now) ≡ taken (c .entry .given .0 .0) []
+entry-taken c = sym (c .before .before .entry-of .ensures) ∙ ap entryRead (c .entry .given .1)
+
+entry-of-requires : tie.Need-entry-of-requires
+entry-of-requires c κs = search needs
+
+enum-known-entry : tie.Need-enum-known-entry
+enum-known-entry c = search needs
+
+enum-told : tie.Need-enum-told
+enum-told c = search needs
+
+returns : tie.Need-returns
+unfolding withLine
+returns c = sym (stops _ (sym (c .before .before .entry-of .ensures) ∙ ap entryRead (c .enum-told .given .1)))
+
+place-requires : tie.Need-place-requires
+place-requires c κs = omega (arith, entry-small _ (entry-taken (c .before .before .before)))
+
+returns-2 : tie.Need-returns-2
+unfolding withLine
+returns-2 c =
+    let e = c .before .before .before .before in
+    let t = e .before .before .before .before .args .table .now in
+    let steps = e .entry .given .0 .0 .steps in
+    let age = held (e .entry .given .0 .0 .age) (c .before .struct-told .given .0 .1) in
+    c .place .ensures
+    ∙ ap (λ (z : ℤ). withEntry t (record { age = z; steps = steps })) age
+    ∙ sym (goes _ (entry-taken e))
+
+pub place-line-spec : {M : Type 1} → statement M
+place-line-spec =
+    tie.close
+    (tie.spec entry-of-requires enum-known-entry enum-told returns place-requires returns-2)

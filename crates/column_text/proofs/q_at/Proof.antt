@@ -1,0 +1,86 @@
+-- `q_at` meets its contract: a digit, a point and five digits are read, or one of them is missing.
+use borrow.Author.Needs.{needs}
+use mathlib.Core.Path.{_≡_, sym, _∙_}
+use native.Mathlib.Omega.{arith}
+use lib.ListN.{drop}
+use Rattle.tokens.specs.Text.{bytesOf, taken}
+use Rattle.tokens.specs.TextLaws.{text-found, text-missing, text-room}
+use Rattle.tokens.specs.ReadLaws.{lacks, has}
+use Rattle.tokens.specs.Steps.{goes, stops}
+use Rattle.column_text.specs.Column.{wholes, readDigits, readQ}
+use Rattle.column_text.specs.QLaws.{digits-small}
+use Rattle.column_text.proofs.EntrySteps.{fromPoint, digit-torn, digit-taken, unsigned-torn, unsigned-taken}
+use Rattle.column_text.proofs.q_at.Statement.{statement}
+use Rattle.column_text.proofs.q_at.Tie as tie
+
+-- ---- the place where the first digit is read, seen from the point
+
+abbrev entry : tie.After-known-told → tie.Start
+entry c = c .before .before .before .before .before
+
+abbrev told : tie.After-text-at → tie.After-known-told
+told c = c .before .before
+
+first-taken : (c : tie.After-known-told) → let s = entry c .args in let g = c .before .first .given .0 in
+    readDigits 0 wholes (drop (s .at) (s .bytes .now)) ≡ taken (g .0) (drop (g .1 .0) (s .bytes .now))
+first-taken c = unsigned-taken _ (c .before .before .before .digits-at .ensures) (c .before .first .given .1)
+
+after-first : (c : tie.After-known-told) → let s = entry c .args in let g = c .before .first .given .0 in
+    readQ (drop (s .at) (s .bytes .now)) ≡ fromPoint (g .0) (drop (g .1 .0) (s .bytes .now))
+after-first c = digit-taken _ (first-taken c)
+
+-- ---- the needs
+
+digits-at-requires : tie.Need-digits-at-requires
+digits-at-requires c κs = search needs
+
+enum-known-first : tie.Need-enum-known-first
+enum-known-first c = search needs
+
+enum-told : tie.Need-enum-told
+enum-told c = search needs
+
+returns : tie.Need-returns
+returns c = sym (digit-torn _ (unsigned-torn _ (c .before .before .digits-at .ensures) (c .enum-told .given .1)))
+
+slice-aggregate-text-at : tie.Need-slice-aggregate-text-at
+slice-aggregate-text-at c = search needs
+
+text-at-requires : tie.Need-text-at-requires
+text-at-requires c κs = search needs
+
+returns-2 : tie.Need-returns-2
+unfolding bytesOf
+returns-2 c =
+    let t = c .before in
+    sym (after-first (told t) ∙ stops _ (text-missing _ _ (bytesOf ".") (lacks (t .text-at .ensures) (c .if1 .taken))))
+
+add-digits-at : tie.Need-add-digits-at
+add-digits-at c =
+    omega (arith, entry (told (c .before)) .good .0, text-room _ _ _ (has (c .before .text-at .ensures) (c .if1 .left)))
+
+digits-at-requires-2 : tie.Need-digits-at-requires-2
+digits-at-requires-2 c κs = (omega arith, omega (arith, digits-small _ _ _ (first-taken (told (c .before)))))
+
+returns-3 : tie.Need-returns-3
+unfolding bytesOf
+returns-3 c =
+    let e = c .before in
+    let t = e .before in
+    c .digits-at2 .ensures
+    ∙ sym (after-first (told t) ∙ goes _ (text-found _ _ (bytesOf ".") (has (t .text-at .ensures) (e .if1 .left))))
+
+pub q-at-spec : {M : Type 1} → statement M
+q-at-spec =
+    tie.close
+    (tie.spec
+    digits-at-requires
+    enum-known-first
+    enum-told
+    returns
+    slice-aggregate-text-at
+    text-at-requires
+    returns-2
+    add-digits-at
+    digits-at-requires-2
+    returns-3)

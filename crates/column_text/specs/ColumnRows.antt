@@ -1,0 +1,44 @@
+-- Whole columns that are read and columns that are torn, by computation.
+use mathlib.Core.Path.{_≡_, refl}
+use mathlib.Core.List.{List, [], _++_}
+use Prim.Native.Nat.{ℕ, zero, suc}
+use Rattle.whole.specs.Table.{listed}
+use Rattle.tokens.specs.Text.{bytesOf, torn, taken, takeText}
+use Rattle.tokens.specs.Number.{isDigit, digits, afterDigits, valueFrom, noLeadingZero, wellFormed}
+use Rattle.tokens.specs.Number.{readUnsigned, negated, positive, readNumber, decimal, unsignedText}
+use Rattle.tokens.specs.Unsigned.{leading}
+use Rattle.lines.specs.Lines.{ahead, lines}
+use Rattle.weights.specs.Weights.{lastClosed}
+use Rattle.table_tests.specs.TableTests.{ageInTable}
+use Rattle.query.specs.Query.{readField, alone}
+use Rattle.column_text.specs.Column.{columnLines, readDigits, readQ, readEntry, readEntries, entriesOf, isAge, ofAge}
+use Rattle.column_text.specs.Column.{allInTable, counts, oneOfEach, eachOnce, stepsOf, byAge, columnOf}
+
+lineText : ℕ → List ℕ
+lineText x = bytesOf "age=" ++ (unsignedText x ++ bytesOf " q=0.00312\n")
+
+-- the lines of the ages below n, the highest first
+downward : ℕ → List ℕ
+downward zero = []
+downward (suc n) = lineText n ++ downward n
+
+whole-column : columnOf (downward columnLines) ≡ taken (listed (λ x. 312) 0 columnLines) []
+unfolding lineText downward listed bytesOf takeText readField alone isDigit digits afterDigits valueFrom noLeadingZero
+    wellFormed readUnsigned negated positive readNumber decimal unsignedText leading ahead lines ageInTable readDigits readQ
+    readEntry readEntries entriesOf isAge ofAge allInTable counts oneOfEach eachOnce stepsOf byAge columnOf
+whole-column = refl
+
+-- no line, age 120 missing, an age 121, an age twice, an age twice and another missing, an empty line at the end, a line at the
+-- end without its line feed, and one age alone
+torn-columns : (columnOf [] ≡ torn)
+    × (columnOf (downward lastClosed) ≡ torn)
+    × (columnOf (downward (suc columnLines)) ≡ torn)
+    × (columnOf (lineText 65 ++ downward columnLines) ≡ torn)
+    × (columnOf (lineText 65 ++ downward lastClosed) ≡ torn)
+    × (columnOf (downward columnLines ++ bytesOf "\n") ≡ torn)
+    × (columnOf (downward columnLines ++ bytesOf "age=0 q=0.00312") ≡ torn)
+    × (columnOf (downward 1) ≡ torn)
+unfolding lineText downward listed bytesOf takeText readField alone isDigit digits afterDigits valueFrom noLeadingZero
+    wellFormed readUnsigned negated positive readNumber decimal unsignedText leading ahead lines ageInTable readDigits readQ
+    readEntry readEntries entriesOf isAge ofAge allInTable counts oneOfEach eachOnce stepsOf byAge columnOf
+torn-columns = (refl, refl, refl, refl, refl, refl, refl, refl)

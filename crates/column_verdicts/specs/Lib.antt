@@ -1,0 +1,4 @@
+-- definitions
+pub mod ColumnVerdict
+-- laws
+pub mod ColumnTheorem

@@ -1,0 +1,21 @@
+-- `verdict_into` meets its contract: what is answered by the sheet, put into the place.
+use borrow.Author.Needs.{needs}
+use mir.Facts.{toZ-ofZ}
+use Rattle.sheet_verdict.specs.VerdictLaws.{put-same}
+use Rattle.sheet_verdict.proofs.verdict_into.Statement.{statement}
+use Rattle.sheet_verdict.proofs.verdict_into.Tie as tie
+
+sheet-verdict-requires : tie.Need-sheet-verdict-requires
+sheet-verdict-requires c κs = search needs
+
+put-judged-requires : tie.Need-put-judged-requires
+put-judged-requires c κs = search needs
+
+returns : tie.Need-returns
+returns c =
+    let a = c .before in
+    let f = a .before .before .before .before .fits in
+    put-same _ (rw (toZ-ofZ (f .year)) at (a .sheet-verdict .ensures)) (c .put-judged .ensures)
+
+pub verdict-into-spec : {M : Type 1} → statement M
+verdict-into-spec = tie.close (tie.spec sheet-verdict-requires put-judged-requires returns)

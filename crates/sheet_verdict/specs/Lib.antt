@@ -1,0 +1,4 @@
+-- definitions
+pub mod SheetVerdict
+-- laws
+pub mod VerdictLaws

@@ -1,0 +1,5 @@
+-- definitions
+pub mod VerdictDesk
+-- laws
+pub mod YearLaws
+pub mod RunLaws

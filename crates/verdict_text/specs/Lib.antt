@@ -1,0 +1,4 @@
+-- definitions
+pub mod VerdictText
+-- laws
+pub mod Lengths

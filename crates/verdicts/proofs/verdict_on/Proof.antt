@@ -1,0 +1,92 @@
+-- `verdict_on` meets its contract. The loop's invariant: the verdict is that on the ages below x; the measure is the ages left.
+use mathlib.Core.Path.{_≡_, ap, ap₂, sym, _∙_}
+use Prim.Native.Nat.{_-_, _≤_}
+use native.Mathlib.Numerals.{add-one}
+use native.Mathlib.Omega.{arith}
+use borrow.Author.Needs.{needs}
+use lib.ListN.{length}
+use Rattle.folds.specs.Code.{mostFactors}
+use Rattle.folds.proofs.Running.{factor-small}
+use Rattle.verdicts.specs.Verdict.{columnAges, entryAt, verdictTo}
+use Rattle.verdicts.specs.Code.{joined, figureIn}
+use Rattle.verdicts.specs.VerdictLaws.{verdict-none, verdict-more}
+use Rattle.verdicts.proofs.verdict_on.Statement.{statement}
+use Rattle.verdicts.proofs.verdict_on.Tie as tie
+
+abbrev Inv-loop : tie.InvT-loop
+Inv-loop factors column verdict₀ x₀ verdict x = (verdict ≡ verdictTo (figureIn factors) (entryAt column) x) × (x ≤ columnAges)
+
+abbrev μ-loop : tie.MeasureT-loop
+μ-loop factors column verdict₀ x₀ verdict x = columnAges - x
+
+-- the array's length
+size : (c : tie.Start Inv-loop μ-loop) → length (c .args .t1) ≡ mostFactors
+size c = search needs
+
+loop-holds : tie.Need-loop-holds Inv-loop μ-loop
+loop-holds c = (sym (verdict-none _ _), omega arith)
+
+mul-p : tie.Need-mul-p Inv-loop μ-loop
+mul-p c = omega arith
+
+array-copy-out-p : tie.Need-array-copy-out-p Inv-loop μ-loop
+array-copy-out-p c = omega arith
+
+mul-entry : tie.Need-mul-entry Inv-loop μ-loop
+mul-entry c = omega arith
+
+array-read-entry : tie.Need-array-read-entry Inv-loop μ-loop
+array-read-entry c = omega arith
+
+age-verdict-requires : tie.Need-age-verdict-requires Inv-loop μ-loop
+age-verdict-requires c κs =
+    let l = c .before .before in
+    let s = l .before in
+    factor-small (s .args .t1) (size s) (s .pre) (l .loop .x) (omega arith)
+
+joined-requires : tie.Need-joined-requires Inv-loop μ-loop
+joined-requires c κs = search needs
+
+add-x : tie.Need-add-x Inv-loop μ-loop
+add-x c = omega arith
+
+loop-less : tie.Need-loop-less Inv-loop μ-loop
+loop-less c = omega arith
+
+loop-again : tie.Need-loop-again Inv-loop μ-loop
+unfolding figureIn entryAt
+loop-again c =
+    let v = c .before in
+    let l = v .before .before .before in
+    let s = l .before in
+    let x = l .loop .x in (
+      c .joined .ensures ∙ ap₂ joined (l .loop .inv .0) (v .age-verdict .ensures)
+          ∙ verdict-more (figureIn (s .args .t1)) (entryAt (s .args .t2)) x
+          ∙ ap (verdictTo (figureIn (s .args .t1)) (entryAt (s .args .t2))) (sym (add-one x)),
+      omega arith,
+    )
+
+returns : tie.Need-returns Inv-loop μ-loop
+returns c =
+    let l = c .before in
+    let s = l .before in
+    let x : l .loop .x ≡ columnAges = omega arith in
+    l .loop .inv .0 ∙ ap (verdictTo (figureIn (s .args .t1)) (entryAt (s .args .t2))) x
+
+pub verdict-on-spec : {M : Type 1} → statement M
+verdict-on-spec =
+    tie.close
+    (tie.spec
+    Inv-loop
+    μ-loop
+    loop-holds
+    mul-p
+    array-copy-out-p
+    mul-entry
+    array-read-entry
+    age-verdict-requires
+    joined-requires
+    add-x
+    loop-less
+    loop-again
+    returns)

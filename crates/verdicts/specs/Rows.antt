@@ -1,0 +1,88 @@
+-- Verdicts on some figures and entries, and the order of the refusals, by computing the definitions.
+use mathlib.Core.Path.{_≡_, refl}
+use mathlib.Core.List.{List, [], _∷_}
+use Prim.Native.Nat.{ℕ}
+use lib.IntN.{pos}
+use lib.ListN.{getD, replicate}
+use Rattle.whole.specs.Table.{listed}
+use Rattle.whole.specs.SignedEnds.{leastProduct, greatestProduct, outward}
+use Rattle.whole.specs.Division.{floorDiv, ceilDiv}
+use Rattle.tokens.specs.Text.{torn, taken}
+use Rattle.params.specs.declared.Params.{Params}
+use Rattle.params.specs.declared.Refusal.the-variants.{OffScale, NoSuchYear, Steep, TornColumn}
+use Rattle.params.specs.declared.Sex.the-variants.{M}
+use Rattle.params.specs.Set.{A, B, alpha, beta, ages}
+use Rattle.params.specs.Limits.{inLimits, seriesInLimits, agesInLimits, ageInLimits}
+use Rattle.params.specs.Refusals.{refusalNumber}
+use Rattle.series.specs.Series.{periodIn, kappaIn, kappaStep, cellForce, logForce, inRange}
+use Rattle.mortality.specs.Cell.{neededInRange, fittedInRange}
+use Rattle.paths.specs.Path.{placeAt, pathOf, pathInRange}
+use Rattle.kinds.specs.Kinds.{ruleOf}
+use Rattle.table_tests.specs.TableTests.{yearInTable, firstFailed}
+use Rattle.quote.specs.Demand.{Shown, printed, markedOpen, noFigure}
+use Rattle.verdicts.specs.declared.Verdict.{Verdict}
+use Rattle.verdicts.specs.declared.Verdict.the-variants.{Right, Wrong, Open}
+use Rattle.verdicts.specs.declared.Judged.the-variants.{Refused}
+use Rattle.verdicts.specs.Verdict.{
+  entryAt,
+  differs,
+  isOpen,
+  someBelow,
+  verdictTo,
+  yearCells,
+  columnTests,
+  columnRefusal,
+  judgedBy,
+  judged,
+}
+
+-- figures and entries of three ages have the verdict v
+abbrev pub Row : List Shown → List ℕ → Verdict → Type 0
+Row figures entries v = verdictTo (λ (x : ℕ). getD figures x noFigure) (entryAt entries) 3 ≡ v
+
+-- three printed figures: each entry the same, and the last or the first another; one open: the others the same, whatever stands
+-- at the open one, and one before it or after it another
+pub rows : Row (printed 5 ∷ printed 6 ∷ printed 7 ∷ []) (5 ∷ 6 ∷ 7 ∷ []) Right
+    × Row (printed 5 ∷ printed 6 ∷ printed 7 ∷ []) (5 ∷ 6 ∷ 8 ∷ []) Wrong
+    × Row (printed 5 ∷ printed 6 ∷ printed 7 ∷ []) (4 ∷ 6 ∷ 7 ∷ []) Wrong
+    × Row (printed 5 ∷ markedOpen ∷ printed 7 ∷ []) (5 ∷ 6 ∷ 7 ∷ []) Open
+    × Row (printed 5 ∷ markedOpen ∷ printed 7 ∷ []) (5 ∷ 9 ∷ 7 ∷ []) Open
+    × Row (printed 5 ∷ markedOpen ∷ printed 7 ∷ []) (4 ∷ 6 ∷ 7 ∷ []) Wrong
+    × Row (printed 5 ∷ markedOpen ∷ printed 7 ∷ []) (5 ∷ 6 ∷ 8 ∷ []) Wrong
+unfolding verdictTo someBelow differs isOpen entryAt
+rows = (refl, refl, refl, refl, refl, refl, refl)
+
+-- ---- refusals
+
+-- this a, and every other number 0: each cell is steep
+abbrev withA : ℕ → Params
+withA a =
+    record {
+      sex = M;
+      a = pos a;
+      theta = pos 0;
+      period = pos 0;
+      kappa = pos 0;
+      level = replicate ages (pos 0);
+      slope = replicate ages (pos 0);
+      alpha = replicate ages (pos 0);
+      beta = replicate ages (pos 0);
+    }
+
+-- 2 before 9, and 9 before 4: with a past its limit a torn column in a year that is none of `q`; with a in its limit the same,
+-- and then a whole column in the years before the first and after the last
+pub refusals : (judged (withA 100000001) (pos 2013) torn ≡ Refused OffScale)
+    × (judged (withA 100000000) (pos 2013) torn ≡ Refused TornColumn)
+    × (judged (withA 100000000) (pos 2013) (taken [] []) ≡ Refused NoSuchYear)
+    × (judged (withA 100000000) (pos 2185) (taken [] []) ≡ Refused NoSuchYear)
+unfolding judged judgedBy columnRefusal columnTests firstFailed refusalNumber inLimits seriesInLimits agesInLimits ageInLimits
+    A B alpha beta yearInTable ruleOf
+refusals = (refl, refl, refl, refl)
+
+-- 6 in the first year and in the last
+pub steep : (judged (withA 0) (pos 2014) (taken [] []) ≡ Refused Steep)
+    × (judged (withA 0) (pos 2184) (taken [] []) ≡ Refused Steep)
+unfolding judged judgedBy columnRefusal columnTests firstFailed refusalNumber inLimits seriesInLimits agesInLimits ageInLimits
+    A B alpha beta yearInTable ruleOf yearCells pathOf listed placeAt pathInRange neededInRange fittedInRange inRange
+    logForce cellForce periodIn kappaIn kappaStep leastProduct greatestProduct outward floorDiv ceilDiv
+steep = (refl, refl)

@@ -1,0 +1,126 @@
+// The verdict on a published column of q for one year: right, wrong or open, or one numbered refusal. The cells of the year are
+// worked once, and with them each age's figure and the year's closure.
+ghost use mathlib.Core.Path.{_≡_};
+ghost use mathlib.Core.List.{[]};
+ghost use lib.Dec.{T};
+ghost use Rattle.tokens.specs.Text.{taken};
+ghost use Rattle.expo.specs.Billionths.{billionths};
+ghost use Rattle.expo.specs.Code.{endsOf};
+ghost use Rattle.params.specs.Limits.{inLimits};
+ghost use Rattle.folds.specs.Code.{AtMost, Chances};
+ghost use Rattle.verdicts.specs.Verdict.{columnAges, entryAt, verdictTo, judged};
+ghost use Rattle.verdicts.specs.Meaning.{Honest};
+ghost use Rattle.verdicts.specs.Code.{columnRead, ageVerdict, joined, figureBy, figureIn};
+use exact::Figure;
+use exact::PROBABILITY_STEP;
+use expo::Ends;
+use folds::MOST_FACTORS;
+use kinds::Kind;
+use params::Params;
+use params::Refusal;
+use params::START_YEAR;
+use walks::Path;
+use weights::LAST_CLOSED;
+
+// Ages 0 to 120.
+pub const COLUMN_AGES: usize = LAST_CLOSED + 1;
+
+// Every entry is the figure here; an entry differs from a printed figure; or a figure is open and none differs.
+pub enum Verdict {
+    Right,
+    Wrong,
+    Open,
+}
+
+// A verdict, or the refusal.
+pub enum Judged {
+    Of(Verdict),
+    Refused(Refusal),
+}
+
+// The verdict on the entry of one age, by p's ends.
+fn age_verdict(p: Ends, entry: u64) -> Verdict
+    requires { ⌜ AtMost (billionths .unit) (endsOf p) ⌝ }
+    ensures { λ r. ⌜ r ≡ ageVerdict (figureBy (endsOf p)) entry ⌝ }
+{
+    let q = force::death_of(p);
+    let figure = exact::figure_of(PROBABILITY_STEP, q.lower, q.upper);
+    let Figure::Printed(n) = figure else {
+        return Verdict::Open;
+    };
+    if n == entry {
+        return Verdict::Right;
+    }
+    Verdict::Wrong
+}
+
+// The verdict on some ages and one more: wrong goes before open, and open before right.
+fn joined(some: Verdict, more: Verdict) -> Verdict
+    ensures { λ r. ⌜ r ≡ joined some more ⌝ }
+{
+    match some {
+        Verdict::Wrong => Verdict::Wrong,
+        Verdict::Open => match more {
+            Verdict::Wrong => Verdict::Wrong,
+            Verdict::Open => Verdict::Open,
+            Verdict::Right => Verdict::Open,
+        },
+        Verdict::Right => more,
+    }
+}
+
+// The verdict on a column by the factors of its year's cells.
+fn verdict_on(factors: [Ends; MOST_FACTORS], column: [u64; COLUMN_AGES]) -> Verdict
+    requires { ⌜ Chances factors columnAges ⌝ }
+    ensures { λ r. ⌜ r ≡ verdictTo (figureIn factors) (entryAt column) columnAges ⌝ }
+{
+    let mut verdict = Verdict::Right;
+    let mut x = 0;
+    while x < COLUMN_AGES {
+        let p = factors[x];
+        let entry = column[x];
+        verdict = joined(verdict, age_verdict(p, entry));
+        x += 1;
+    }
+    verdict
+}
+
+// What is answered of a column that was read, for a set in its limits.
+pub fn judge_within(p: Params, year: i64, column: [u64; COLUMN_AGES]) -> Judged
+    requires { ⌜ T (inLimits p) ⌝ }
+    ensures { λ r. ⌜ r ≡ judged p year (taken column []) ⌝ }
+{
+    let rule = kinds::rule_of(Kind::Death);
+    let refusal = table_tests::table_refusal(rule, 0, year, 0);
+    if params::refusal_number(refusal) != 0 {
+        return Judged::Refused(refusal);
+    }
+    let n = (year - START_YEAR) as u64;
+    let cells = Path {
+        cohort: false,
+        age: 0,
+        year: n,
+        count: COLUMN_AGES,
+    };
+    let worked = factors::factors_of(p, cells);
+    if !worked.ok {
+        return Judged::Refused(Refusal::Steep);
+    }
+    let ends = worked.ends;
+    let verdict = verdict_on(ends, column);
+    Judged::Of(verdict)
+}
+
+// What is answered of any column, where the whole of it was read and where it is torn.
+pub fn judge(p: Params, year: i64, whole: bool, column: [u64; COLUMN_AGES]) -> Judged
+    ensures answered { λ r. ⌜ r ≡ judged p year (columnRead whole column) ⌝ }
+    ensures honest { λ r. ⌜ Honest p year column r ⌝ }
+{
+    if !limits::in_limits(p) {
+        return Judged::Refused(Refusal::OffScale);
+    }
+    if !whole {
+        return Judged::Refused(Refusal::TornColumn);
+    }
+    judge_within(p, year, column)
+}
