@@ -4,7 +4,7 @@
 #include "compilers.h"
 #include "params.h"
 
-/* The grid of paper 01 in plain C: ends[2x] and ends[2x + 1]; returns 0 where a cell is steep. */
+/* The grid in plain C: ends[2x] and ends[2x + 1]; returns 0 where a cell is steep. */
 typedef int column_in_c(const params *p, unsigned n, uint64_t *ends);
 column_in_c column_by_gcc, column_by_clang;
 

@@ -1,15 +1,20 @@
-/* The grid of paper 01 in plain C, for comparison of speed: same terms, same roundings, no proofs. The functions with long sums
-   are not marked inline: gcc's code is slower by a tenth where it inlines them everywhere. */
+/* The grid of paper 01, with the half steps of paper 02, E4, in plain C, for comparison of speed: same terms, same roundings,
+   no proofs. The functions with long sums are not marked inline: gcc's code is slower by a tenth where it inlines them
+   everywhere. */
 #ifndef GRID_H
 #define GRID_H
 #include "params.h"
 
 #define UNIT 1000000000ull
+#define STEP 500000000ull
 #define RATE 100000000ll
 #define MILLION 1000000ull
 
-static const uint64_t whole_parts[21] = {1000000000, 367879441, 135335283, 49787068, 18315638, 6737946, 2478752,
-    911881, 335462, 123409, 45399, 16701, 6144, 2260, 831, 305, 112, 41, 15, 5, 2};
+/* The whole parts of 10^9·e^-(n/2). */
+static const uint64_t whole_parts[42] = {
+    1000000000, 606530659, 367879441, 223130160, 135335283, 82084998, 49787068, 30197383, 18315638, 11108996,
+    6737946, 4086771, 2478752, 1503439, 911881, 553084, 335462, 203468, 123409, 74851, 45399, 27536, 16701,
+    10130, 6144, 3726, 2260, 1370, 831, 504, 305, 185, 112, 68, 41, 25, 15, 9, 5, 3, 2, 1};
 
 typedef struct { int64_t lower, upper; } pair;
 typedef struct { uint64_t lower, upper; } ends;
@@ -22,7 +27,7 @@ static inline int64_t ceil_div(int64_t n, int64_t d) { return n > 0 ? 1 + (n - 1
 
 static uint64_t exp_lower(uint64_t z) {
     if (z >= 21 * UNIT) return 0;
-    uint64_t f = z % UNIT, low = UNIT, high = UNIT, evens = UNIT, odds = 0;
+    uint64_t f = z % STEP, low = UNIT, high = UNIT, evens = UNIT, odds = 0;
     for (uint64_t k = 1; k < 13; k += 2) {
         uint64_t odd = up(high * f, k * UNIT);
         low = low * f / (k * UNIT) * f / ((k + 1) * UNIT);
@@ -31,12 +36,12 @@ static uint64_t exp_lower(uint64_t z) {
         odds += odd;
     }
     odds += up(high * f, 13 * UNIT);
-    return (evens - odds) * whole_parts[z / UNIT] / UNIT;
+    return (evens - odds) * whole_parts[z / STEP] / UNIT;
 }
 
 static uint64_t exp_upper(uint64_t z) {
     if (z >= 21 * UNIT) return 1;
-    uint64_t f = z % UNIT, n = z / UNIT, low = UNIT, high = UNIT, evens = UNIT, odds = 0;
+    uint64_t f = z % STEP, n = z / STEP, low = UNIT, high = UNIT, evens = UNIT, odds = 0;
     for (uint64_t k = 1; k < 11; k += 2) {
         uint64_t odd = low * f / (k * UNIT);
         low = odd * f / ((k + 1) * UNIT);

@@ -1,7 +1,8 @@
-"""The grid of paper 01 in whole numbers, written from the paper's text."""
+"""The grid of paper 01, with the half steps of paper 02, E4, in whole numbers, written from the papers' text."""
 from fractions import Fraction
 
 UNIT = 10**9
+STEP = 500_000_000
 CUTOFF = 21
 LAST_LOWER = 13
 LAST_UPPER = 12
@@ -18,25 +19,25 @@ def up(a, b):
 
 
 def whole_part(n):
-    """The whole part of UNIT·e^-n: e^n from a Taylor sum with a remainder that is too small to matter."""
+    """The whole part of UNIT·e^-(n/2): e^(n/2) from a Taylor sum with a remainder that is too small to matter."""
     total, term = Fraction(0), Fraction(1)
     for i in range(1, 200):
         total += term
-        term = term * n / i
+        term = term * n / (2 * i)
     low, high = UNIT / (total + 2 * term), UNIT / total
     if low // 1 != high // 1:
         raise ArithmeticError(n)
     return int(high // 1)
 
 
-CONSTANTS = [(UNIT, UNIT)] + [(whole_part(n), whole_part(n) + 1) for n in range(1, CUTOFF)]
+CONSTANTS = [(UNIT, UNIT)] + [(whole_part(n), whole_part(n) + 1) for n in range(1, 42)]
 
 
 def exp_ends(z):
     """The two ends of the exponential of -z, z >= 0 in units."""
     if z >= CUTOFF * UNIT:
         return 0, 1
-    n, f = divmod(z, UNIT)
+    n, f = divmod(z, STEP)
     low, high = [UNIT], [UNIT]
     for k in range(1, LAST_LOWER + 1):
         low.append(down(low[-1] * f, k * UNIT))

@@ -8,7 +8,7 @@ import pathlib
 import random
 import sys
 
-from grid import CUTOFF, UNIT, exp_ends
+from grid import CUTOFF, STEP, UNIT, exp_ends
 
 CRATE = pathlib.Path(__file__).resolve().parent.parent / "crates" / "exp_cases"
 LARGEST = 2**64 - 1
@@ -16,8 +16,8 @@ LARGEST = 2**64 - 1
 
 def cases():
     zs = {0, 1, 2, 700_000_000, CUTOFF * UNIT - 1, CUTOFF * UNIT, CUTOFF * UNIT + 1, LARGEST}
-    for n in range(CUTOFF + 1):
-        zs |= {n * UNIT, n * UNIT + 1} | ({n * UNIT - 1} if n else set())
+    for z in range(0, CUTOFF * UNIT + 1, STEP):
+        zs |= {z, z + 1} | ({z - 1} if z else set())
     draw = random.Random(2014)
     zs |= {draw.randrange(CUTOFF * UNIT) for _ in range(40)}
     zs |= {draw.randrange(UNIT) for _ in range(20)}

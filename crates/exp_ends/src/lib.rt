@@ -5,41 +5,63 @@ ghost use Rattle.expo.specs.Exponential.{expLower, expUpper, expBetween};
 ghost use Rattle.expo.specs.Code.{endsOf};
 use expo::CUTOFF;
 use expo::Ends;
+use expo::STEP;
 use expo::UNIT;
 use whole::ceil_div_u;
 
-// The whole parts of 10^9·e^−n.
-const WHOLE_PARTS: [u64; 21] = [
+// The whole parts of 10^9·e^−(n/2).
+const WHOLE_PARTS: [u64; 42] = [
     1000000000,
+    606530659,
     367879441,
+    223130160,
     135335283,
+    82084998,
     49787068,
+    30197383,
     18315638,
+    11108996,
     6737946,
+    4086771,
     2478752,
+    1503439,
     911881,
+    553084,
     335462,
+    203468,
     123409,
+    74851,
     45399,
+    27536,
     16701,
+    10130,
     6144,
+    3726,
     2260,
+    1370,
     831,
+    504,
     305,
+    185,
     112,
+    68,
     41,
+    25,
     15,
+    9,
     5,
+    3,
     2,
+    1,
 ];
 
-// The lower end of the exponential of −z. Below 1 the constant is 1, and the sum is the answer.
+// The lower end of the exponential of −z. Below the first step the constant is 1, and the sum is the answer.
 pub fn exp_lower(z: u64) -> u64
     ensures { λ r. ⌜ r ≡ expLower billionths z ⌝ }
 {
     if z < CUTOFF {
-        let sum = exp_sums::sum_lower(z % UNIT);
-        let n = z / UNIT;
+        let sum = exp_sums::sum_lower(z % STEP);
+        let n = z / STEP;
         if n == 0 {
             return sum;
         }
@@ -53,8 +75,8 @@ pub fn exp_upper(z: u64) -> u64
     ensures { λ r. ⌜ r ≡ expUpper billionths z ⌝ }
 {
     if z < CUTOFF {
-        let sum = exp_sums::sum_upper(z % UNIT);
-        let n = z / UNIT;
+        let sum = exp_sums::sum_upper(z % STEP);
+        let n = z / STEP;
         if n == 0 {
             return sum;
         }

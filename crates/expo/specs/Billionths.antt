@@ -1,20 +1,22 @@
--- The grid of paper 01: units of 10^-9, a constant for each whole n from 0 to 20, [0, 1] from 21 on, lower sums to term
--- 13 and upper sums to term 12, and 28 terms of the logarithm.
+-- The grid of 10^-9 (paper 01, "The grid", with paper 02, E4): "z is cut into half steps, z = n·500,000,000 + f, with
+-- constants for n = 0 to 41", [0, 1] from 21 on, lower sums to term 13 and upper sums to term 12, and 28 terms of the
+-- logarithm.
 use mathlib.Core.List.{List, [], _∷_}
 use Prim.Native.Nat.{ℕ}
 use Rattle.expo.specs.Grid.{Grid}
 
--- the whole parts of 10^9·e^−n
+-- the whole parts of 10^9·e^−(n/2)
 unfoldable pub wholeParts : List ℕ
 wholeParts =
-    1000000000 ∷ 367879441 ∷ 135335283 ∷ 49787068 ∷ 18315638 ∷ 6737946 ∷ 2478752 ∷ 911881 ∷ 335462 ∷ 123409 ∷ 45399 ∷
-    16701 ∷ 6144 ∷ 2260 ∷ 831 ∷ 305 ∷ 112 ∷ 41 ∷ 15 ∷ 5 ∷ 2 ∷ []
+    1000000000 ∷ 606530659 ∷ 367879441 ∷ 223130160 ∷ 135335283 ∷ 82084998 ∷ 49787068 ∷ 30197383 ∷ 18315638 ∷ 11108996 ∷
+    6737946 ∷ 4086771 ∷ 2478752 ∷ 1503439 ∷ 911881 ∷ 553084 ∷ 335462 ∷ 203468 ∷ 123409 ∷ 74851 ∷ 45399 ∷ 27536 ∷ 16701 ∷
+    10130 ∷ 6144 ∷ 3726 ∷ 2260 ∷ 1370 ∷ 831 ∷ 504 ∷ 305 ∷ 185 ∷ 112 ∷ 68 ∷ 41 ∷ 25 ∷ 15 ∷ 9 ∷ 5 ∷ 3 ∷ 2 ∷ 1 ∷ []
 
 abbrev pub billionths : Grid
 billionths =
     record {
       unit = 1000000000;
-      steps = 1;
+      steps = 2;
       constants = wholeParts;
       cutoff = 21;
       lastLower = 13;

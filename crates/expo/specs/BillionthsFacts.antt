@@ -18,22 +18,27 @@ use Rattle.whole.specs.Table.{at}
 abbrev tested : ℕ
 tested = 60
 
--- c is at most unit/(s + r) at n, and what stands for its upper end, the unit at n = 0 and c + 1 after it, at least unit/s
+-- c is at most unit/(s + r) at n steps, and what stands for its upper end, the unit at n = 0 and c + 1 after it, at least
+-- unit/s
 holdsBelow : ℕ → ℕ → Bool
-holdsBelow n c = leb (c * stretchedNum n 1 tested) (billionths .unit * stretchedDen n 1 tested)
+holdsBelow n c = leb (c * stretchedNum n (billionths .steps) tested) (billionths .unit * stretchedDen n (billionths .steps) tested)
 
 upperOf : ℕ → ℕ → ℕ
 upperOf zero c = billionths .unit
 upperOf (suc n) c = suc c
 
 holdsAbove : ℕ → ℕ → Bool
-holdsAbove n c = leb (billionths .unit * taylorDen 1 tested) (upperOf n c * taylorNum n 1 tested)
+holdsAbove n c = leb (billionths .unit * taylorDen (billionths .steps) tested) (upperOf n c * taylorNum n (billionths .steps) tested)
 
-below : (n : ℕ) → n < length wholeParts → constantLower billionths n * stretchedNum n 1 tested ≤ 1000000000 * stretchedDen n 1 tested
+below : (n : ℕ) → n < length wholeParts
+    → constantLower billionths n * stretchedNum n (billionths .steps) tested
+    ≤ billionths .unit * stretchedDen n (billionths .steps) tested
 unfolding holdsBelow wholeParts constantLower taylorDen taylorNum stretchedDen stretchedNum gap
 below n l = leb→le _ _ (at holdsBelow 0 wholeParts tt n l)
 
-above : (n : ℕ) → n < length wholeParts → 1000000000 * taylorDen 1 tested ≤ constantUpper billionths n * taylorNum n 1 tested
+above : (n : ℕ) → n < length wholeParts
+    → billionths .unit * taylorDen (billionths .steps) tested
+    ≤ constantUpper billionths n * taylorNum n (billionths .steps) tested
 unfolding holdsAbove upperOf wholeParts constantLower constantUpper taylorDen taylorNum
 above zero l = leb→le _ _ (at holdsAbove 0 wholeParts tt zero l)
 above (suc n) l = leb→le _ _ (at holdsAbove 0 wholeParts tt (suc n) l)

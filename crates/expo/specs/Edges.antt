@@ -11,11 +11,14 @@ use Rattle.expo.specs.Billionths.{billionths, wholeParts}
 abbrev pub Row : ℕ → ℕ → ℕ → Type 0
 Row z l u = expBetween billionths (record { lower = z; upper = z }) ≡ record { lower = l; upper = u }
 
--- z = 0, exactly 1; z = 1; one unit before the cut-off; the cut-off, z = 21
+-- z = 0, exactly 1; one unit before the first half step, and the half step; z = 1; one unit before the cut-off; the cut-off,
+-- z = 21
 pub edges : Row 0 1000000000 1000000000
+    × Row 499999999 606530653 606530665
+    × Row 500000000 606530659 606530660
     × Row 1000000000 367879441 367879442
     × Row 20999999999 0 2
     × Row 21000000000 0 1
 unfolding nextLower nextUpper termLower termUpper total evens odds sumLower sumUpper
     constantLower constantUpper expLower expUpper expBetween wholeParts double ceilDivℕ
-edges = (refl, refl, refl, refl)
+edges = (refl, refl, refl, refl, refl, refl)

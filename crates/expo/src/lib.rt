@@ -3,6 +3,9 @@
 // Units in 1.
 pub const UNIT: u64 = 1_000_000_000;
 
+// Units in a step of the constants.
+pub const STEP: u64 = 500_000_000;
+
 // z from which the exponential is [0, 1].
 pub const CUTOFF: u64 = 21_000_000_000;
 

@@ -6,7 +6,7 @@ use Rattle.exp_cases.proofs.main.Tie as tie
 
 -- how many places are stored
 abbrev places : ℕ
-places = 128
+places = 191
 
 abbrev Inv-loop : tie.InvT-loop
 Inv-loop i₀ i = i ≤ places

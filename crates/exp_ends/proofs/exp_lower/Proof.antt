@@ -1,5 +1,5 @@
--- `exp_lower` meets its contract: below the cut-off the product of the lower sum and the constant, which below 1 is the sum
--- itself, and from the cut-off on 0.
+-- `exp_lower` meets its contract: below the cut-off the product of the lower sum and the constant, which below the first
+-- step is the sum itself, and from the cut-off on 0.
 use Prim.Native.Nat.{_≤_, _<_}
 use native.Mathlib.Nat.{mul-div-cancel}
 use native.Mathlib.Omega.{arith}
@@ -19,8 +19,11 @@ below c = omega arith
 past : (c : tie.Else1) → cutoffUnits billionths ≤ c .before .args .z
 past c = omega arith
 
-sum-lower-requires : tie.Need-sum-lower-requires
-sum-lower-requires c κs = search needs
+-- ---- the value
+
+returns-2 : tie.Need-returns-2
+unfolding expLower constantLower wholeParts
+returns-2 c = rw (lt-ltb _ _ (below (c .before .before)), c .before .sum-lower .ensures)
 
 returns : tie.Need-returns
 unfolding expLower
@@ -33,6 +36,15 @@ returns c =
       c .before .sum-lower .ensures,
     )
 
+returns-3 : tie.Need-returns-3
+unfolding expLower
+returns-3 c = rw (le-ltb _ _ (past c))
+
+-- ---- what each step asks
+
+sum-lower-requires : tie.Need-sum-lower-requires
+sum-lower-requires c κs = search needs
+
 mul-result : tie.Need-mul-result
 mul-result c = search needs
 
@@ -42,14 +54,6 @@ array-read-result c = search needs
 mul-result-2 : tie.Need-mul-result-2
 unfolding constantLower wholeParts
 mul-result-2 c = omega (arith, lower-product _ _ (below (c .before .before)) (c .before .sum-lower .ensures))
-
-returns-2 : tie.Need-returns-2
-unfolding expLower constantLower wholeParts
-returns-2 c = rw (lt-ltb _ _ (below (c .before .before)), c .before .sum-lower .ensures)
-
-returns-3 : tie.Need-returns-3
-unfolding expLower
-returns-3 c = rw (le-ltb _ _ (past c))
 
 pub exp-lower-spec : {M : Type 1} → statement M
 exp-lower-spec =

@@ -1,5 +1,5 @@
--- `exp_upper` meets its contract: below the cut-off the product of the upper sum and the constant, which below 1 is the sum
--- itself, and from the cut-off on 1.
+-- `exp_upper` meets its contract: below the cut-off the product of the upper sum and the constant, which below the first
+-- step is the sum itself, and from the cut-off on 1.
 use mathlib.Core.Path.{_∙_}
 use Prim.Native.Nat.{_≤_, _<_}
 use native.Mathlib.Omega.{arith}
@@ -19,13 +19,28 @@ below c = omega arith
 past : (c : tie.Else1) → cutoffUnits billionths ≤ c .before .args .z
 past c = omega arith
 
-sum-upper-requires : tie.Need-sum-upper-requires
-sum-upper-requires c κs = search needs
+-- ---- the value
+
+returns-2 : tie.Need-returns-2
+unfolding expUpper constantLower wholeParts
+returns-2 c =
+    let b = c .before .before in
+    c .ceil-div-u .ensures
+    ∙ rw (lt-ltb _ _ (below (b .before)), one-more _ (c .before .if2 .left), b .sum-upper .ensures)
 
 returns : tie.Need-returns
 unfolding expUpper constantUpper
 returns c =
     rw (lt-ltb _ _ (below (c .before .before)), c .if2 .taken, ceilℕ-exact _ (lit< tt), c .before .sum-upper .ensures)
+
+returns-3 : tie.Need-returns-3
+unfolding expUpper
+returns-3 c = rw (le-ltb _ _ (past c))
+
+-- ---- what each step asks
+
+sum-upper-requires : tie.Need-sum-upper-requires
+sum-upper-requires c κs = search needs
 
 mul-ceil-div-u : tie.Need-mul-ceil-div-u
 mul-ceil-div-u c = search needs
@@ -44,17 +59,6 @@ mul-ceil-div-u-2 c = omega (arith, upper-product _ _ (below (c .before .before))
 ceil-div-u-requires : tie.Need-ceil-div-u-requires
 unfolding constantLower wholeParts
 ceil-div-u-requires c κs = omega (arith, upper-product _ _ (below (c .before .before)) (c .before .sum-upper .ensures))
-
-returns-2 : tie.Need-returns-2
-unfolding expUpper constantLower wholeParts
-returns-2 c =
-    let b = c .before .before in
-    c .ceil-div-u .ensures
-    ∙ rw (lt-ltb _ _ (below (b .before)), one-more _ (c .before .if2 .left), b .sum-upper .ensures)
-
-returns-3 : tie.Need-returns-3
-unfolding expUpper
-returns-3 c = rw (le-ltb _ _ (past c))
 
 pub exp-upper-spec : {M : Type 1} → statement M
 exp-upper-spec =
