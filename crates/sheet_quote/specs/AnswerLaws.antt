@@ -25,6 +25,9 @@ use Rattle.query.proofs.QuerySteps.{followed, at-end}
 use Rattle.sheet_quote.specs.SheetQuote.{wordKind, kindOf, ratedKindOf, answerTo, sheetAnswer}
 use Rattle.sheet_quote.specs.SheetQuote.{quoteLength, printedNumber, stepsNumber, quoteNumbers, quoteOver}
 use Rattle.sheet_quote.specs.SheetQuote.{quotedNo, quotedAfter, quoteNo, quoteAfter}
+use Rattle.query.specs.declared.KindRead.{KindRead}
+use Rattle.query.specs.declared.KindRead.the-variants.{Torn as NoKind, Of}
+use Rattle.query.specs.Code.{kindRead}
 
 -- ---- the kind of a word
 
@@ -142,3 +145,15 @@ module _ (sheet : List ℕ) {k : Parse Kind} (age year span : ℤ) (before : Lis
       → {a : Answer} → a ≡ sheetAnswer sheet (taken kind []) age year span
       → {after : List ℕ} → PutAnswer a before number after → PutAnswer (sheetAnswer sheet k age year span) before number after
   put-taken e q put = rw (answer-taken sheet age year span e, ← q) put
+
+-- the same by what the code read of the word, whatever follows it there
+module _ (sheet word : List ℕ) (age year span : ℤ) where
+  read-alone : (r : KindRead) → sheetAnswer sheet (kindRead [] r) age year span ≡ sheetAnswer sheet (kindRead word r) age year span
+  unfolding sheetAnswer answerTo
+  read-alone NoKind = refl
+  read-alone (Of kind next) = refl
+
+  pub put-read : (r : KindRead) {k : Parse Kind} → kindRead word r ≡ k → (before : List ℕ) {number : ℕ} {after : List ℕ}
+      → PutAnswer (sheetAnswer sheet (kindRead [] r) age year span) before number after
+      → PutAnswer (sheetAnswer sheet k age year span) before number after
+  put-read r e before put = rw (← e, ← read-alone r) put

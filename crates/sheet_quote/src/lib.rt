@@ -126,6 +126,27 @@ fn put_answer(numbers: &mut [u64], answer: Answer) -> u8
     }
 }
 
+// Answers a query of a sheet, of the kind that was read, in the first four numbers: torn where none was.
+fn answer_into(
+    sheet: &[u8],
+    read: KindRead,
+    age: i64,
+    year: i64,
+    span: i64,
+    numbers: &mut [u64],
+) -> u8
+    ensures { λ r. ⌜ r ≡ quoteNo (sheetAnswer (now (sheet .entry)) (kindRead [] read) age year span)
+        (length (now (numbers .entry))) ⌝ }
+    ensures { λ r. ⌜ now (numbers .exit) ≡ quoteAfter
+        (sheetAnswer (now (sheet .entry)) (kindRead [] read) age year span)
+        (now (numbers .entry)) ⌝ }
+{
+    let KindRead::Of(kind, _) = read else {
+        return params::refusal_number(Refusal::Torn);
+    };
+    put_answer(numbers, sheet_answer(sheet, kind, age, year, span))
+}
+
 // Answers a query of a sheet, of a kind that takes no rate, in the first four numbers. The refusal's number, or 0; refused,
 // the call leaves every number as it was.
 pub fn quote_into(
@@ -142,10 +163,7 @@ pub fn quote_into(
         (sheetAnswer (now (sheet .entry)) (kindOf (now (word .entry))) age year span)
         (now (numbers .entry)) ⌝ }
 {
-    let KindRead::Of(kind, _) = kind_of(word) else {
-        return params::refusal_number(Refusal::Torn);
-    };
-    put_answer(numbers, sheet_answer(sheet, kind, age, year, span))
+    answer_into(sheet, kind_of(word), age, year, span, numbers)
 }
 
 // The same of a kind that takes a rate.
@@ -164,8 +182,5 @@ pub fn annuity_into(
         (sheetAnswer (now (sheet .entry)) (ratedKindOf (now (word .entry)) rate) age year span)
         (now (numbers .entry)) ⌝ }
 {
-    let KindRead::Of(kind, _) = rated_kind_of(word, rate) else {
-        return params::refusal_number(Refusal::Torn);
-    };
-    put_answer(numbers, sheet_answer(sheet, kind, age, year, span))
+    answer_into(sheet, rated_kind_of(word, rate), age, year, span, numbers)
 }
