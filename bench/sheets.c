@@ -1,5 +1,5 @@
-/* The time to read 400 different valid sheets, by kulfizan_read and by a plain reader in C, turn by turn in one run. First all
-   must read the same sets, and refuse the same damaged sheets with the same number. */
+/* The time to read 400 different valid sheets, by kulfizan_read and by a plain reader in C, and to add up their bytes as words,
+   turn by turn in one run. First all must read the same sets, and refuse the same damaged sheets with the same number. */
 #include <stdio.h>
 #include <stdlib.h>
 #include <string.h>
@@ -8,6 +8,7 @@
 #include "kulfizan.h"
 #include "sheet_reader.h"
 #include "timing.h"
+#include "word_sum.h"
 
 #define SHEETS 400
 #define MOST 8483
@@ -15,6 +16,7 @@
 
 static uint8_t text[SHEETS][MOST + 1];
 static size_t length[SHEETS];
+static uint64_t sum[SHEETS];
 static int64_t ours[KULFIZAN_SET_LENGTH];
 static struct sheet theirs;
 
@@ -46,8 +48,19 @@ static void make_sheet(int i) {
     }
 }
 
+/* The sum that word_sum gives, made byte by byte. */
+static uint64_t sum_of(int i) {
+    size_t words = length[i] - length[i] % 8;
+    uint64_t out = 0;
+    for (size_t at = 0; at < length[i]; at++)
+        out += (uint64_t)text[i][at] << (at < words ? 8 * (at % 8) : 0);
+    return out;
+}
+
 #define READER_ROW(by) NAMED(sheet, by),
+#define SUM_ROW(by) NAMED(word_sum, by),
 static sheet_in_c *const in_c[] = {EACH_COMPILER(READER_ROW)};
+static word_sum_in_c *const sum_in_c[] = {EACH_COMPILER(SUM_ROW)};
 static const int compilers = sizeof in_c / sizeof in_c[0];
 
 static int library_no(int i, size_t len) {
@@ -79,6 +92,17 @@ static void by_c(int which) {
     for (int i = 0; i < SHEETS; i++)
         refused += plain_no(which, i, length[i]);
     none_refused(refused);
+}
+
+/* Another sum than the one made beforehand ends the run. */
+static void by_words(int which) {
+    int differ = 0;
+    for (int i = 0; i < SHEETS; i++)
+        differ += sum_in_c[which](text[i], length[i]) != sum[i];
+    if (differ) {
+        puts("the sums differ");
+        exit(1);
+    }
 }
 
 /* Whether the library's numbers and the C's set are the same. */
@@ -123,18 +147,23 @@ static void compare_damaged(void) {
 
 int main(void) {
 #define READER_RUNNER(by) {"plain C, " #by, by_c, 0, 0},
-    runner all[] = {{"proved library", by_library, 0, 0}, EACH_COMPILER(READER_RUNNER)};
-    for (int i = 0; i < SHEETS; i++)
+#define SUM_RUNNER(by) {"word sum, " #by, by_words, 0, 0},
+    runner all[] = {{"proved library", by_library, 0, 0}, EACH_COMPILER(READER_RUNNER) EACH_COMPILER(SUM_RUNNER)};
+    runner *readers = all + 1, *sums = readers + compilers;
+    for (int i = 0; i < SHEETS; i++) {
         make_sheet(i);
+        sum[i] = sum_of(i);
+    }
     compare_sets();
     compare_damaged();
     for (int i = 0; i < compilers; i++)
-        all[1 + i].which = i;
-    take_turns(all, 1 + compilers, TURNS);
-    for (int i = 0; i < 1 + compilers; i++)
+        readers[i].which = sums[i].which = i;
+    take_turns(all, 1 + 2 * compilers, TURNS);
+    for (int i = 0; i < 1 + 2 * compilers; i++)
         printf("%-16s %8.2f us a sheet, %.0f sheets a second\n", all[i].name, 1e6 * all[i].best / SHEETS,
                SHEETS / all[i].best);
-    printf("%d sheets, the best of %d turns: library / faster C, ratio %.2f (at most 1.30)\n", SHEETS, TURNS,
-           all[0].best / fastest(all + 1, compilers));
+    printf("%d sheets, the best of %d turns: library / faster C at -O3 %.2f (goal: below 1.00)\n", SHEETS, TURNS,
+           all[0].best / fastest(readers, compilers));
+    printf("library / adding up the same bytes as words %.2f (goal: at most 4)\n", all[0].best / fastest(sums, compilers));
     return 0;
 }

@@ -1,21 +1,28 @@
 """The sheet's reader and writer against a second reader and writer, written from paper 01.
 
 It hands sheets and sets by the thousand to the library's calls and compares the refusal, every number or byte that was lent,
-and the length. An argument is taken as the seed, so that a run can be repeated.
+and the length. Sheets are damaged at every place in a word of eight bytes, and lent so that reading past their end is seen. An
+argument is taken as the seed, so that a run can be repeated.
 """
+import collections
+import ctypes
+import faulthandler
+import mmap
 import random
+import re
 import sys
 import time
 
 import face
 from face import GREATEST, LEAST, SET_LENGTH
 from grid import flat
-from reader import KEYS, LIMITS, LONGEST, SHORT, SIZES, TORN, YEARS, Set, in_limits, lines_of, numbers_of, read, sheet_of
-from reader import text, write
+from reader import ACCEPTED, KEYS, LIMITS, LONGEST, OFF_SCALE, SHORT, SIZES, TORN, YEARS
+from reader import Set, in_limits, lines_of, numbers_of, read, sheet_of, text, write
 
 FILL = b"\xaa"
 LARGEST_ROOM, LARGEST_SHEET = 16_384, 70_000
 UNTOLD = 2**64 - 2
+NO_ACCESS = 0
 
 # ---- sets
 
@@ -189,6 +196,140 @@ def sheets(draw):
         yield f"random set {i}", sheet_of(random_set(draw))
 
 
+# ---- sheets damaged at the places of words of eight bytes
+
+WORD = 8
+AT_END, BEHIND = 3 * WORD, 2 * WORD
+MOST_DIGITS = 15
+NEAR = b"/:09-=\n\r \x00\xff" + bytes(range(0xB0, 0xBA))
+LINE = re.compile(rb"(?P<name>[A-Za-z]+)(?:\.(?P<age>[0-9]+))?=(?P<minus>-?)(?P<number>[0-9]+)\n")
+
+
+def number_of(draw, digits):
+    return draw.randrange(10 ** (digits - 1), 10**digits)
+
+
+def kinds_of(sheet):
+    """The places of each kind of byte, in all lines but the first two."""
+    out = collections.defaultdict(list)
+    for line in LINE.finditer(sheet):
+        name, age, number = line.span("name"), line.span("age"), line.span("number")
+        out["first byte of a key"].append(name[0])
+        out["last byte of a name"].append(name[1] - 1)
+        if line["age"]:
+            out["dot"].append(name[1])
+            out["first digit of an age"].append(age[0])
+            out["last digit of an age"].append(age[1] - 1)
+        out["equals sign"].append(line.start("minus") - 1)
+        if line["minus"]:
+            out["minus"].append(line.start("minus"))
+        out["first digit"].append(number[0])
+        out["middle digit"].append(sum(number) // 2)
+        out["last digit"].append(number[1] - 1)
+        out["line feed"].append(number[1])
+    return out
+
+
+def damaged(draw, name, sheet, i, others=NEAR):
+    """A byte changed to others and to itself with its high bit, taken out, and two bytes put in before it."""
+    head, byte, tail = sheet[:i], sheet[i], sheet[i + 1:]
+    for other in {*others, byte | 0x80} - {byte}:
+        yield f"{name}: byte {i} is {other}", head + bytes([other]) + tail
+    yield f"{name}: byte {i} taken out", head + tail
+    for more in draw.sample(NEAR + b"5.", 2):
+        yield f"{name}: {more} put in at byte {i}", head + bytes([more]) + sheet[i:]
+
+
+def places_tried(draw, sheet):
+    """Each kind of byte at each place in a word, and all bytes of the first two lines."""
+    for kind, places in kinds_of(sheet).items():
+        for place in range(WORD):
+            for i in draw.sample([i for i in places if i % WORD == place], 3):
+                yield from damaged(draw, f"{kind} at {place}", sheet, i)
+    for i in range(sheet.index(b"a=")):
+        yield from damaged(draw, "first two lines", sheet, i)
+
+
+def ends_tried(draw, which):
+    """The last 24 bytes, with all values at the last 8, of sheets of each length modulo 8, by the digits of the last number."""
+    for digits in range(1, WORD + 1):
+        sheet = sheet_of(changed(which, "be.90", min(number_of(draw, digits), SIZES["be"])))
+        for far in range(1, AT_END + 1):
+            others = range(256) if far <= WORD else NEAR
+            yield from damaged(draw, f"{digits} digits, {far} before the end", sheet, len(sheet) - far, others)
+
+
+def digits_tried(draw, which, key):
+    """Each digit of numbers of 1 to 16 digits, and the line feed after them."""
+    for digits in range(1, MOST_DIGITS + 2):
+        sheet = sheet_of(changed(which, key, draw.choice((-1, 1)) * number_of(draw, digits)))
+        end = sheet.index(b"\n", sheet.index(f"\n{key}=".encode()) + 1)
+        for i in range(end - digits, end + 1):
+            yield from damaged(draw, f"{key} of {digits} digits", sheet, i)
+
+
+def damaged_sheets(draw):
+    which = random_set(draw)
+    yield from places_tried(draw, sheet_of(which))
+    yield from ends_tried(draw, which)
+    for key in (draw.choice(KEYS[:-4]), "be.90"):
+        yield from digits_tried(draw, which, key)
+
+
+def of_each_length(draw):
+    """A set for each length of a sheet modulo 8, by the digits of k."""
+    for rest in range(WORD):
+        which = changed(random_set(draw), "k", 1)
+        digits = 1 + (rest - len(sheet_of(which))) % WORD
+        yield changed(which, "k", number_of(draw, digits))
+
+
+def counts_tried(draw, which, key):
+    """Numbers of 1 to 17 digits, with and without a minus and a leading zero, and their refusals."""
+    lines, i = lines_of(which), KEYS.index(key) + 2
+    for digits in range(1, MOST_DIGITS + 3):
+        for size in (10 ** (digits - 1), 10**digits - 1, number_of(draw, digits)):
+            for v in (size, -size):
+                out = changed(which, key, v)
+                good = ACCEPTED if in_limits(out.numbers) else OFF_SCALE
+                yield f"{key}={v}", sheet_of(out), TORN if digits > MOST_DIGITS else good
+        for value in (b"0%d" % size, b"-0%d" % size, b"0" * (digits + 1), b"-" + b"0" * digits):
+            line = key.encode() + b"=" + value
+            yield f"{line}", text(lines[:i] + [line] + lines[i + 1:]), TORN
+
+
+def known_sheets(draw):
+    """Sheets of each length modulo 8, cut short and with more behind them, and numbers of any count of digits, with their
+    refusals."""
+    for which in of_each_length(draw):
+        sheet = sheet_of(which)
+        name = f"{len(sheet)} bytes"
+        yield name, sheet, ACCEPTED
+        for n in range(1, AT_END + 1):
+            yield f"{name}, {n} of them cut", sheet[:-n], TORN
+        for n in range(1, BEHIND + 1):
+            for more in (b"\n" * n, b"0" * n, bytes(n), b"\xff" * n, (b"be.91=0\n" * 2)[:n], draw.randbytes(n)):
+                yield f"{name} and {more}", sheet + more, TORN
+        yield from counts_tried(draw, which, "be.90")
+    for key in KEYS[:8] + draw.sample(KEYS[8:-4], 8):
+        yield from counts_tried(draw, which, key)
+
+
+def parts(draw):
+    """Inputs with the bytes that lie behind them: sheets of each length modulo 8, their last bytes cut off or lying behind, and
+    starts of a sheet."""
+    for which in of_each_length(draw):
+        sheet = sheet_of(which)
+        for n in range(AT_END + 1):
+            data, rest = sheet[: len(sheet) - n], sheet[len(sheet) - n:]
+            yield f"{len(data)} bytes of {len(sheet)}", data, b""
+            yield f"{len(data)} bytes of {len(sheet)}, and the rest behind", data, rest
+        for behind in (b"0" * BEHIND, b"\n" * BEHIND, sheet):
+            yield f"{len(sheet)} bytes, and {behind[:BEHIND]} behind", sheet, behind
+    for n in range(100):
+        yield f"{n} bytes", sheet[:n], b""
+
+
 # ---- the sets of the test
 
 def raw_sets(draw):
@@ -236,14 +377,42 @@ def numbers_in(which):
     return ["MF".index(which.sex), *which.numbers]
 
 
-def compare_reading(count, library, name, data, places):
+def compare_reading(count, library, name, data, places, meant=None):
     no, which = read(data)
+    if meant is not None:
+        count.take(no == meant, f"{name}: the second reader gives {no} and not {meant}")
     before = list(range(-3, places - 3))
     if not no and places < SET_LENGTH:
         no = SHORT
     after = before if no else numbers_in(which) + before[SET_LENGTH:]
     got = face.read(library, data, before)
     count.take(got == (no, after), f"{name}, {places} places: read as {got[0]} and not {no}, or other numbers")
+
+
+class Fence:
+    """Memory with a page behind it that must not be read: whoever does ends the run."""
+
+    def __init__(self, size):
+        self.pages = mmap.mmap(-1, size + mmap.PAGESIZE)
+        self.start, self.size = ctypes.addressof(ctypes.c_char.from_buffer(self.pages)), size
+        page = ctypes.c_void_p(self.start + size), ctypes.c_size_t(mmap.PAGESIZE)
+        self.stands = ctypes.CDLL(None).mprotect(*page, NO_ACCESS) == 0
+
+    def put(self, data):
+        """The address of bytes that end where the page begins."""
+        at = self.size - len(data)
+        self.pages[at:self.size] = data
+        return self.start + at
+
+
+def compare_fenced(count, library, fence, name, data, behind):
+    no, which = read(data)
+    before = list(range(SET_LENGTH))
+    after = before if no else numbers_in(which)
+    values = face.held("q", before)
+    address = ctypes.c_char_p(fence.put(data + behind))
+    got = library.kulfizan_read(address, len(data), values, SET_LENGTH), face.kept(values, before)
+    count.take(got == (no, after), f"{name}: read as {got[0]} and not {no}, or other numbers")
 
 
 def compare_writing(count, library, name, which, room):
@@ -270,6 +439,15 @@ def main():
                 compare_reading(count, module.LIBRARY, name, data, places)
             which = read(data)[1]
             compare_writing(count, module.LIBRARY, name, which, any_room(draw, which))
+        for name, data in damaged_sheets(draw):
+            compare_reading(count, module.LIBRARY, name, data, SET_LENGTH)
+        for name, data, no in known_sheets(draw):
+            compare_reading(count, module.LIBRARY, name, data, SET_LENGTH, no)
+        faulthandler.enable()
+        fence = Fence(2 * LARGEST_ROOM)
+        count.take(fence.stands, "no memory that must not be read")
+        for name, data, behind in parts(draw):
+            compare_fenced(count, module.LIBRARY, fence, name, data, behind)
         for name, which, room in raw_sets(draw):
             compare_writing(count, module.LIBRARY, name, which, room)
         for name, numbers in no_sets(draw):

@@ -1,46 +1,41 @@
--- The text of an age below 100: its two digits, from the place where the text begins.
-use mathlib.Core.Path.{_≡_, refl}
-use Prim.Native.Nat.{ℕ, _+_, _-_, _/_, _%_, _≤_, _<_}
+-- The text of an age below 100: one digit or two; and the head of an age's line, a name and then that text with `=`.
+use mathlib.Core.Path.{_≡_, sym, ap, ap₂, _∙_}
+use Prim.Native.Nat.{ℕ, _+_, _/_, _%_, _≤_, _<_}
 use native.Mathlib.Omega.{arith}
-use mathlib.Core.Bool.{Bool, true, false}
-use mathlib.Core.List.{List, [], _∷_}
-use borrow.Author.Tests.{lt-ltb, le-ltb, ltb-true, ltb-false}
-use lib.Dec.{ltb}
-use lib.ListN.{take, drop}
+use mathlib.Core.List.{List, [], _∷_, _++_, append-assoc}
+use lib.ListN.{length, length-append}
+use Rattle.words.specs.declared.Short.{Short}
+use Rattle.words.specs.ShortText.{Sized, Holds, Joins, textOf}
+use Rattle.words.specs.ShortTextLaws.{holds-joins, holds-sized}
+use Rattle.tokens.specs.Text.{bytesOf}
 use Rattle.tokens.specs.Number.{zeroDigit, unsignedText}
-use Rattle.tokens.specs.DecimalLaws.{decimal-last, decimal-more, text-small}
-use Rattle.sheet_ages.specs.Ages.{textStart}
+use Rattle.tokens.specs.DecimalLaws.{by-size, decimal-last, decimal-more, text-small}
+use Rattle.sheet_lines.specs.Lines.{Heads}
 
--- one digit, and two
-pub start-one : (x : ℕ) → x < 10 → textStart x ≡ 1
-unfolding textStart
-start-one x h = rw (lt-ltb x 10 h)
-
-pub start-two : (x : ℕ) → 10 ≤ x → textStart x ≡ 0
-unfolding textStart
-start-two x h = rw (le-ltb x 10 h)
-
-two-digits : (x : ℕ) → 10 ≤ x → x < 100 → unsignedText x ≡ (zeroDigit + x / 10) ∷ (zeroDigit + x % 10) ∷ []
+pub two-digits : (x : ℕ) → 10 ≤ x → x < 100 → unsignedText x ≡ (zeroDigit + x / 10) ∷ (zeroDigit + x % 10) ∷ []
 unfolding unsignedText
 two-digits x h k = rw (decimal-more 14 x h, decimal-last 13 (x / 10) (omega arith))
 
--- it begins within the digits
-pub start-most : (x : ℕ) → textStart x ≤ 1
-start-most x = go (ltb x 10) refl
-  where
-    go : (b : Bool) → ltb x 10 ≡ b → textStart x ≤ 1
-    go true e = rw (start-one x (ltb-true x 10 e)) (omega arith)
-    go false e = rw (start-two x (ltb-false x 10 e)) (omega arith)
+-- with its `=` it has two bytes or three
+pub age-length : (x : ℕ) → x < 100
+    → (0 < length (unsignedText x ++ bytesOf "=")) × (length (unsignedText x ++ bytesOf "=") ≤ 3)
+unfolding bytesOf
+age-length x k = by-size x (λ h. rw (text-small x h) (omega arith)) (λ h. rw (two-digits x h k) (omega arith))
 
-abbrev twoDigits : ℕ → List ℕ
-twoDigits x = (zeroDigit + x / 10) ∷ (zeroDigit + x % 10) ∷ []
+-- a name of at most five bytes and then the age: the two fit into a word, and are the head of a line
+module _ (x : ℕ) (k : x < 100) {age : Short} (h : Holds age (unsignedText x ++ bytesOf "=")) where
+  pub age-joins : {name : Short} {n : List ℕ} → Holds name n → length n ≤ 5 → Joins name age
+  age-joins j l = let m = age-length x k in holds-joins j h (m .0) (omega arith)
 
-pub age-text : (x : ℕ) → x < 100 → take (2 - textStart x) (drop (textStart x) (twoDigits x)) ≡ unsignedText x
-age-text x h = go (ltb x 10) refl
-  where
-    go : (b : Bool) → ltb x 10 ≡ b → take (2 - textStart x) (drop (textStart x) (twoDigits x)) ≡ unsignedText x
-    go true e =
-        let k = ltb-true x 10 e in
-        let m : x % 10 ≡ x = omega arith in
-        rw (start-one x k, text-small x k, m)
-    go false e = let k = ltb-false x 10 e in rw (start-two x k, two-digits x k h)
+  module _ {name r : Short} {n : List ℕ} (i : Holds name n) (j : Holds r (textOf name ++ textOf age)) where
+    pub age-sized : Sized r
+    age-sized =
+        let m = age-length x k in
+        holds-sized j
+        (omega (arith, length-append (textOf name) (textOf age), ap length (h .holds)))
+
+    pub age-head : Heads r (n ++ unsignedText x)
+    age-head =
+        record {
+          text = j .holds ∙ ap₂ _++_ (i .holds) (h .holds) ∙ sym (append-assoc n (unsignedText x) (bytesOf "="));
+        }

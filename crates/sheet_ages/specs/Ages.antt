@@ -3,7 +3,6 @@
 use Prim.Native.Nat.{ℕ, _+_, _*_}
 use mathlib.Core.Bool.{cond}
 use mathlib.Core.List.{List, [], _∷_}
-use lib.Dec.{ltb}
 use lib.IntN.{ℤ, pos}
 use lib.ListN.{getD, drop}
 use Rattle.tokens.specs.Text.{Parse, torn, taken}
@@ -37,7 +36,3 @@ withRuns p vs =
 -- the ages' lines, into the set's runs
 unfoldable pub fromAges : Params → List ℕ → Parse Params
 fromAges p bs = elim (readLines (forAges ageKeys ages) bs) [ torn ↦ torn | taken vs rest ↦ taken (withRuns p vs) rest ]
-
--- where an age's text begins in its two digits: the tens are left out where they are 0
-unfoldable pub textStart : ℕ → ℕ
-textStart x = cond (ltb x 10) 1 0

@@ -1,13 +1,18 @@
 // Reads the lines of the ages of a parameter sheet into the runs of a set.
 ghost use mathlib.Core.Path.{_≡_};
+ghost use mathlib.Core.List.{_++_};
 ghost use Prim.Native.Nat.{_<_};
 ghost use lib.ListN.{drop};
+ghost use Rattle.words.specs.ShortText.{Holds};
+ghost use Rattle.tokens.specs.Text.{bytesOf};
+ghost use Rattle.tokens.specs.Number.{unsignedText};
 ghost use Rattle.params.specs.Set.{ages, Whole};
 ghost use Rattle.sheet.specs.Sheet.{readLines, ageKeys};
 ghost use Rattle.sheet_lines.specs.Lines.{fourRead};
-ghost use Rattle.sheet_ages.specs.Ages.{textStart, setRead, fromAges};
+ghost use Rattle.sheet_ages.specs.Ages.{setRead, fromAges};
 use params::Params;
 use sheet_lines::FourRead;
+use words::Short;
 
 // A set that was read, and the place that follows its lines, where nothing was torn.
 pub struct SetRead {
@@ -16,14 +21,16 @@ pub struct SetRead {
     pub set: Params,
 }
 
-// Where an age's text begins in its two digits.
-fn text_start(x: usize) -> usize
-    ensures { λ r. ⌜ r ≡ textStart x ⌝ }
+// The text of an age and the `=` after it.
+fn age_text(x: usize) -> Short
+    requires { ⌜ x < ages ⌝ }
+    ensures { λ r. ⌜ Holds r (unsignedText x ++ bytesOf "=") ⌝ }
 {
+    let units = b'0' + (x % 10) as u8;
     if x < 10 {
-        return 1;
+        return words::two(units, b'=');
     }
-    0
+    words::three(b'0' + (x / 10) as u8, units, b'=')
 }
 
 // The four lines of age x at a place.
@@ -31,9 +38,12 @@ fn age_at(bytes: &[u8], at: usize, x: usize) -> FourRead
     requires { ⌜ x < ages ⌝ }
     ensures { λ r. ⌜ fourRead (now (bytes .entry)) r ≡ readLines (ageKeys x) (drop at (now (bytes .entry))) ⌝ }
 {
-    let digits = [b'0' + (x / 10) as u8, b'0' + (x % 10) as u8];
-    let start = text_start(x);
-    sheet_lines::four_at(bytes, at, b"A.", b"B.", b"al.", b"be.", &digits[start..])
+    let age = age_text(x);
+    let level = words::joined(words::two(b'A', b'.'), age);
+    let slope = words::joined(words::two(b'B', b'.'), age);
+    let alpha = words::joined(words::three(b'a', b'l', b'.'), age);
+    let beta = words::joined(words::three(b'b', b'e', b'.'), age);
+    sheet_lines::four_at(bytes, at, level, slope, alpha, beta)
 }
 
 // The lines of ages 0 to 90 at a place, into the runs of a set.

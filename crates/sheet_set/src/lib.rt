@@ -16,11 +16,13 @@ pub fn set_at(bytes: &[u8], sex: Sex) -> SetRead
     let FourRead::Four(next, a, theta, period, kappa) = sheet_lines::four_at(
         bytes,
         sheet::HEAD,
-        b"a",
-        b"theta",
-        b"K",
-        b"k",
-        b"",
+        words::two(b'a', b'='),
+        words::joined(
+            words::three(b't', b'h', b'e'),
+            words::three(b't', b'a', b'='),
+        ),
+        words::two(b'K', b'='),
+        words::two(b'k', b'='),
     ) else {
         return SetRead {
             ok: false,

@@ -4,7 +4,9 @@ use Prim.Native.Nat.{ℕ, zero, suc, _+_, _-_, _^_, _≤_, _<_, min}
 use native.Mathlib.Nat.{add-zero}
 use native.Mathlib.Numerals.{add-one}
 use native.Mathlib.Omega.{arith}
-use mathlib.Core.Bool.{true, false}
+use mathlib.Core.Bool.{Bool, true, false}
+use borrow.Author.Tests.{eqb-true, eqb-false, eq-eqb, ne-eqb}
+use lib.Dec.{eqb}
 use mathlib.Core.List.{List}
 use lib.IntN.{pos, negℤ, _-ℤ_, +ℤ-idl}
 use lib.ListN.{length, getD, drop, length-take, length-drop, List·getD-append, drop-of-length-le}
@@ -21,7 +23,7 @@ use Rattle.tokens.specs.Text.{Parse, torn, taken}
 use Rattle.tokens.specs.Number.{minusSign, zeroDigit, mostDigits, digits, afterDigits, valueFrom, value, wellFormed}
 use Rattle.tokens.specs.Number.{readUnsigned, negated, positive, readNumber}
 use Rattle.tokens.specs.Places.{placed, numberAt}
-use Rattle.tokens.specs.Unsigned.{leading, DigitsRead, placedUnsigned, unsignedAt}
+use Rattle.tokens.specs.Unsigned.{leading, DigitsRead, placedUnsigned, unsignedAt, minuses}
 use Rattle.tokens.specs.DigitLaws.{digits-split, digits-length, ill-none, ill-long, ill-zero, well-one, well-more}
 use Rattle.tokens.specs.NumberLaws.{unsigned-taken, read-minus, read-plain}
 
@@ -151,6 +153,22 @@ pub number-past : (bytes : List ℕ) (at : ℕ) → length bytes ≤ at → numb
 unfolding numberAt readNumber
 number-past bytes at h = rw (drop-of-length-le bytes h)
 
+-- a minus is counted, or no minus
+pub minus-one : (b : ℕ) → b ≡ minusSign → minuses b ≡ 1
+unfolding minuses
+minus-one b e = rw (eq-eqb b minusSign e)
+
+pub minus-none : (b : ℕ) → (b ≡ minusSign → ⊥) → minuses b ≡ 0
+unfolding minuses
+minus-none b h = rw (ne-eqb b minusSign h)
+
+pub minus-most : (b : ℕ) → minuses b ≤ 1
+minus-most b = go (eqb b minusSign) refl
+  where
+    go : (x : Bool) → eqb b minusSign ≡ x → minuses b ≤ 1
+    go true e = rw (minus-one b (eqb-true b minusSign e)) (omega arith)
+    go false e = rw (minus-none b (eqb-false b minusSign e)) (omega arith)
+
 module _ (bytes : List ℕ) (at : ℕ) {r : UnsignedRead} (h : at < length bytes) where
   -- after a minus, with what was read behind it
   module _ (e : getD bytes at 0 ≡ minusSign) (u : r ≡ unsignedAt bytes (at + 1)) where
@@ -186,3 +204,29 @@ module _ (bytes : List ℕ) (at : ℕ) {r : UnsignedRead} (h : at < length bytes
     unfolding unsignedAt
     plain-number {v} w =
         rw (positive-back v (unsigned-small bytes at u w)) (plain-is ∙ placed-plain _ _ (sym u ∙ w))
+
+-- the sign and then what was read behind it, by the count of minuses
+module _ (bytes : List ℕ) (at : ℕ) {m : ℕ} {r : UnsignedRead} (h : at < length bytes) (c : m ≡ minuses (getD bytes at 0))
+    (u : r ≡ unsignedAt bytes (at + m)) where
+  by-sign : {P : Type 0} → (getD bytes at 0 ≡ minusSign → m ≡ 1 → P) → ((getD bytes at 0 ≡ minusSign → ⊥) → m ≡ 0 → P) → P
+  by-sign {P} f g = go (eqb (getD bytes at 0) minusSign) refl
+    where
+      go : (x : Bool) → eqb (getD bytes at 0) minusSign ≡ x → P
+      go true e = let k = eqb-true _ _ e in f k (c ∙ minus-one _ k)
+      go false e = let k = eqb-false _ _ e in g k (c ∙ minus-none _ k)
+
+  pub sign-torn : r ≡ NoUnsigned → numberAt bytes at ≡ Torn
+  sign-torn w =
+      by-sign (λ e k. minus-torn bytes at h e (rw k at u) w)
+      (λ e k. plain-torn bytes at h e (rw (k, add-zero at) at u) w)
+
+  module _ {v next : ℕ} (w : r ≡ Unsigned v next) where
+    pub sign-none : m ≡ 0 → numberAt bytes at ≡ Number (toZ w64 v) next
+    sign-none z =
+        by-sign (λ e k. absurd (omega arith)) (λ e k. plain-number bytes at h e (rw (k, add-zero at) at u) w)
+
+    pub sign-zero : (m ≡ 0 → ⊥) → v ≡ 0 → numberAt bytes at ≡ Torn
+    sign-zero n z = by-sign (λ e k. minus-zero bytes at h e (rw k at u) w z) (λ e k. absurd (n k))
+
+    pub sign-minus : (m ≡ 0 → ⊥) → (v ≡ 0 → ⊥) → numberAt bytes at ≡ Number (toZ w64 (ofZ w64 (pos 0 -ℤ toZ w64 v))) next
+    sign-minus n z = by-sign (λ e k. minus-number bytes at h e (rw k at u) w z) (λ e k. absurd (n k))

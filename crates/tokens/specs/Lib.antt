@@ -12,3 +12,4 @@ pub mod DigitLaws
 pub mod DecimalLaws
 pub mod NumberLaws
 pub mod ReadLaws
+pub mod RunLaws

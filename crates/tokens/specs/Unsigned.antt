@@ -1,13 +1,15 @@
 -- What the code reads of a number in two steps: its digits, and the number without its sign.
 use mathlib.Core.Path.{_≡_}
 use Prim.Native.Nat.{ℕ, suc, _-_}
+use mathlib.Core.Bool.{cond}
 use mathlib.Core.List.{List}
+use lib.Dec.{eqb}
 use lib.ListN.{length, take, drop}
 use Rattle.tokens.specs.declared.Digits.{Digits}
 use Rattle.tokens.specs.declared.UnsignedRead.{UnsignedRead}
 use Rattle.tokens.specs.declared.UnsignedRead.the-variants.{Torn, Unsigned}
 use Rattle.tokens.specs.Text.{Parse, torn, taken}
-use Rattle.tokens.specs.Number.{mostDigits, digits, value, readUnsigned}
+use Rattle.tokens.specs.Number.{minusSign, mostDigits, digits, value, readUnsigned}
 
 -- at most k digits at the front
 unfoldable pub leading : ℕ → List ℕ → List ℕ
@@ -26,3 +28,7 @@ placedUnsigned n (taken v rest) = Unsigned v (n - length rest)
 -- the number without its sign at a place
 unfoldable pub unsignedAt : List ℕ → ℕ → UnsignedRead
 unsignedAt bytes at = placedUnsigned (length bytes) (readUnsigned (drop at bytes))
+
+-- how many minuses a byte is
+unfoldable pub minuses : ℕ → ℕ
+minuses b = cond (eqb b minusSign) 1 0

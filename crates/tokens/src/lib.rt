@@ -1,8 +1,11 @@
-// Reading the texts, and the numbers without their sign, of which a sheet and a query line are made.
+// Reading the texts of which a sheet and a query line are made, a word at a time and byte by byte, and digits byte by byte.
 ghost use mathlib.Core.Path.{_≡_};
+ghost use mathlib.Core.List.{[], _∷_};
 ghost use Prim.Native.Nat.{_-_};
 ghost use Rattle.tokens.specs.Places.{textAt};
-ghost use Rattle.tokens.specs.Unsigned.{DigitsRead, unsignedAt};
+ghost use Rattle.tokens.specs.Unsigned.{DigitsRead};
+ghost use Rattle.words.specs.ShortText.{Sized, textOf};
+use words::Short;
 
 // A number that was read, with the place after it.
 pub enum NumberRead {
@@ -17,13 +20,13 @@ pub enum UnsignedRead {
 }
 
 // Digits that were read: how many, and the number that they stand for.
-struct Digits {
-    count: usize,
-    value: u64,
+pub struct Digits {
+    pub count: usize,
+    pub value: u64,
 }
 
 // How many bytes there are from a place on.
-fn room(len: usize, at: usize) -> usize
+pub fn room(len: usize, at: usize) -> usize
     ensures { λ r. ⌜ r ≡ len - at ⌝ }
 {
     if len < at {
@@ -32,8 +35,8 @@ fn room(len: usize, at: usize) -> usize
     len - at
 }
 
-// Whether the bytes from a place on begin with the text.
-pub fn text_at(bytes: &[u8], at: usize, text: &[u8]) -> bool
+// Whether the bytes from a place on begin with the text, byte by byte.
+fn text_walk(bytes: &[u8], at: usize, text: &[u8]) -> bool
     ensures { λ r. ⌜ r ≡ textAt (now (bytes .entry)) at (now (text .entry)) ⌝ }
 {
     if room(bytes.len(), at) < text.len() {
@@ -49,8 +52,49 @@ pub fn text_at(bytes: &[u8], at: usize, text: &[u8]) -> bool
     true
 }
 
-// The digits from a place on, at most 16: one more than a number has, so that one too many is seen.
-fn digits_at(bytes: &[u8], at: usize) -> Digits
+// Whether the bytes from a place on begin with the text: a word at a time, and byte by byte what is left of it.
+pub fn text_at(bytes: &[u8], at: usize, text: &[u8]) -> bool
+    ensures { λ r. ⌜ r ≡ textAt (now (bytes .entry)) at (now (text .entry)) ⌝ }
+{
+    if room(bytes.len(), at) < text.len() {
+        return false;
+    }
+    let mut done = 0;
+    while words::BYTES <= text.len() - done {
+        let here = words::word_at(bytes, at + done);
+        if !words::same_bytes(here, words::word_at(text, done), words::BYTES) {
+            return false;
+        }
+        done += words::BYTES;
+    }
+    text_walk(bytes, at + done, &text[done..])
+}
+
+// Whether the bytes from a place on begin with a short text: by one word, or byte by byte where no whole word is left.
+pub fn short_at(bytes: &[u8], at: usize, text: Short) -> bool
+    requires { ⌜ Sized text ⌝ }
+    ensures { λ r. ⌜ r ≡ textAt (now (bytes .entry)) at (textOf text) ⌝ }
+{
+    if room(bytes.len(), at) < words::BYTES {
+        let apart = words::bytes_of(text.word);
+        let len = text.len;
+        return text_walk(bytes, at, &apart[..len]);
+    }
+    words::same_bytes(words::word_at(bytes, at), text.word, text.len)
+}
+
+// Whether a byte stands at a place.
+pub fn byte_at(bytes: &[u8], at: usize, byte: u8) -> bool
+    ensures { λ r. ⌜ r ≡ textAt (now (bytes .entry)) at (byte ∷ []) ⌝ }
+{
+    if bytes.len() <= at {
+        return false;
+    }
+    bytes[at] == byte
+}
+
+// The digits from a place on, byte by byte, at most 16: one more than a number has, so that one too many is seen.
+pub fn digits_walk(bytes: &[u8], at: usize) -> Digits
     ensures { λ r. ⌜ DigitsRead (now (bytes .entry)) at r ⌝ }
 {
     let mut most = room(bytes.len(), at);
@@ -68,18 +112,4 @@ fn digits_at(bytes: &[u8], at: usize) -> Digits
         count += 1;
     }
     Digits { count, value }
-}
-
-// The number without a sign at a place.
-pub fn unsigned_at(bytes: &[u8], at: usize) -> UnsignedRead
-    ensures { λ r. ⌜ r ≡ unsignedAt (now (bytes .entry)) at ⌝ }
-{
-    let run = digits_at(bytes, at);
-    if run.count == 0 || 15 < run.count {
-        return UnsignedRead::Torn;
-    }
-    if 1 < run.count && bytes[at] == b'0' {
-        return UnsignedRead::Torn;
-    }
-    UnsignedRead::Unsigned(run.value, at + run.count)
 }

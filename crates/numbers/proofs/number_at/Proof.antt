@@ -1,111 +1,96 @@
 -- `number_at` meets its contract: past the end nothing stands, after a minus the number without its sign is negated and
 -- 0 is torn, else it is taken as it is; it is below 10¹⁵, so nothing overflows.
-use borrow.Author.Needs.{needs}
 use mathlib.Core.Path.{sym}
+use Prim.Native.Nat.{_^_, _<_}
 use native.Mathlib.Omega.{arith}
-use Rattle.tokens.proofs.NumberSteps.{number-past, minus-torn, minus-zero, minus-number, plain-torn, plain-number}
+use borrow.Author.Needs.{needs}
+use lib.ListN.{getD}
+use Rattle.tokens.specs.Number.{mostDigits}
+use Rattle.tokens.proofs.NumberSteps.{number-past, minus-most, sign-torn, sign-none, sign-zero, sign-minus}
 use Rattle.tokens.proofs.NumberSteps.{unsigned-small, positive-fits, minus-fits}
 use Rattle.numbers.proofs.number_at.Statement.{statement}
 use Rattle.numbers.proofs.number_at.Tie as tie
 
+-- the number without its sign that was read
+small : (c : tie.After-value) → c .value .given .0 .0 < 10 ^ mostDigits
+small c =
+    let called = c .before .before in
+    unsigned-small _ _ (called .unsigned-at .ensures) (c .value .given .1)
+
 returns : tie.Need-returns
 returns c = sym (number-past _ _ (omega arith))
 
-shared-slice-read-if2 : tie.Need-shared-slice-read-if2
-shared-slice-read-if2 c = search needs
+minus-at-requires : tie.Need-minus-at-requires
+minus-at-requires c κs = search needs
 
 add-unsigned-at : tie.Need-add-unsigned-at
-add-unsigned-at c = search needs
+add-unsigned-at c =
+    let start = c .before .before .before in
+    omega (arith, c .minus-at .ensures, minus-most (getD (start .args .bytes .now) (start .args .at) 0))
 
 unsigned-at-requires : tie.Need-unsigned-at-requires
 unsigned-at-requires c κs = search needs
 
-enum-told : tie.Need-enum-told
-enum-told c = search needs
-
 enum-known-value : tie.Need-enum-known-value
 enum-known-value c = search needs
 
-cast-t16 : tie.Need-cast-t16
-cast-t16 c =
-    let read = c .before .before in
-    let called = read .before .before in
-    positive-fits _ (unsigned-small _ _ (called .unsigned-at .ensures) (read .value .given .1))
-
-sub-t17 : tie.Need-sub-t17
-sub-t17 c =
-    let read = c .before .before in
-    let called = read .before .before in
-    minus-fits _ (unsigned-small _ _ (called .unsigned-at .ensures) (read .value .given .1))
+enum-told : tie.Need-enum-told
+enum-told c = search needs
 
 returns-2 : tie.Need-returns-2
 returns-2 c =
     let called = c .before .before in
     sym
-    (minus-torn _ _ (omega arith) (called .before .if2 .taken) (called .unsigned-at .ensures) (c .enum-told .given .1))
+    (sign-torn _ _ (omega arith) (called .before .minus-at .ensures) (called .unsigned-at .ensures)
+    (c .enum-told .given .1))
+
+cast-t9 : tie.Need-cast-t9
+cast-t9 c = positive-fits _ (small (c .before .before))
 
 returns-3 : tie.Need-returns-3
 returns-3 c =
     let read = c .before .before in
     let called = read .before .before in
     sym
-    (minus-zero _ _ (omega arith) (called .before .if2 .taken) (called .unsigned-at .ensures) (read .value .given .1)
-    (c .if3 .taken))
+    (sign-none _ _ (omega arith) (called .before .minus-at .ensures) (called .unsigned-at .ensures) (read .value .given .1)
+    (c .if2 .taken))
 
 returns-4 : tie.Need-returns-4
 returns-4 c =
-    let read = c .before .before in
+    let read = c .before .before .before in
     let called = read .before .before in
     sym
-    (minus-number _ _ (omega arith) (called .before .if2 .taken) (called .unsigned-at .ensures) (read .value .given .1)
-    (c .if3 .left))
+    (sign-zero _ _ (omega arith) (called .before .minus-at .ensures) (called .unsigned-at .ensures) (read .value .given .1)
+    (c .before .if2 .left) (c .if3 .taken))
 
-unsigned-at-requires-2 : tie.Need-unsigned-at-requires-2
-unsigned-at-requires-2 c κs = search needs
+cast-t10 : tie.Need-cast-t10
+cast-t10 c = positive-fits _ (small (c .before .before .before))
 
-enum-told-2 : tie.Need-enum-told-2
-enum-told-2 c = search needs
-
-enum-known-value-2 : tie.Need-enum-known-value-2
-enum-known-value-2 c = search needs
-
-cast-t20 : tie.Need-cast-t20
-cast-t20 c =
-    let read = c .before in
-    let called = read .before .before in
-    positive-fits _ (unsigned-small _ _ (called .unsigned-at2 .ensures) (read .value2 .given .1))
+sub-t11 : tie.Need-sub-t11
+sub-t11 c = minus-fits _ (small (c .before .before .before))
 
 returns-5 : tie.Need-returns-5
 returns-5 c =
-    let called = c .before .before in
-    sym
-    (plain-torn _ _ (omega arith) (called .before .if2 .left) (called .unsigned-at2 .ensures) (c .enum-told2 .given .1))
-
-returns-6 : tie.Need-returns-6
-returns-6 c =
-    let read = c .before in
+    let read = c .before .before .before in
     let called = read .before .before in
     sym
-    (plain-number _ _ (omega arith) (called .before .if2 .left) (called .unsigned-at2 .ensures) (read .value2 .given .1))
+    (sign-minus _ _ (omega arith) (called .before .minus-at .ensures) (called .unsigned-at .ensures) (read .value .given .1)
+    (c .before .if2 .left) (c .if3 .left))
 
 pub number-at-spec : {M : Type 1} → statement M
 number-at-spec =
     tie.close
     (tie.spec
     returns
-    shared-slice-read-if2
+    minus-at-requires
     add-unsigned-at
     unsigned-at-requires
-    enum-told
     enum-known-value
-    cast-t16
-    sub-t17
+    enum-told
     returns-2
+    cast-t9
     returns-3
     returns-4
-    unsigned-at-requires-2
-    enum-told-2
-    enum-known-value-2
-    cast-t20
-    returns-5
-    returns-6)
+    cast-t10
+    sub-t11
+    returns-5)

@@ -1,79 +1,92 @@
--- `age_at` meets its contract: the text of an age below 91 is the end of its two digits.
-use Prim.Native.Nat.{_≤_, _<_}
+-- `age_at` meets its contract: each head is a name and then the age, one word of at most six bytes.
+use Prim.Native.Nat.{_<_}
 use native.Mathlib.Omega.{arith}
 use Rattle.tokens.specs.Text.{bytesOf}
 use Rattle.sheet.specs.Sheet.{ageKeys}
-use Rattle.sheet_ages.proofs.AgeText.{start-most, age-text}
+use Rattle.sheet_ages.proofs.AgeText.{age-joins, age-sized, age-head}
 use borrow.Author.Needs.{needs}
 use Rattle.sheet_ages.proofs.age_at.Statement.{statement}
 use Rattle.sheet_ages.proofs.age_at.Tie as tie
 
--- the text begins within the digits
-starts-within : (c : tie.After-text-start) → c .text-start .result ≤ 2
-starts-within c = omega (arith, c .text-start .ensures, start-most (c .before .before .args .x))
+age-text-requires : tie.Need-age-text-requires
+age-text-requires c κs = search needs
 
-cast-t11 : tie.Need-cast-t11
-cast-t11 c = search needs
+-- the age has at most two digits
+below : (c : tie.After-age-text) → c .before .before .args .x < 100
+below c = omega arith
 
-add-t12 : tie.Need-add-t12
-add-t12 c = search needs
+two-requires : tie.Need-two-requires
+two-requires c κs = search needs
 
-cast-t14 : tie.Need-cast-t14
-cast-t14 c = search needs
+joined-requires : tie.Need-joined-requires
+joined-requires c κs =
+    let a = c .before in
+    age-joins _ (below a) (a .age-text .ensures) (c .two .ensures) (omega arith)
 
-add-t15 : tie.Need-add-t15
-add-t15 c = search needs
+two-requires-2 : tie.Need-two-requires-2
+two-requires-2 c κs = search needs
 
-text-start-requires : tie.Need-text-start-requires
-text-start-requires c κs = search needs
+joined-requires-2 : tie.Need-joined-requires-2
+joined-requires-2 c κs =
+    let a = c .before .before .before in
+    age-joins _ (below a) (a .age-text .ensures) (c .two2 .ensures) (omega arith)
 
-slice-aggregate-four-at : tie.Need-slice-aggregate-four-at
-slice-aggregate-four-at c = search needs
+three-requires : tie.Need-three-requires
+three-requires c κs = search needs
 
-slice-aggregate-four-at-2 : tie.Need-slice-aggregate-four-at-2
-slice-aggregate-four-at-2 c = search needs
+joined-requires-3 : tie.Need-joined-requires-3
+joined-requires-3 c κs =
+    let a = c .before .before .before .before .before in
+    age-joins _ (below a) (a .age-text .ensures) (c .three .ensures) (omega arith)
 
-slice-aggregate-four-at-3 : tie.Need-slice-aggregate-four-at-3
-slice-aggregate-four-at-3 c = search needs
+three-requires-2 : tie.Need-three-requires-2
+three-requires-2 c κs = search needs
 
-slice-aggregate-four-at-4 : tie.Need-slice-aggregate-four-at-4
-slice-aggregate-four-at-4 c = search needs
-
-sub-four-at : tie.Need-sub-four-at
-sub-four-at c = starts-within (c .before .before .before .before)
-
-part-four-at-start : tie.Need-part-four-at-start
-part-four-at-start c = starts-within (c .before .before .before .before .before)
-
-part-four-at-end : tie.Need-part-four-at-end
-part-four-at-end c = search needs
+joined-requires-4 : tie.Need-joined-requires-4
+joined-requires-4 c κs =
+    let a = c .before .before .before .before .before .before .before in
+    age-joins _ (below a) (a .age-text .ensures) (c .three2 .ensures) (omega arith)
 
 four-at-requires : tie.Need-four-at-requires
-four-at-requires c κs = search needs
+four-at-requires c κs =
+    let j₃ = c .before .before in
+    let j₂ = j₃ .before .before in
+    let j₁ = j₂ .before .before in
+    let a = j₁ .before .before in
+    let e = a .age-text .ensures in (
+      age-sized _ (below a) e (j₁ .before .two .ensures) (j₁ .joined .ensures),
+      age-sized _ (below a) e (j₂ .before .two2 .ensures) (j₂ .joined2 .ensures),
+      age-sized _ (below a) e (j₃ .before .three .ensures) (j₃ .joined3 .ensures),
+      age-sized _ (below a) e (c .before .three2 .ensures) (c .joined4 .ensures),
+    )
 
 returns : tie.Need-returns
 unfolding ageKeys bytesOf
 returns c =
-    let t = c .before .before .before .before .before .before .before in
-    let x = t .before .before .args .x in
-    let h : x < 100 = omega arith in
-    rw (← age-text x h, ← t .text-start .ensures) (c .four-at .ensures)
+    let j₄ = c .before in
+    let j₃ = j₄ .before .before in
+    let j₂ = j₃ .before .before in
+    let j₁ = j₂ .before .before in
+    let a = j₁ .before .before in
+    let e = a .age-text .ensures in
+    c .four-at .ensures _ _ _ _
+    (age-head _ (below a) e (j₁ .before .two .ensures) (j₁ .joined .ensures))
+    (age-head _ (below a) e (j₂ .before .two2 .ensures) (j₂ .joined2 .ensures))
+    (age-head _ (below a) e (j₃ .before .three .ensures) (j₃ .joined3 .ensures))
+    (age-head _ (below a) e (j₄ .before .three2 .ensures) (j₄ .joined4 .ensures))
 
 pub age-at-spec : {M : Type 1} → statement M
 age-at-spec =
     tie.close
     (tie.spec
-    cast-t11
-    add-t12
-    cast-t14
-    add-t15
-    text-start-requires
-    slice-aggregate-four-at
-    slice-aggregate-four-at-2
-    slice-aggregate-four-at-3
-    slice-aggregate-four-at-4
-    sub-four-at
-    part-four-at-start
-    part-four-at-end
+    age-text-requires
+    two-requires
+    joined-requires
+    two-requires-2
+    joined-requires-2
+    three-requires
+    joined-requires-3
+    three-requires-2
+    joined-requires-4
     four-at-requires
     returns)

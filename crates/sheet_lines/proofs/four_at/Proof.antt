@@ -16,9 +16,9 @@ enum-told : tie.Need-enum-told
 enum-told c = search needs
 
 returns : tie.Need-returns
-returns c =
+returns c k₀ k₁ k₂ k₃ e₀ e₁ e₂ e₃ =
     let l₀ = c .before .before in
-    sym (four-torn₀ _ _ _ _ _ (read-torn _ (l₀ .line-at .ensures) (c .enum-told .given .1)))
+    sym (four-torn₀ _ _ _ _ _ (read-torn _ (l₀ .line-at .ensures k₀ e₀) (c .enum-told .given .1)))
 
 line-at-requires-2 : tie.Need-line-at-requires-2
 line-at-requires-2 c κs = search needs
@@ -30,13 +30,13 @@ enum-told-2 : tie.Need-enum-told-2
 enum-told-2 c = search needs
 
 returns-2 : tie.Need-returns-2
-returns-2 c =
+returns-2 c k₀ k₁ k₂ k₃ e₀ e₁ e₂ e₃ =
     let l₁ = c .before .before in
     let r₀ = l₁ .before .before in
     let l₀ = r₀ .before .before in
     sym
-    (four-torn₁ _ _ _ _ _ (read-taken _ (l₀ .line-at .ensures) (r₀ .v0 .given .1))
-    (read-torn _ (l₁ .line-at2 .ensures) (c .enum-told2 .given .1)))
+    (four-torn₁ _ _ _ _ _ (read-taken _ (l₀ .line-at .ensures k₀ e₀) (r₀ .v0 .given .1))
+    (read-torn _ (l₁ .line-at2 .ensures k₁ e₁) (c .enum-told2 .given .1)))
 
 line-at-requires-3 : tie.Need-line-at-requires-3
 line-at-requires-3 c κs = search needs
@@ -48,16 +48,16 @@ enum-told-3 : tie.Need-enum-told-3
 enum-told-3 c = search needs
 
 returns-3 : tie.Need-returns-3
-returns-3 c =
+returns-3 c k₀ k₁ k₂ k₃ e₀ e₁ e₂ e₃ =
     let l₂ = c .before .before in
     let r₁ = l₂ .before .before in
     let l₁ = r₁ .before .before in
     let r₀ = l₁ .before .before in
     let l₀ = r₀ .before .before in
     sym
-    (four-torn₂ _ _ _ _ _ (read-taken _ (l₀ .line-at .ensures) (r₀ .v0 .given .1))
-    (read-taken _ (l₁ .line-at2 .ensures) (r₁ .v1 .given .1))
-    (read-torn _ (l₂ .line-at3 .ensures) (c .enum-told3 .given .1)))
+    (four-torn₂ _ _ _ _ _ (read-taken _ (l₀ .line-at .ensures k₀ e₀) (r₀ .v0 .given .1))
+    (read-taken _ (l₁ .line-at2 .ensures k₁ e₁) (r₁ .v1 .given .1))
+    (read-torn _ (l₂ .line-at3 .ensures k₂ e₂) (c .enum-told3 .given .1)))
 
 line-at-requires-4 : tie.Need-line-at-requires-4
 line-at-requires-4 c κs = search needs
@@ -69,7 +69,7 @@ enum-told-4 : tie.Need-enum-told-4
 enum-told-4 c = search needs
 
 returns-4 : tie.Need-returns-4
-returns-4 c =
+returns-4 c k₀ k₁ k₂ k₃ e₀ e₁ e₂ e₃ =
     let l₃ = c .before .before in
     let r₂ = l₃ .before .before in
     let l₂ = r₂ .before .before in
@@ -78,13 +78,13 @@ returns-4 c =
     let r₀ = l₁ .before .before in
     let l₀ = r₀ .before .before in
     sym
-    (four-torn₃ _ _ _ _ _ (read-taken _ (l₀ .line-at .ensures) (r₀ .v0 .given .1))
-    (read-taken _ (l₁ .line-at2 .ensures) (r₁ .v1 .given .1))
-    (read-taken _ (l₂ .line-at3 .ensures) (r₂ .v2 .given .1))
-    (read-torn _ (l₃ .line-at4 .ensures) (c .enum-told4 .given .1)))
+    (four-torn₃ _ _ _ _ _ (read-taken _ (l₀ .line-at .ensures k₀ e₀) (r₀ .v0 .given .1))
+    (read-taken _ (l₁ .line-at2 .ensures k₁ e₁) (r₁ .v1 .given .1))
+    (read-taken _ (l₂ .line-at3 .ensures k₂ e₂) (r₂ .v2 .given .1))
+    (read-torn _ (l₃ .line-at4 .ensures k₃ e₃) (c .enum-told4 .given .1)))
 
 returns-5 : tie.Need-returns-5
-returns-5 c =
+returns-5 c k₀ k₁ k₂ k₃ e₀ e₁ e₂ e₃ =
     let r₃ = c .before in
     let l₃ = r₃ .before .before in
     let r₂ = l₃ .before .before in
@@ -100,10 +100,10 @@ returns-5 c =
       held (r₃ .v3 .given .0 .0) (c .known-told4 .given .0 .1),
     )
     (sym
-    (four-taken _ _ _ _ _ (read-taken _ (l₀ .line-at .ensures) (r₀ .v0 .given .1))
-    (read-taken _ (l₁ .line-at2 .ensures) (r₁ .v1 .given .1))
-    (read-taken _ (l₂ .line-at3 .ensures) (r₂ .v2 .given .1))
-    (read-taken _ (l₃ .line-at4 .ensures) (r₃ .v3 .given .1))))
+    (four-taken _ _ _ _ _ (read-taken _ (l₀ .line-at .ensures k₀ e₀) (r₀ .v0 .given .1))
+    (read-taken _ (l₁ .line-at2 .ensures k₁ e₁) (r₁ .v1 .given .1))
+    (read-taken _ (l₂ .line-at3 .ensures k₂ e₂) (r₂ .v2 .given .1))
+    (read-taken _ (l₃ .line-at4 .ensures k₃ e₃) (r₃ .v3 .given .1))))
 
 pub four-at-spec : {M : Type 1} → statement M
 four-at-spec =

@@ -1,30 +1,66 @@
 -- `set_at` meets its contract: the four lines of the series, and then those of the ages.
-use mathlib.Core.Path.{sym, _∙_}
+use mathlib.Core.Path.{_≡_, sym, ap₂, _∙_}
+use native.Mathlib.Omega.{arith}
+use Prim.Native.Nat.{ℕ}
+use mathlib.Core.List.{List, _++_}
+use lib.ListN.{drop}
+use Rattle.words.specs.ShortText.{textOf}
+use Rattle.words.specs.ShortTextLaws.{holds-joins, holds-sized}
 use Rattle.tokens.specs.Text.{bytesOf}
-use Rattle.sheet_set.specs.SetLaws.{series-torn, series-read}
 use Rattle.tokens.specs.ReadLaws.{held}
+use Rattle.sheet.specs.Sheet.{headBytes, readLines}
+use Rattle.sheet_lines.specs.Lines.{fourRead}
 use Rattle.sheet_lines.specs.ResultLaws.{four-torn, four-taken}
+use Rattle.sheet_set.specs.SetLaws.{seriesKeys, series-torn, series-read}
 use borrow.Author.Needs.{needs}
 use Rattle.sheet_set.proofs.set_at.Statement.{statement}
 use Rattle.sheet_set.proofs.set_at.Tie as tie
 
-slice-aggregate-four-at : tie.Need-slice-aggregate-four-at
-slice-aggregate-four-at c = search needs
+two-requires : tie.Need-two-requires
+two-requires c κs = search needs
 
-slice-aggregate-four-at-2 : tie.Need-slice-aggregate-four-at-2
-slice-aggregate-four-at-2 c = search needs
+three-requires : tie.Need-three-requires
+three-requires c κs = search needs
 
-slice-aggregate-four-at-3 : tie.Need-slice-aggregate-four-at-3
-slice-aggregate-four-at-3 c = search needs
+three-requires-2 : tie.Need-three-requires-2
+three-requires-2 c κs = search needs
 
-slice-aggregate-four-at-4 : tie.Need-slice-aggregate-four-at-4
-slice-aggregate-four-at-4 c = search needs
+joined-requires : tie.Need-joined-requires
+joined-requires c κs = holds-joins (c .before .three .ensures) (c .three2 .ensures) (omega arith) (omega arith)
 
-slice-aggregate-four-at-5 : tie.Need-slice-aggregate-four-at-5
-slice-aggregate-four-at-5 c = search needs
+two-requires-2 : tie.Need-two-requires-2
+two-requires-2 c κs = search needs
+
+two-requires-3 : tie.Need-two-requires-3
+two-requires-3 c κs = search needs
+
+-- `theta=`, whose two parts are joined
+theta : (c : tie.After-joined) → textOf (c .joined .result) ≡ bytesOf "theta="
+unfolding bytesOf
+theta c = c .joined .ensures .holds ∙ ap₂ _++_ (c .before .before .three .ensures .holds) (c .before .three2 .ensures .holds)
 
 four-at-requires : tie.Need-four-at-requires
-four-at-requires c κs = search needs
+unfolding bytesOf
+four-at-requires c κs =
+    let j = c .before .before in (
+      holds-sized (j .before .before .before .two .ensures) (omega arith),
+      holds-sized (record { filled = j .joined .ensures .filled; holds = theta j }) (omega arith),
+      holds-sized (c .before .two2 .ensures) (omega arith),
+      holds-sized (c .two3 .ensures) (omega arith),
+    )
+
+-- the lines of the series were read or torn as their keys say
+abbrev bytes : tie.After-four-at → List ℕ
+bytes c = c .before .before .before .before .before .before .before .before .args .bytes .now
+
+series : (c : tie.After-four-at) → fourRead (bytes c) (c .four-at .result) ≡ readLines seriesKeys (drop headBytes (bytes c))
+unfolding bytesOf
+series c =
+    let k = c .before in
+    let j = k .before .before in
+    c .four-at .ensures _ _ _ _ (record { text = j .before .before .before .two .ensures .holds })
+    (record { text = theta j }) (record { text = k .before .two2 .ensures .holds })
+    (record { text = k .two3 .ensures .holds })
 
 enum-known-next : tie.Need-enum-known-next
 enum-known-next c = search needs
@@ -36,19 +72,15 @@ blank-requires : tie.Need-blank-requires
 blank-requires c κs = search needs
 
 returns : tie.Need-returns
-unfolding bytesOf
 returns c =
-    let called = c .before .before .before in
-    sym (series-torn _ _ (four-torn _ (called .four-at .ensures) (c .before .enum-told .given .1)))
+    sym (series-torn _ _ (four-torn _ (series (c .before .before .before)) (c .before .enum-told .given .1)))
 
 ages-at-requires : tie.Need-ages-at-requires
 ages-at-requires c κs = search needs
 
 returns-2 : tie.Need-returns-2
-unfolding bytesOf
 returns-2 c =
     let read = c .before .before in
-    let called = read .before .before in
     let vs = read .next .given .0 .1 in
     let told = c .before .known-told .given .1 in
     c .ages-at .ensures
@@ -60,17 +92,18 @@ returns-2 c =
       held (vs .1 .1 .0) (told .1 .1 .0 .1),
       held (vs .1 .1 .1 .0) (told .1 .1 .1 .0 .1),
     )
-    (four-taken _ (called .four-at .ensures) (read .next .given .1))))
+    (four-taken _ (series (read .before .before)) (read .next .given .1))))
 
 pub set-at-spec : {M : Type 1} → statement M
 set-at-spec =
     tie.close
     (tie.spec
-    slice-aggregate-four-at
-    slice-aggregate-four-at-2
-    slice-aggregate-four-at-3
-    slice-aggregate-four-at-4
-    slice-aggregate-four-at-5
+    two-requires
+    three-requires
+    three-requires-2
+    joined-requires
+    two-requires-2
+    two-requires-3
     four-at-requires
     enum-known-next
     enum-told

@@ -1,20 +1,25 @@
 -- `text_at` meets its contract. The loop's invariant: the test of the whole text is the test of what is left of it. The
 -- measure is what is left of the text.
-use mathlib.Core.Path.{_≡_, sym, _∙_}
-use Prim.Native.Nat.{_+_, _-_, _≤_}
+use mathlib.Core.Path.{_≡_, sym, ap, _∙_}
+use Prim.Native.Nat.{ℕ, _+_, _-_, _≤_}
 use native.Mathlib.Omega.{arith}
+use mathlib.Core.List.{List}
 use borrow.Author.Needs.{needs}
-use lib.ListN.{length, drop}
+use borrow.Author.Tests.{not-true, not-false}
+use lib.ListN.{length, drop, length-drop}
+use lib.Seq.{take-all}
+use Rattle.words.specs.Word.{wordBytes}
 use Rattle.tokens.specs.Places.{textAt}
-use Rattle.tokens.proofs.TextSteps.{text-start, text-short, text-end, text-next, text-differs}
+use Rattle.tokens.proofs.TextSteps.{text-start, text-short, text-run, text-other}
 use Rattle.tokens.proofs.text_at.Statement.{statement}
 use Rattle.tokens.proofs.text_at.Tie as tie
 
 abbrev Inv-loop : tie.InvT-loop
-Inv-loop bytes at text i₀ i = (i ≤ length text) × (textAt bytes at text ≡ textAt bytes (at + i) (drop i text))
+Inv-loop bytes at text done₀ done =
+    (done ≤ length text) × (textAt bytes at text ≡ textAt bytes (at + done) (drop done text))
 
 abbrev μ-loop : tie.MeasureT-loop
-μ-loop bytes at text i₀ i = length text - i
+μ-loop bytes at text done₀ done = length text - done
 
 room-requires : tie.Need-room-requires Inv-loop μ-loop
 room-requires c κs = search needs
@@ -25,35 +30,79 @@ returns c = sym (text-short _ _ _ (omega arith))
 loop-holds : tie.Need-loop-holds Inv-loop μ-loop
 loop-holds c = (search needs, text-start _ _ _)
 
-add-if2 : tie.Need-add-if2 Inv-loop μ-loop
-add-if2 c = search needs
+sub-loop : tie.Need-sub-loop Inv-loop μ-loop
+sub-loop c = search needs
 
-shared-slice-read-if2 : tie.Need-shared-slice-read-if2 Inv-loop μ-loop
-shared-slice-read-if2 c = search needs
+add-word-at : tie.Need-add-word-at Inv-loop μ-loop
+add-word-at c = search needs
 
-shared-slice-read-if2-2 : tie.Need-shared-slice-read-if2-2 Inv-loop μ-loop
-shared-slice-read-if2-2 c = search needs
+word-at-requires : tie.Need-word-at-requires Inv-loop μ-loop
+word-at-requires c κs = omega arith
+
+word-at-requires-2 : tie.Need-word-at-requires-2 Inv-loop μ-loop
+word-at-requires-2 c κs = omega arith
+
+same-bytes-requires : tie.Need-same-bytes-requires Inv-loop μ-loop
+same-bytes-requires c κs = search needs
 
 returns-2 : tie.Need-returns-2 Inv-loop μ-loop
 returns-2 c =
-    let at-head = c .before .before .before .before in
-    sym (at-head .loop .inv .1 ∙ text-differs _ _ _ (at-head .loop .i) (omega arith) (omega arith) (c .if2 .taken))
+    let compared = c .before in
+    let there = compared .before in
+    let here = there .before in
+    let head = here .before .before in
+    sym
+    (head .loop .inv .1
+    ∙ text-other _ _ _ (head .loop .done) wordBytes (omega arith)
+    (λ e.
+    compared .same-bytes .ensures .no (not-true _ (c .if2 .taken))
+    (here .word-at .ensures ∙ e ∙ sym (there .word-at2 .ensures))))
 
-add-i : tie.Need-add-i Inv-loop μ-loop
-add-i c = search needs
+add-done : tie.Need-add-done Inv-loop μ-loop
+add-done c = search needs
 
 loop-less : tie.Need-loop-less Inv-loop μ-loop
 loop-less c = search needs
 
 loop-again : tie.Need-loop-again Inv-loop μ-loop
 loop-again c =
-    let at-head = c .before .before .before .before in
-    (search needs, at-head .loop .inv .1 ∙ text-next _ _ _ (at-head .loop .i) (omega arith) (omega arith) (c .if2 .left))
+    let compared = c .before in
+    let there = compared .before in
+    let here = there .before in
+    let head = here .before .before in (
+      search needs,
+      head .loop .inv .1
+          ∙ text-run _ _ _ (head .loop .done) wordBytes (omega arith)
+          (sym (here .word-at .ensures) ∙ compared .same-bytes .ensures .yes (not-false _ (c .if2 .left))
+          ∙ there .word-at2 .ensures),
+    )
+
+add-text-walk : tie.Need-add-text-walk Inv-loop μ-loop
+add-text-walk c = search needs
+
+sub-text-walk : tie.Need-sub-text-walk Inv-loop μ-loop
+sub-text-walk c = search needs
+
+part-text-walk-start : tie.Need-part-text-walk-start Inv-loop μ-loop
+part-text-walk-start c = search needs
+
+part-text-walk-end : tie.Need-part-text-walk-end Inv-loop μ-loop
+part-text-walk-end c = search needs
+
+text-walk-requires : tie.Need-text-walk-requires Inv-loop μ-loop
+text-walk-requires c κs = search needs
 
 returns-3 : tie.Need-returns-3 Inv-loop μ-loop
 returns-3 c =
-    let at-head = c .before in
-    sym (at-head .loop .inv .1 ∙ text-end _ _ _ (at-head .loop .i) (omega arith) (omega arith))
+    let head = c .before .before .before in
+    let start = head .before .before .before .before .before in
+    let done = head .loop .done in
+    let text = start .args .text .now in
+    let l = length-drop done text in
+    c .text-walk .ensures
+    ∙ ap (λ (l : List ℕ). textAt (start .args .bytes .now) (start .args .at + done) l)
+    (take-all (length text - done) (drop done text) (omega arith))
+    ∙ sym (head .loop .inv .1)
 
 pub text-at-spec : {M : Type 1} → statement M
 text-at-spec =
@@ -64,11 +113,18 @@ text-at-spec =
     room-requires
     returns
     loop-holds
-    add-if2
-    shared-slice-read-if2
-    shared-slice-read-if2-2
+    sub-loop
+    add-word-at
+    word-at-requires
+    word-at-requires-2
+    same-bytes-requires
     returns-2
-    add-i
+    add-done
     loop-less
     loop-again
+    add-text-walk
+    sub-text-walk
+    part-text-walk-start
+    part-text-walk-end
+    text-walk-requires
     returns-3)

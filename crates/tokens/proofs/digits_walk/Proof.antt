@@ -1,4 +1,4 @@
--- `digits_at` meets its contract. The loop's invariant: the digits read so far, with their value, go on with those that
+-- `digits_walk` meets its contract. The loop's invariant: the digits read so far, with their value, go on with those that
 -- are not read yet. The measure is what is left of the bytes that are looked at.
 use mathlib.Core.Path.{_≡_}
 use mathlib.Core.Logic.{⊎-elim}
@@ -10,8 +10,8 @@ use lib.ListN.{length}
 use Rattle.tokens.specs.Number.{mostDigits}
 use Rattle.tokens.specs.DigitLaws.{digit-between, digit-below, digit-above}
 use Rattle.tokens.proofs.DigitSteps.{Run, run-start, run-bound, run-end, run-break, run-next}
-use Rattle.tokens.proofs.digits_at.Statement.{statement}
-use Rattle.tokens.proofs.digits_at.Tie as tie
+use Rattle.tokens.proofs.digits_walk.Statement.{statement}
+use Rattle.tokens.proofs.digits_walk.Tie as tie
 
 abbrev Inv-loop : tie.InvT-loop
 Inv-loop bytes at most value₀ count₀ value count =
@@ -70,8 +70,8 @@ returns-2 c =
     run-break _ _ (head .loop .inv .2) (omega arith)
     (⊎-elim (λ w. digit-below _ (omega arith)) (λ w. digit-above _ (omega (arith, ltb-true))) (c .if2 .came))
 
-pub digits-at-spec : {M : Type 1} → statement M
-digits-at-spec =
+pub digits-walk-spec : {M : Type 1} → statement M
+digits-walk-spec =
     tie.close
     (tie.spec
     Inv-loop

@@ -5,9 +5,9 @@ use mathlib.Core.Path.{sym}
 use mathlib.Core.Logic.{⊎-elim}
 use native.Mathlib.Omega.{arith}
 use borrow.Author.Tests.{ltb-true, ltb-false, eqb-true, eqb-false}
 use Rattle.tokens.proofs.NumberSteps.{count-within, torn-none, torn-long, torn-zero, taken-one, taken-more}
-use Rattle.tokens.proofs.unsigned_at.Statement.{statement}
-use Rattle.tokens.proofs.unsigned_at.Tie as tie
+use Rattle.numbers.proofs.unsigned_at.Statement.{statement}
+use Rattle.numbers.proofs.unsigned_at.Tie as tie
 
 digits-at-requires : tie.Need-digits-at-requires
 digits-at-requires c κs = search needs

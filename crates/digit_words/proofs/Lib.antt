@@ -1,0 +1,3 @@
+pub mod Marking
+pub mod Packing
+pub mod Cutting

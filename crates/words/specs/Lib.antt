@@ -1,0 +1,7 @@
+-- definitions
+pub mod Word
+pub mod ShortText
+-- laws
+pub mod LaneLaws
+pub mod WordLaws
+pub mod ShortTextLaws
