@@ -22,7 +22,7 @@ fn wide(b: u8) -> u64
     b as u64
 }
 
-// The eight bytes at a place as a word: their sum times powers of 256, which is one load.
+// The eight bytes at a place as a word: their sum times powers of 256, which the compiler makes one load nearly everywhere.
 pub fn word_at(bytes: &[u8], at: usize) -> u64
     requires { ⌜ at + wordBytes ≤ length (now bytes) ⌝ }
     ensures { λ r. ⌜ bytesIn wordBytes r ≡ take wordBytes (drop at (now (bytes .entry))) ⌝ }
