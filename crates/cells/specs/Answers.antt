@@ -22,11 +22,11 @@ use Rattle.closure.specs.Closure.{weightedMean}
 use Rattle.closure.specs.Code.{listOf, weightOf}
 use Rattle.closure.specs.Rows.{row-mean}
 use Rattle.cells.specs.declared.Cell.{Cell}
-use Rattle.cells.specs.declared.Cell.the-variants.{Steep, Of}
+use Rattle.cells.specs.declared.Cell.the-variants.{LogForceOutOfRange, Of}
 use Rattle.fitted_ages.specs.declared.Fitted.{Fitted}
 use Rattle.mortality.specs.Cell.{youngForce, oldForce, force, survival, fittedList, neededInRange}
 use Rattle.fitted_ages.specs.Code.{FittedOf}
-use Rattle.cells.specs.Code.{coded, Chance, steep, of, youngCell, oldCell, cellOf}
+use Rattle.cells.specs.Code.{coded, Chance, out-of-range, of, youngCell, oldCell, cellOf}
 
 pub young-cell : (p : Params) {x : ℕ} (n : ℕ) → x < firstClosed → youngCell (logForce p x n) ≡ cellOf p x n
 unfolding youngCell cellOf neededInRange survival force youngForce
@@ -45,14 +45,14 @@ by-range false e h = refl
 
 pub old-cell : {p : Params} {x n : ℕ} {f : Fitted} → FittedOf p n f → firstClosed ≤ x → oldCell (weightRow x) f ≡ cellOf p x n
 unfolding oldCell cellOf neededInRange survival force
-old-cell {p} {x} {n} {f} h l = rw (le-ltb x firstClosed l, ← h .ok) (by-range (f .ok) Steep (λ t. old-of p x n f (h .ends t)))
+old-cell {p} {x} {n} {f} h l = rw (le-ltb x firstClosed l, ← h .ok) (by-range (f .ok) LogForceOutOfRange (λ t. old-of p x n f (h .ends t)))
 
 -- p is at most 1
-exp-chance : (b : Bool) (z : Ends) → Chance (cond b (Of (coded (expBetween billionths z))) Steep)
+exp-chance : (b : Bool) (z : Ends) → Chance (cond b (Of (coded (expBetween billionths z))) LogForceOutOfRange)
 unfolding expBetween
 exp-chance true z =
     of (exp-lower-one billionths billionths-sound (z .upper)) (exp-upper-one billionths billionths-sound (z .lower))
-exp-chance false z = steep
+exp-chance false z = out-of-range
 
 pub young-chance : (m : SignedEnds) → Chance (youngCell m)
 unfolding youngCell
@@ -63,5 +63,5 @@ unfolding oldCell
 old-chance row f = exp-chance (f .ok) _
 
 pub chance-ends : {c : Cell} → Chance c → {e : code.Ends} → c ≡ Of e → (e .lower ≤ billionths .unit) × (e .upper ≤ billionths .unit)
-chance-ends steep q = clash cc
+chance-ends out-of-range q = clash cc
 chance-ends (of {e = d} l u) {e} q = let k : d ≡ e = cc in rw (← k) (l, u)

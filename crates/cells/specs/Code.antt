@@ -17,7 +17,7 @@ use Rattle.force.specs.Force.{negated}
 use Rattle.mortality.specs.Cell.{survival, neededInRange}
 use Rattle.fitted_ages.specs.declared.Fitted.{Fitted}
 use Rattle.cells.specs.declared.Cell.{Cell}
-use Rattle.cells.specs.declared.Cell.the-variants.{Steep, Of}
+use Rattle.cells.specs.declared.Cell.the-variants.{LogForceOutOfRange, Of}
 
 -- the grid's two ends as the code's
 abbrev pub coded : Ends → code.Ends
@@ -25,18 +25,18 @@ coded e = record { lower = e .lower; upper = e .upper }
 
 -- both ends of p are at most 1
 pub data Chance : Cell → Type 0 where
-  steep : Chance Steep
+  out-of-range : Chance LogForceOutOfRange
   of : {e : code.Ends} → e .lower ≤ billionths .unit → e .upper ≤ billionths .unit → Chance (Of e)
 
 -- the answer at an age to 90, from its log force
 unfoldable pub youngCell : SignedEnds → Cell
-youngCell m = cond (inRange m) (Of (coded (expBetween billionths (expBetween billionths (negated m))))) Steep
+youngCell m = cond (inRange m) (Of (coded (expBetween billionths (expBetween billionths (negated m))))) LogForceOutOfRange
 
 -- the answer at an age above 90, from its weights and the ends of H
 unfoldable pub oldCell : List ℤ → Fitted → Cell
 oldCell row f =
-    cond (f .ok) (Of (coded (expBetween billionths (logistic billionths (weightedMean (weightOf row) (listOf (f .ends))))))) Steep
+    cond (f .ok) (Of (coded (expBetween billionths (logistic billionths (weightedMean (weightOf row) (listOf (f .ends))))))) LogForceOutOfRange
 
 -- the answer at age x in year n: p's ends where every needed cell is in range
 unfoldable pub cellOf : Params → ℕ → ℕ → Cell
-cellOf p x n = cond (neededInRange p x n) (Of (coded (survival billionths p x n))) Steep
+cellOf p x n = cond (neededInRange p x n) (Of (coded (survival billionths p x n))) LogForceOutOfRange

@@ -14,7 +14,7 @@ use years::Year;
 
 // The ends of p, or a needed cell out of range.
 pub enum Cell {
-    Steep,
+    LogForceOutOfRange,
     Of(Ends),
 }
 
@@ -25,7 +25,7 @@ pub fn young_cell(age: Age, y: Year) -> Cell
 {
     let m = years::log_force_at(age, y);
     if !series::in_range(m) {
-        return Cell::Steep;
+        return Cell::LogForceOutOfRange;
     }
     Cell::Of(force::survival_to_90(m))
 }
@@ -36,7 +36,7 @@ pub fn old_cell(row: [i64; 11], f: Fitted) -> Cell
     ensures { λ r. ⌜ r ≡ oldCell row f ⌝ }
 {
     if !f.ok {
-        return Cell::Steep;
+        return Cell::LogForceOutOfRange;
     }
     let ends = f.ends;
     Cell::Of(exp_ends::exp_between(logistic::logistic(closure::closed_sum(row, ends))))

@@ -19,16 +19,16 @@ use years::Year;
 // Two ends for each age.
 const ROOM: usize = 2 * (LAST_CLOSED + 1);
 
-// Ends that stand for a steep cell.
-const STEEP: u64 = 2_000_000_000;
+// Ends that stand for a out of range cell.
+const OUT_OF_RANGE: u64 = 2_000_000_000;
 
 // The two ends of age x, at 2x and 2x + 1.
 fn put_cell(out: &mut [u64], x: usize, cell: Cell)
     requires { ⌜ (x ≤ lastClosed) × (2 * suc lastClosed ≤ length (now out)) × Chance cell ⌝ }
     ensures { λ r. ⌜ length (now (out .exit)) ≡ length (now (out .entry)) ⌝ }
 {
-    let mut lower = STEEP;
-    let mut upper = STEEP;
+    let mut lower = OUT_OF_RANGE;
+    let mut upper = OUT_OF_RANGE;
     if let Cell::Of(p) = cell {
         let q = force::death_of(p);
         lower = q.lower;

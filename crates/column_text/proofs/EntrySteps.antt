@@ -5,8 +5,8 @@ use mathlib.Core.List.{List}
 use lib.IntN.{ℤ}
 use lib.ListN.{drop}
 use Rattle.tokens.specs.declared.UnsignedRead.{UnsignedRead}
-use Rattle.tokens.specs.declared.UnsignedRead.the-variants.{Torn, Unsigned}
-use Rattle.tokens.specs.Text.{bytesOf, Parse, torn, taken, takeText}
+use Rattle.tokens.specs.declared.UnsignedRead.the-variants.{Malformed, Unsigned}
+use Rattle.tokens.specs.Text.{bytesOf, Parse, malformed, taken, takeText}
 use Rattle.tokens.specs.Steps.{andThen, goes, stops}
 use Rattle.query.specs.Query.{readField, alone}
 use Rattle.column_text.specs.declared.Entry.{Entry}
@@ -18,9 +18,9 @@ use Rattle.column_text.specs.Code.{unsignedRead}
 abbrev pub fromPoint : ℕ → List ℕ → Parse ℕ
 fromPoint v bs = andThen (takeText (bytesOf ".") bs) (λ u rest. readDigits v decimals rest)
 
-pub digit-torn : (bs : List ℕ) → readDigits 0 wholes bs ≡ torn → readQ bs ≡ torn
+pub digit-malformed : (bs : List ℕ) → readDigits 0 wholes bs ≡ malformed → readQ bs ≡ malformed
 unfolding readQ
-digit-torn bs e = stops _ e
+digit-malformed bs e = stops _ e
 
 pub digit-taken : (bs : List ℕ) {v : ℕ} {rest : List ℕ} → readDigits 0 wholes bs ≡ taken v rest → readQ bs ≡ fromPoint v rest
 unfolding readQ
@@ -37,9 +37,9 @@ fromQ age bs = andThen (readQ bs) (λ steps rest. lineEnd (record { age = age; s
 abbrev pub fromName : ℤ → List ℕ → Parse Entry
 fromName age bs = andThen (takeText (bytesOf " q=") bs) (λ u rest. fromQ age rest)
 
-pub age-torn : (line : List ℕ) → readField (bytesOf "age=") line ≡ torn → readEntry line ≡ torn
+pub age-malformed : (line : List ℕ) → readField (bytesOf "age=") line ≡ malformed → readEntry line ≡ malformed
 unfolding readEntry
-age-torn line e = stops _ e
+age-malformed line e = stops _ e
 
 pub age-taken : (line : List ℕ) {age : ℤ} {rest : List ℕ} → readField (bytesOf "age=") line ≡ taken age rest
     → readEntry line ≡ fromName age rest
@@ -49,8 +49,8 @@ age-taken line e = goes _ e
 -- ---- what a result of the code says was read
 
 module _ (bytes : List ℕ) where
-  pub unsigned-torn : {r : UnsignedRead} {q : Parse ℕ} → unsignedRead bytes r ≡ q → r ≡ Torn → q ≡ torn
-  unsigned-torn e f = sym e ∙ ap (unsignedRead bytes) f
+  pub unsigned-malformed : {r : UnsignedRead} {q : Parse ℕ} → unsignedRead bytes r ≡ q → r ≡ Malformed → q ≡ malformed
+  unsigned-malformed e f = sym e ∙ ap (unsignedRead bytes) f
 
   pub unsigned-taken : {r : UnsignedRead} {q : Parse ℕ} {v next : ℕ} → unsignedRead bytes r ≡ q → r ≡ Unsigned v next
       → q ≡ taken v (drop next bytes)

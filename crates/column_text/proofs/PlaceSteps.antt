@@ -9,7 +9,7 @@ use lib.Dec.{T}
 use lib.IntN.{ℤ, pos, negsuc, natAbs, pos-ne-negsuc}
 use lib.ListN.{getD, set}
 use lib.Signed.{ltZ, nonNeg}
-use Rattle.tokens.specs.Text.{torn, taken}
+use Rattle.tokens.specs.Text.{malformed, taken}
 use Rattle.weights.specs.Weights.{lastClosed}
 use Rattle.table_tests.specs.TableTests.{ageInTable}
 use Rattle.table_tests.specs.TableLaws.{within}
@@ -39,17 +39,17 @@ module _ (t : List ℕ) (age : ℤ) (steps : ℕ) where
   entry = record { age = age; steps = steps }
 
   -- no place
-  pub too-low : ltZ age (pos 0) ≡ true → withEntry t entry ≡ torn
+  pub too-low : ltZ age (pos 0) ≡ true → withEntry t entry ≡ malformed
   unfolding withEntry isFree ageInTable
   too-low e = rw (below-not-least age (pos 0) e)
 
-  pub too-high : ltZ age (pos 0) ≡ false → ltZ (pos lastClosed) age ≡ true → withEntry t entry ≡ torn
+  pub too-high : ltZ age (pos 0) ≡ false → ltZ (pos lastClosed) age ≡ true → withEntry t entry ≡ malformed
   unfolding withEntry isFree ageInTable
   too-high e f = rw (not-below-least age (pos 0) e, below-not-least (pos lastClosed) age f)
 
   -- it is taken, and it is empty
   module _ (i : Inside age) where
-    pub twice : (getD t (natAbs age) 0 ≡ 0 → ⊥) → withEntry t entry ≡ torn
+    pub twice : (getD t (natAbs age) 0 ≡ 0 → ⊥) → withEntry t entry ≡ malformed
     unfolding withEntry isFree
     twice n = rw (i .in-table, ne-eqb (getD t (natAbs age) 0) 0 n)
 

@@ -4,25 +4,25 @@ use mathlib.Core.Bool.{Bool, cond}
 use mathlib.Core.List.{List, []}
 use lib.ListN.{drop}
 use Rattle.tokens.specs.declared.UnsignedRead.{UnsignedRead}
-use Rattle.tokens.specs.declared.UnsignedRead.the-variants.{Torn as NoUnsigned, Unsigned}
-use Rattle.tokens.specs.Text.{Parse, torn, taken}
+use Rattle.tokens.specs.declared.UnsignedRead.the-variants.{Malformed as NoUnsigned, Unsigned}
+use Rattle.tokens.specs.Text.{Parse, malformed, taken}
 use Rattle.column_text.specs.declared.Entry.{Entry}
 use Rattle.column_text.specs.declared.EntryRead.{EntryRead}
-use Rattle.column_text.specs.declared.EntryRead.the-variants.{Torn, Of}
+use Rattle.column_text.specs.declared.EntryRead.the-variants.{Malformed, Of}
 use Rattle.column_text.specs.declared.ColumnRead.{ColumnRead}
 
 -- a number without its sign, and the bytes from the place after it on
 abbrev pub unsignedRead : List ℕ → UnsignedRead → Parse ℕ
-unsignedRead bytes NoUnsigned = torn
+unsignedRead bytes NoUnsigned = malformed
 unsignedRead bytes (Unsigned v next) = taken v (drop next bytes)
 
 abbrev pub entryRead : EntryRead → Parse Entry
-entryRead Torn = torn
+entryRead Malformed = malformed
 entryRead (Of e) = taken e []
 
 -- a list that counts where the flag is set
 abbrev pub listRead : Bool → List ℕ → Parse (List ℕ)
-listRead ok l = cond ok (taken l []) torn
+listRead ok l = cond ok (taken l []) malformed
 
 abbrev pub columnRead : ColumnRead → Parse (List ℕ)
 columnRead r = listRead (r .ok) (r .steps)

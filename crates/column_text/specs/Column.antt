@@ -1,6 +1,6 @@
 -- A column of q that somebody published (paper 02, E3): "columns of q for one year: 121 lines `age=0 q=0.00312`, each ended by a
 -- line feed, the age formed as in a sheet, q as one digit, a point and five digits, any order, each age once". Anything else is
--- torn: "9 torn column, of any length, also for an age outside 0 to 120".
+-- malformed: "9 torn column, of any length, also for an age outside 0 to 120".
 use mathlib.Core.Bool.{Bool, true, false, cond, _&&_}
 use mathlib.Core.List.{List, [], _∷_}
 use Prim.Native.Nat.{ℕ, suc}
@@ -8,7 +8,7 @@ use lib.Dec.{eqb}
 use lib.IntN.{ℤ, pos, negsuc}
 use lib.ListN.{length, drop}
 use Rattle.whole.specs.Table.{every, listed}
-use Rattle.tokens.specs.Text.{bytesOf, Parse, torn, taken, takeText}
+use Rattle.tokens.specs.Text.{bytesOf, Parse, malformed, taken, takeText}
 use Rattle.tokens.specs.Number.{valueFrom}
 use Rattle.tokens.specs.Unsigned.{leading}
 use Rattle.tokens.specs.Steps.{andThen}
@@ -33,7 +33,7 @@ decimals = 5
 
 -- the number that n digits at the front stand for, after those of v; a digit more is not read
 unfoldable pub readDigits : ℕ → ℕ → List ℕ → Parse ℕ
-readDigits v n bs = cond (eqb (length (leading n bs)) n) (taken (valueFrom v (leading n bs)) (drop n bs)) torn
+readDigits v n bs = cond (eqb (length (leading n bs)) n) (taken (valueFrom v (leading n bs)) (drop n bs)) malformed
 
 -- "q as one digit, a point and five digits": its steps of 0.00001, which are its digits without the point
 unfoldable pub readQ : List ℕ → Parse ℕ
@@ -52,7 +52,7 @@ readEntry line =
 
 -- ---- all lines
 
--- the entries of lines, torn if one of them is
+-- the entries of lines, malformed if one of them is
 unfoldable pub readEntries : List (List ℕ) → Parse (List Entry)
 readEntries [] = taken [] []
 readEntries (l ∷ ls) = andThen (readEntry l) (λ e none. andThen (readEntries ls) (λ es rest. taken (e ∷ es) rest))
@@ -96,7 +96,7 @@ stepsOf es x = elim (ofAge x es) [ [] ↦ 0 | e ∷ others ↦ e .steps ]
 
 -- the steps of q from age 0 to age 120
 unfoldable pub byAge : List Entry → Parse (List ℕ)
-byAge es = cond (eachOnce es) (taken (listed (stepsOf es) 0 columnLines) []) torn
+byAge es = cond (eachOnce es) (taken (listed (stepsOf es) 0 columnLines) []) malformed
 
 unfoldable pub columnOf : List ℕ → Parse (List ℕ)
 columnOf bytes = andThen (entriesOf bytes) (λ es rest. byAge es)

@@ -12,9 +12,9 @@ use lib.IntN.{ℤ, pos, negsuc, natAbs}
 use lib.ListN.{length, getD}
 use Rattle.whole.specs.Table.{listed, listed-length, listed-at}
 use Rattle.whole.specs.Clash.{clash}
-use Rattle.tokens.specs.Text.{torn, taken}
+use Rattle.tokens.specs.Text.{malformed, taken}
 use Rattle.tokens.specs.Steps.{goes}
-use Rattle.sheet.specs.NumberTrip.{torn-not-taken}
+use Rattle.sheet.specs.NumberTrip.{malformed-not-taken}
 use Rattle.sheet.specs.SheetTrip.{then-taken}
 use Rattle.lines.specs.Lines.{lines}
 use Rattle.table_tests.specs.TableTests.{ageInTable}
@@ -138,10 +138,10 @@ by-age-taken : (es : List Entry) {c rest : List ℕ} → byAge es ≡ taken c re
 unfolding byAge eachOnce
 by-age-taken es {c} {rest} q = go (eachOnce es) refl q
   where
-    go : (b : Bool) → eachOnce es ≡ b → cond b (taken (listed (stepsOf es) 0 columnLines) []) torn ≡ taken c rest
+    go : (b : Bool) → eachOnce es ≡ b → cond b (taken (listed (stepsOf es) 0 columnLines) []) malformed ≡ taken c rest
         → (allInTable es ≡ true) × (oneOfEach es ≡ true) × (listed (stepsOf es) 0 columnLines ≡ c)
     go true r h = let (one, two) = and-true (allInTable es) (oneOfEach es) r in (one, two, cc)
-    go false r h = torn-not-taken h
+    go false r h = malformed-not-taken h
 
 pub column-is : (bytes : List ℕ) {c rest : List ℕ} → columnOf bytes ≡ taken c rest → ColumnIs bytes c
 unfolding columnOf entriesOf

@@ -1,9 +1,9 @@
--- Whole columns that are read and columns that are torn, by computation.
+-- Whole columns that are read and columns that are malformed, by computation.
 use mathlib.Core.Path.{_≡_, refl}
 use mathlib.Core.List.{List, [], _++_}
 use Prim.Native.Nat.{ℕ, zero, suc}
 use Rattle.whole.specs.Table.{listed}
-use Rattle.tokens.specs.Text.{bytesOf, torn, taken, takeText}
+use Rattle.tokens.specs.Text.{bytesOf, malformed, taken, takeText}
 use Rattle.tokens.specs.Number.{isDigit, digits, afterDigits, valueFrom, noLeadingZero, wellFormed}
 use Rattle.tokens.specs.Number.{readUnsigned, negated, positive, readNumber, decimal, unsignedText}
 use Rattle.tokens.specs.Unsigned.{leading}
@@ -30,15 +30,15 @@ whole-column = refl
 
 -- no line, age 120 missing, an age 121, an age twice, an age twice and another missing, an empty line at the end, a line at the
 -- end without its line feed, and one age alone
-torn-columns : (columnOf [] ≡ torn)
-    × (columnOf (downward lastClosed) ≡ torn)
-    × (columnOf (downward (suc columnLines)) ≡ torn)
-    × (columnOf (lineText 65 ++ downward columnLines) ≡ torn)
-    × (columnOf (lineText 65 ++ downward lastClosed) ≡ torn)
-    × (columnOf (downward columnLines ++ bytesOf "\n") ≡ torn)
-    × (columnOf (downward columnLines ++ bytesOf "age=0 q=0.00312") ≡ torn)
-    × (columnOf (downward 1) ≡ torn)
+malformed-columns : (columnOf [] ≡ malformed)
+    × (columnOf (downward lastClosed) ≡ malformed)
+    × (columnOf (downward (suc columnLines)) ≡ malformed)
+    × (columnOf (lineText 65 ++ downward columnLines) ≡ malformed)
+    × (columnOf (lineText 65 ++ downward lastClosed) ≡ malformed)
+    × (columnOf (downward columnLines ++ bytesOf "\n") ≡ malformed)
+    × (columnOf (downward columnLines ++ bytesOf "age=0 q=0.00312") ≡ malformed)
+    × (columnOf (downward 1) ≡ malformed)
 unfolding lineText downward listed bytesOf takeText readField alone isDigit digits afterDigits valueFrom noLeadingZero
     wellFormed readUnsigned negated positive readNumber decimal unsignedText leading ahead lines ageInTable readDigits readQ
     readEntry readEntries entriesOf isAge ofAge allInTable counts oneOfEach eachOnce stepsOf byAge columnOf
-torn-columns = (refl, refl, refl, refl, refl, refl, refl, refl)
+malformed-columns = (refl, refl, refl, refl, refl, refl, refl, refl)

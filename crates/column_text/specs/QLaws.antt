@@ -9,11 +9,11 @@ use native.Mathlib.Omega.{arith}
 use lib.Dec.{eqb·zero-suc, eqb·suc-suc}
 use lib.ListN.{length, getD, drop, drop-of-length-le}
 use lib.Seq.{drop-cons, take-nil}
-use Rattle.tokens.specs.Text.{bytesOf, torn, taken, takeText}
+use Rattle.tokens.specs.Text.{bytesOf, malformed, taken, takeText}
 use Rattle.tokens.specs.Number.{zeroDigit, isDigit, digits, valueFrom}
 use Rattle.tokens.specs.Unsigned.{leading}
 use Rattle.tokens.specs.DigitLaws.{digit-bounds, digits-more, digits-end}
-use Rattle.sheet.specs.NumberTrip.{torn-not-taken}
+use Rattle.sheet.specs.NumberTrip.{malformed-not-taken}
 use Rattle.sheet.specs.SheetTrip.{then-taken}
 use Rattle.query.specs.Query.{readField}
 use Rattle.query.specs.QueryLaws.{alone-taken}
@@ -27,11 +27,11 @@ unfolding readDigits leading valueFrom
 read-all v bs = refl
 
 -- a digit is missing: at the end, and at another byte
-read-past : (v n : ℕ) → readDigits v (suc n) [] ≡ torn
+read-past : (v n : ℕ) → readDigits v (suc n) [] ≡ malformed
 unfolding readDigits leading digits
 read-past v n = rw (take-nil (suc n), eqb·zero-suc n)
 
-read-other : (v n b : ℕ) (bs : List ℕ) → isDigit b ≡ false → readDigits v (suc n) (b ∷ bs) ≡ torn
+read-other : (v n b : ℕ) (bs : List ℕ) → isDigit b ≡ false → readDigits v (suc n) (b ∷ bs) ≡ malformed
 unfolding readDigits leading
 read-other v n b bs e = rw (digits-end b bs e, take-nil (suc n), eqb·zero-suc n)
 
@@ -50,7 +50,7 @@ digits-small v zero bs {w} {rest} e =
     let q : taken v bs ≡ taken w rest = sym (read-all v bs) ∙ e in
     let x : v ≡ w = cc in
     omega arith
-digits-small v (suc n) [] {w} {rest} e = torn-not-taken (sym (read-past v n) ∙ e)
+digits-small v (suc n) [] {w} {rest} e = malformed-not-taken (sym (read-past v n) ∙ e)
 digits-small v (suc n) (b ∷ bs) {w} {rest} e = go (λ q. digits-small (v * 10 + (b - zeroDigit)) n bs q) (isDigit b) refl
   where
     go : (readDigits (v * 10 + (b - zeroDigit)) n bs ≡ taken w rest → w < suc (v * 10 + (b - zeroDigit)) * 10 ^ n)
@@ -59,7 +59,7 @@ digits-small v (suc n) (b ∷ bs) {w} {rest} e = go (λ q. digits-small (v * 10 
         let d = digit-bounds b h in
         rw (pow-suc 10 n)
         (grown v (b - zeroDigit) (10 ^ n) w (omega arith) (ih (sym (read-digit v n b bs h) ∙ e)))
-    go ih false h = torn-not-taken (sym (read-other v n b bs h) ∙ e)
+    go ih false h = malformed-not-taken (sym (read-other v n b bs h) ∙ e)
 
 -- q has at most 999,999 steps
 abbrev pub mostSteps : ℕ
@@ -88,18 +88,18 @@ entry-small line {e} q =
 
 module _ (bytes : List ℕ) (v n next : ℕ) where
   -- a digit is missing
-  pub place-past : 0 < n → length bytes ≤ next → readDigits v n (drop next bytes) ≡ torn
+  pub place-past : 0 < n → length bytes ≤ next → readDigits v n (drop next bytes) ≡ malformed
   place-past h k = go n h
     where
-      go : (m : ℕ) → 0 < m → readDigits v m (drop next bytes) ≡ torn
+      go : (m : ℕ) → 0 < m → readDigits v m (drop next bytes) ≡ malformed
       go zero l = absurd (omega arith)
       go (suc m) l = rw (drop-of-length-le bytes k) (read-past v m)
 
   module _ (h : 0 < n) (k : next < length bytes) where
-    pub place-other : isDigit (getD bytes next 0) ≡ false → readDigits v n (drop next bytes) ≡ torn
+    pub place-other : isDigit (getD bytes next 0) ≡ false → readDigits v n (drop next bytes) ≡ malformed
     place-other e = go n h
       where
-        go : (m : ℕ) → 0 < m → readDigits v m (drop next bytes) ≡ torn
+        go : (m : ℕ) → 0 < m → readDigits v m (drop next bytes) ≡ malformed
         go zero l = absurd (omega arith)
         go (suc m) l = rw (drop-cons bytes next 0 k) (read-other v m _ _ e)
 

@@ -1,8 +1,8 @@
--- Lines of a column that are read and lines that are torn, by computation.
+-- Lines of a column that are read and lines that are malformed, by computation.
 use mathlib.Core.Path.{_≡_, refl}
 use mathlib.Core.List.{[]}
 use lib.IntN.{pos, negsuc}
-use Rattle.tokens.specs.Text.{bytesOf, torn, taken, takeText}
+use Rattle.tokens.specs.Text.{bytesOf, malformed, taken, takeText}
 use Rattle.tokens.specs.Number.{isDigit, digits, afterDigits, valueFrom, noLeadingZero, wellFormed}
 use Rattle.tokens.specs.Number.{readUnsigned, negated, positive, readNumber}
 use Rattle.tokens.specs.Unsigned.{leading}
@@ -27,59 +27,59 @@ unfolding bytesOf takeText readField alone isDigit digits afterDigits valueFrom 
     negated positive readNumber leading readDigits readQ readEntry
 below-zero = refl
 
--- ---- torn
+-- ---- malformed
 
 -- four decimals, and six
-four-decimals : readEntry (bytesOf "age=0 q=0.0031\n") ≡ torn
+four-decimals : readEntry (bytesOf "age=0 q=0.0031\n") ≡ malformed
 unfolding bytesOf takeText readField alone isDigit digits afterDigits valueFrom noLeadingZero wellFormed readUnsigned
     negated positive readNumber leading readDigits readQ readEntry
 four-decimals = refl
 
-six-decimals : readEntry (bytesOf "age=0 q=0.003120\n") ≡ torn
+six-decimals : readEntry (bytesOf "age=0 q=0.003120\n") ≡ malformed
 unfolding bytesOf takeText readField alone isDigit digits afterDigits valueFrom noLeadingZero wellFormed readUnsigned
     negated positive readNumber leading readDigits readQ readEntry
 six-decimals = refl
 
 -- two digits before the point, none, and a minus
-two-digits : readEntry (bytesOf "age=0 q=00.00312\n") ≡ torn
+two-digits : readEntry (bytesOf "age=0 q=00.00312\n") ≡ malformed
 unfolding bytesOf takeText readField alone isDigit digits afterDigits valueFrom noLeadingZero wellFormed readUnsigned
     negated positive readNumber leading readDigits readQ readEntry
 two-digits = refl
 
-no-digit : readEntry (bytesOf "age=0 q=.00312\n") ≡ torn
+no-digit : readEntry (bytesOf "age=0 q=.00312\n") ≡ malformed
 unfolding bytesOf takeText readField alone isDigit digits afterDigits valueFrom noLeadingZero wellFormed readUnsigned
     negated positive readNumber leading readDigits readQ readEntry
 no-digit = refl
 
-minus : readEntry (bytesOf "age=0 q=-0.00312\n") ≡ torn
+minus : readEntry (bytesOf "age=0 q=-0.00312\n") ≡ malformed
 unfolding bytesOf takeText readField alone isDigit digits afterDigits valueFrom noLeadingZero wellFormed readUnsigned
     negated positive readNumber leading readDigits readQ readEntry
 minus = refl
 
 -- a comma
-comma : readEntry (bytesOf "age=0 q=0,00312\n") ≡ torn
+comma : readEntry (bytesOf "age=0 q=0,00312\n") ≡ malformed
 unfolding bytesOf takeText readField alone isDigit digits afterDigits valueFrom noLeadingZero wellFormed readUnsigned
     negated positive readNumber leading readDigits readQ readEntry
 comma = refl
 
 -- an age with a leading zero
-leading-zero : readEntry (bytesOf "age=07 q=0.00312\n") ≡ torn
+leading-zero : readEntry (bytesOf "age=07 q=0.00312\n") ≡ malformed
 unfolding bytesOf takeText readField alone isDigit digits afterDigits valueFrom noLeadingZero wellFormed readUnsigned
     negated positive readNumber leading readDigits readQ readEntry
 leading-zero = refl
 
 -- a carriage return, no line feed, and an empty line
-carriage-return : readEntry (bytesOf "age=0 q=0.00312\r\n") ≡ torn
+carriage-return : readEntry (bytesOf "age=0 q=0.00312\r\n") ≡ malformed
 unfolding bytesOf takeText readField alone isDigit digits afterDigits valueFrom noLeadingZero wellFormed readUnsigned
     negated positive readNumber leading readDigits readQ readEntry
 carriage-return = refl
 
-no-line-feed : readEntry (bytesOf "age=0 q=0.00312") ≡ torn
+no-line-feed : readEntry (bytesOf "age=0 q=0.00312") ≡ malformed
 unfolding bytesOf takeText readField alone isDigit digits afterDigits valueFrom noLeadingZero wellFormed readUnsigned
     negated positive readNumber leading readDigits readQ readEntry
 no-line-feed = refl
 
-empty-line : readEntry (bytesOf "\n") ≡ torn
+empty-line : readEntry (bytesOf "\n") ≡ malformed
 unfolding bytesOf takeText readField alone isDigit digits afterDigits valueFrom noLeadingZero wellFormed readUnsigned
     negated positive readNumber leading readDigits readQ readEntry
 empty-line = refl

@@ -10,7 +10,7 @@ use lib.Dec.{ltb, ltb→lt}
 use lib.ListN.{length, getD, set, length-set}
 use lib.Seq.{getD-set-same, getD-set-other}
 use Rattle.whole.specs.Table.{every, at}
-use Rattle.tokens.specs.Text.{torn, taken}
+use Rattle.tokens.specs.Text.{malformed, taken}
 use Rattle.column_text.specs.Table.{tableSteps}
 
 -- a place is not empty
@@ -35,11 +35,11 @@ all-less (n ∷ t) (m ∷ s) e h = rw (h 0 (omega arith), all-less t s (omega ar
 
 -- ---- the steps
 
-pub steps-torn : (t : List ℕ) (x : ℕ) → x < length t → getD t x 0 ≡ 0 → tableSteps t ≡ torn
+pub steps-malformed : (t : List ℕ) (x : ℕ) → x < length t → getD t x 0 ≡ 0 → tableSteps t ≡ malformed
 unfolding tableSteps
-steps-torn t x h e = go (every given 0 t) refl
+steps-malformed t x h e = go (every given 0 t) refl
   where
-    go : (b : Bool) → every given 0 t ≡ b → cond b (taken (map (λ (n : ℕ). n - 1) t) []) torn ≡ torn
+    go : (b : Bool) → every given 0 t ≡ b → cond b (taken (map (λ (n : ℕ). n - 1) t) []) malformed ≡ malformed
     go true q = absurd (omega (arith, ltb→lt 0 (getD t x 0) (at given 0 t (rw q tt) x h)))
     go false q = refl
 
@@ -64,8 +64,8 @@ suc-less zero h = absurd (h refl)
 suc-less (suc n) h = omega arith
 
 module _ {t s : List ℕ} {x : ℕ} (p : Stepped t s x) where
-  pub stepped-torn : x < length t → getD s x 0 ≡ 0 → tableSteps t ≡ torn
-  stepped-torn h e = steps-torn t x h (sym (p .left x (omega arith)) ∙ e)
+  pub stepped-malformed : x < length t → getD s x 0 ≡ 0 → tableSteps t ≡ malformed
+  stepped-malformed h e = steps-malformed t x h (sym (p .left x (omega arith)) ∙ e)
 
   pub stepped-end : length t ≤ x → tableSteps t ≡ taken s []
   stepped-end h = steps-taken t s (p .long) (λ k l. p .done k (omega arith))

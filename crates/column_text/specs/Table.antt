@@ -7,7 +7,7 @@ use lib.Dec.{eqb, ltb}
 use lib.IntN.{natAbs}
 use lib.ListN.{getD, set, replicate}
 use Rattle.whole.specs.Table.{every}
-use Rattle.tokens.specs.Text.{Parse, torn, taken}
+use Rattle.tokens.specs.Text.{Parse, malformed, taken}
 use Rattle.tokens.specs.Steps.{andThen}
 use Rattle.table_tests.specs.TableTests.{ageInTable}
 use Rattle.column_text.specs.declared.Entry.{Entry}
@@ -25,7 +25,7 @@ unfoldable pub placed : List ℕ → Entry → List ℕ
 placed t e = set t (natAbs (e .age)) (suc (e .steps))
 
 unfoldable pub withEntry : List ℕ → Entry → Parse (List ℕ)
-withEntry t e = cond (isFree t e) (taken (placed t e) []) torn
+withEntry t e = cond (isFree t e) (taken (placed t e) []) malformed
 
 -- the table with a line's entry
 unfoldable pub withLine : List ℕ → List ℕ → Parse (List ℕ)
@@ -33,7 +33,7 @@ withLine t line = andThen (readEntry line) (λ e rest. withEntry t e)
 
 -- the steps of a table without an empty place
 unfoldable pub tableSteps : List ℕ → Parse (List ℕ)
-tableSteps t = cond (every (λ x n. ltb 0 n) 0 t) (taken (map (λ n. n - 1) t) []) torn
+tableSteps t = cond (every (λ x n. ltb 0 n) 0 t) (taken (map (λ n. n - 1) t) []) malformed
 
 -- the column of a table and the lines that are not read yet
 unfoldable pub walk : List ℕ → List (List ℕ) → Parse (List ℕ)

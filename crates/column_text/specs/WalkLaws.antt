@@ -13,7 +13,7 @@ use lib.IntN.{ℤ, pos, negsuc, natAbs, pos-ne-negsuc}
 use lib.ListN.{length, getD, drop, length-append, length-set, length-replicate, getD-replicate, drop-of-length-le}
 use lib.Seq.{append-snoc, drop-cons, drop-drop, getD-set-same, getD-set-other}
 use Rattle.whole.specs.Table.{every, at, listed, listed-length, listed-at}
-use Rattle.tokens.specs.Text.{Parse, torn, taken}
+use Rattle.tokens.specs.Text.{Parse, malformed, taken}
 use Rattle.tokens.specs.Steps.{andThen, goes, stops}
 use Rattle.lines.specs.Lines.{firstLine, afterLine, lines}
 use Rattle.lines.specs.LineLaws.{after-drop, line-some, lines-none, lines-first}
@@ -153,14 +153,14 @@ not-one es x h n = go (oneOfEach es) refl
     go false q = refl
 
 -- an age outside the table, and an age that has not one entry
-outside-torn : (es fs : List Entry) (e : Entry) → allInTable es ≡ true → ageInTable (e .age) ≡ false
-    → byAge (es ++ (e ∷ fs)) ≡ torn
+outside-malformed : (es fs : List Entry) (e : Entry) → allInTable es ≡ true → ageInTable (e .age) ≡ false
+    → byAge (es ++ (e ∷ fs)) ≡ malformed
 unfolding byAge eachOnce allInTable
-outside-torn es fs e q r = rw (in-both es (e ∷ fs) q, r)
+outside-malformed es fs e q r = rw (in-both es (e ∷ fs) q, r)
 
-not-one-torn : (es : List Entry) (x : ℕ) → x < columnLines → (length (ofAge x es) ≡ 1 → ⊥) → byAge es ≡ torn
+not-one-malformed : (es : List Entry) (x : ℕ) → x < columnLines → (length (ofAge x es) ≡ 1 → ⊥) → byAge es ≡ malformed
 unfolding byAge eachOnce
-not-one-torn es x h n = rw (not-one es x h n, and-false (allInTable es))
+not-one-malformed es x h n = rw (not-one es x h n, and-false (allInTable es))
 
 -- ---- line after line
 
@@ -215,16 +215,16 @@ module _ {t : List ℕ} {es : List Entry} (p : Holds t es) (e : Entry) where
 
   -- it has none
   module _ (fs : List Entry) where
-    blocked-outside : ageInTable (e .age) ≡ false → byAge (es ++ (e ∷ fs)) ≡ torn
-    blocked-outside q = outside-torn es fs e (p .inside) q
+    blocked-outside : ageInTable (e .age) ≡ false → byAge (es ++ (e ∷ fs)) ≡ malformed
+    blocked-outside q = outside-malformed es fs e (p .inside) q
 
-    blocked-twice : ageInTable (e .age) ≡ true → (getD t size 0 ≡ 0 → ⊥) → byAge (es ++ (e ∷ fs)) ≡ torn
+    blocked-twice : ageInTable (e .age) ≡ true → (getD t size 0 ≡ 0 → ⊥) → byAge (es ++ (e ∷ fs)) ≡ malformed
     blocked-twice q r =
         let a = aged (e .age) q in
         let one = place-given (p .place size (a .most)) r in
         let two : ofAge size (es ++ (e ∷ fs)) ≡ ofAge size es ++ (e ∷ ofAge size fs) =
         of-both size es (e ∷ fs) ∙ ap (λ (l : List Entry). ofAge size es ++ l) (of-age size e fs (age-own (e .age) (a .is))) in
-        not-one-torn (es ++ (e ∷ fs)) size (a .most)
+        not-one-malformed (es ++ (e ∷ fs)) size (a .most)
         (λ n. omega (arith, n, one, ap length two, length-append (ofAge size es) (e ∷ ofAge size fs)))
 
 -- no line is left
@@ -254,13 +254,13 @@ abbrev behind : Entry → Parse (List Entry) → Parse (List Entry)
 behind e q = andThen q (λ fs rest. taken (e ∷ fs) rest)
 
 onward-behind : (es : List Entry) (e : Entry) (q : Parse (List Entry)) → onward (es ++ (e ∷ [])) q ≡ onward es (behind e q)
-onward-behind es e torn = refl
+onward-behind es e malformed = refl
 onward-behind es e (taken fs rest) = ap byAge (append-snoc es e fs)
 
-onward-torn : (es : List Entry) (e : Entry) (q : Parse (List Entry)) → ((fs : List Entry) → byAge (es ++ (e ∷ fs)) ≡ torn)
-    → onward es (behind e q) ≡ torn
-onward-torn es e torn h = refl
-onward-torn es e (taken fs rest) h = h fs
+onward-malformed : (es : List Entry) (e : Entry) (q : Parse (List Entry)) → ((fs : List Entry) → byAge (es ++ (e ∷ fs)) ≡ malformed)
+    → onward es (behind e q) ≡ malformed
+onward-malformed es e malformed h = refl
+onward-malformed es e (taken fs rest) h = h fs
 
 -- one entry, and the lines after it
 entry-step : {t : List ℕ} {es : List Entry} (e : Entry) (ls : List (List ℕ)) → Holds t es
@@ -270,10 +270,10 @@ unfolding withEntry isFree
 entry-step {t} {es} e ls p ih = go (ageInTable (e .age)) refl (eqb (getD t (natAbs (e .age)) 0) 0) refl
   where
     go : (a : Bool) → ageInTable (e .age) ≡ a → (b : Bool) → eqb (getD t (natAbs (e .age)) 0) 0 ≡ b
-        → andThen (cond (a && b) (taken (placed t e) []) torn) (λ u rest. walk u ls) ≡ onward es (behind e (readEntries ls))
+        → andThen (cond (a && b) (taken (placed t e) []) malformed) (λ u rest. walk u ls) ≡ onward es (behind e (readEntries ls))
     go true q true r = ih (placed t e) (holds-next p e q (eqb-true _ 0 r)) ∙ onward-behind es e (readEntries ls)
-    go true q false r = sym (onward-torn es e (readEntries ls) (λ fs. blocked-twice p e fs q (eqb-false _ 0 r)))
-    go false q b r = sym (onward-torn es e (readEntries ls) (λ fs. blocked-outside p e fs q))
+    go true q false r = sym (onward-malformed es e (readEntries ls) (λ fs. blocked-twice p e fs q (eqb-false _ 0 r)))
+    go false q b r = sym (onward-malformed es e (readEntries ls) (λ fs. blocked-outside p e fs q))
 
 walk-holds : (ls : List (List ℕ)) (t : List ℕ) (es : List Entry) → Holds t es → walk t ls ≡ onward es (readEntries ls)
 unfolding walk withLine readEntries
@@ -283,7 +283,7 @@ walk-holds (l ∷ ls) t es p = go (λ u fs h. walk-holds ls u fs h) (readEntry l
     go : ((u : List ℕ) (fs : List Entry) → Holds u fs → walk u ls ≡ onward fs (readEntries ls)) → (q : Parse Entry)
         → andThen (andThen q (λ e rest. withEntry t e)) (λ u rest. walk u ls)
         ≡ onward es (andThen q (λ e none. behind e (readEntries ls)))
-    go ih torn = refl
+    go ih malformed = refl
     go ih (taken e rest) = entry-step e ls p (λ u h. ih u (es ++ (e ∷ [])) h)
 
 -- the column that the lines of all bytes give
@@ -309,9 +309,9 @@ module _ (bytes : List ℕ) (n : ℕ) where
         e ∙ ap (λ (bs : List ℕ). lineAt ∷ lines bs) (after-drop (drop n bytes) ∙ drop-drop (length lineAt) n bytes)
 
     -- the line is not taken, or the table goes on with it
-    pub walk-torn : (t : List ℕ) → withLine t lineAt ≡ torn → walk t (lines (drop n bytes)) ≡ torn
+    pub walk-malformed : (t : List ℕ) → withLine t lineAt ≡ malformed → walk t (lines (drop n bytes)) ≡ malformed
     unfolding walk
-    walk-torn t q = rw lines-here (stops _ q)
+    walk-malformed t q = rw lines-here (stops _ q)
 
     pub walk-next : (t : List ℕ) {u rest : List ℕ} → withLine t lineAt ≡ taken u rest
         → walk t (lines (drop n bytes)) ≡ walk u (lines (drop (n + length lineAt) bytes))

@@ -24,11 +24,11 @@ pub struct Entry {
 
 // An entry that was read.
 pub enum EntryRead {
-    Torn,
+    Malformed,
     Of(Entry),
 }
 
-// The steps of q by age, where nothing was torn.
+// The steps of q by age, where nothing was malformed.
 pub struct ColumnRead {
     pub ok: bool,
     pub steps: [u64; COLUMN_LINES],
@@ -44,11 +44,11 @@ fn digits_at(bytes: &[u8], at: usize, count: usize, first: u64) -> UnsignedRead
     let mut left = count;
     while 0 < left {
         if bytes.len() <= next {
-            return UnsignedRead::Torn;
+            return UnsignedRead::Malformed;
         }
         let digit = bytes[next];
         if digit < b'0' || b'9' < digit {
-            return UnsignedRead::Torn;
+            return UnsignedRead::Malformed;
         }
         value = value * 10 + (digit - b'0') as u64;
         next += 1;
@@ -62,10 +62,10 @@ pub fn q_at(bytes: &[u8], at: usize) -> UnsignedRead
     ensures { λ r. ⌜ unsignedRead (now (bytes .entry)) r ≡ readQ (drop at (now (bytes .entry))) ⌝ }
 {
     let UnsignedRead::Unsigned(first, after) = digits_at(bytes, at, 1, 0) else {
-        return UnsignedRead::Torn;
+        return UnsignedRead::Malformed;
     };
     if !tokens::text_at(bytes, after, b".") {
-        return UnsignedRead::Torn;
+        return UnsignedRead::Malformed;
     }
     digits_at(bytes, after + 1, DECIMALS, first)
 }
@@ -75,19 +75,19 @@ pub fn entry_of(line: &[u8]) -> EntryRead
     ensures { λ r. ⌜ entryRead r ≡ readEntry (now (line .entry)) ⌝ }
 {
     let NumberRead::Number(age, after_age) = query::field_at(line, 0, b"age=") else {
-        return EntryRead::Torn;
+        return EntryRead::Malformed;
     };
     if !tokens::text_at(line, after_age, b" q=") {
-        return EntryRead::Torn;
+        return EntryRead::Malformed;
     }
     let UnsignedRead::Unsigned(steps, after_q) = q_at(line, after_age + 3) else {
-        return EntryRead::Torn;
+        return EntryRead::Malformed;
     };
     if !tokens::text_at(line, after_q, b"\n") {
-        return EntryRead::Torn;
+        return EntryRead::Malformed;
     }
     if after_q + 1 < line.len() {
-        return EntryRead::Torn;
+        return EntryRead::Malformed;
     }
     EntryRead::Of(Entry { age, steps })
 }
@@ -111,7 +111,7 @@ fn place(table: &mut [u64; COLUMN_LINES], age: i64, steps: u64) -> bool
     true
 }
 
-// Puts a line's entry into its empty place of the table; false where the line is torn or there is no such place.
+// Puts a line's entry into its empty place of the table; false where the line is malformed or there is no such place.
 fn place_line(table: &mut [u64; COLUMN_LINES], line: &[u8]) -> bool
     ensures { λ r. ⌜ listRead r (now (table .exit)) ≡ withLine (now (table .entry)) (now (line .entry)) ⌝ }
 {

@@ -5,8 +5,8 @@ use mathlib.Core.List.{List, []}
 use Prim.Native.Nat.{ℕ}
 use lib.IntN.{ℤ}
 use Rattle.whole.specs.Table.{listed}
-use Rattle.tokens.specs.Text.{Parse, torn, taken}
-use Rattle.sheet.specs.NumberTrip.{torn-not-taken}
+use Rattle.tokens.specs.Text.{Parse, malformed, taken}
+use Rattle.sheet.specs.NumberTrip.{malformed-not-taken}
 use Rattle.sheet.specs.SheetTrip.{then-taken}
 use Rattle.params.specs.declared.Params.{Params}
 use Rattle.column_text.specs.declared.Entry.{Entry}
@@ -23,27 +23,27 @@ none-after : (es : List Entry) {c rest : List ℕ} → byAge es ≡ taken c rest
 unfolding byAge
 none-after es {c} {rest} = go (eachOnce es)
   where
-    go : (b : Bool) → cond b (taken (listed (stepsOf es) 0 columnLines) []) torn ≡ taken c rest → rest ≡ []
+    go : (b : Bool) → cond b (taken (listed (stepsOf es) 0 columnLines) []) malformed ≡ taken c rest → rest ≡ []
     go true e = cc
-    go false e = torn-not-taken e
+    go false e = malformed-not-taken e
 
 column-alone : (bytes : List ℕ) {c rest : List ℕ} → columnOf bytes ≡ taken c rest → rest ≡ []
 unfolding columnOf
 column-alone bytes e = then-taken (entriesOf bytes) _ e λ es b₀ e₀ f₀. none-after es f₀
 
--- torn bytes have no verdict
-torn-none : {X : Type 0} (p : Params) (year : ℤ) {v : Verdict} → judged p year torn ≡ Of v → X
+-- malformed bytes have no verdict
+malformed-none : {X : Type 0} (p : Params) (year : ℤ) {v : Verdict} → judged p year malformed ≡ Of v → X
 unfolding judged
-torn-none p year {v} e =
-    let g = verdict-given (columnRefusal p year torn) (verdictOf p year (entriesIn torn)) v e in
-    absurd (all-passed p year torn (g .0) .whole)
+malformed-none p year {v} e =
+    let g = verdict-given (columnRefusal p year malformed) (verdictOf p year (entriesIn malformed)) v e in
+    absurd (all-passed p year malformed (g .0) .whole)
 
 pub honest-on : (p : Params) (year : ℤ) (bytes : List ℕ) → HonestOn p year bytes (columnVerdict p year bytes)
 unfolding columnVerdict entriesIn
 honest-on p year bytes = go (columnOf bytes) refl
   where
     go : (q : Parse (List ℕ)) → columnOf bytes ≡ q → HonestOn p year bytes (judged p year q)
-    go torn e = record { right = λ f. torn-none p year f; wrong = λ f. torn-none p year f }
+    go malformed e = record { right = λ f. malformed-none p year f; wrong = λ f. malformed-none p year f }
     go (taken c rest) e =
         let h = verdict-honest p year (taken c rest) in
         let k = e ∙ ap (taken c) (column-alone bytes e) in

@@ -4,10 +4,10 @@ use mathlib.Core.List.{List}
 use Prim.Native.Nat.{ℕ, _+_, _*_, _≤_, _<_}
 use native.Mathlib.Omega.{arith}
 use lib.ListN.{length, length-append}
-use Rattle.tokens.specs.Text.{Parse, torn, taken}
+use Rattle.tokens.specs.Text.{Parse, malformed, taken}
 use Rattle.pieces.specs.Pieces.{Bounded}
 use Rattle.params.specs.declared.Params.{Params}
-use Rattle.params.specs.declared.Refusal.the-variants.{Torn}
+use Rattle.params.specs.declared.Refusal.the-variants.{Malformed}
 use Rattle.kinds.specs.Kinds.{ruleOf, decimalsOf}
 use Rattle.query.specs.declared.Query.{Query}
 use Rattle.query.specs.Query.{queryText, readQuery}
@@ -15,8 +15,8 @@ use Rattle.query.specs.QueryLaws.{query-least, query-most}
 use Rattle.answer_text.specs.AnswerText.{refusalLine}
 use Rattle.answer_text.specs.Sizes.{answer-sized}
 use Rattle.answer_text.specs.Lengths.{refusal-length}
-use Rattle.desk_line.specs.Line.{queryAnswer}
-use Rattle.desk_line.specs.LineLaws.{query-some, decimals-most}
+use Rattle.line_answer.specs.Line.{queryAnswer}
+use Rattle.line_answer.specs.LineLaws.{query-some, decimals-most}
 use Rattle.compare_quotes.specs.declared.Comparison.{Comparison}
 use Rattle.compare_text.specs.Sizes.{SizedComparison, comparison-sized}
 use Rattle.compare_text.specs.Lengths.{comparisonBytes, comparison-length}
@@ -37,10 +37,10 @@ compared-length q c =
     simp length-append (omega (arith, comparison-length (decimalsOf f) c, decimals-most f))
 
 module _ (p p′ : Params) (line : List ℕ) where
-  -- a torn line, and a query
-  pub torn-line : readQuery line ≡ torn → compareLine p p′ line ≡ refusalLine Torn
+  -- a malformed line, and a query
+  pub malformed-line : readQuery line ≡ malformed → compareLine p p′ line ≡ refusalLine Malformed
   unfolding compareLine
-  torn-line e = rw (e, compareLine)
+  malformed-line e = rw (e, compareLine)
 
   pub query-line : {q : Query} {rest : List ℕ} → readQuery line ≡ taken q rest
       → compareLine p p′ line ≡ comparedLine q (queryComparison p p′ q)
@@ -52,14 +52,14 @@ module _ (p p′ : Params) (line : List ℕ) where
   compared-most = go (readQuery line) refl
     where
       go : (r : Parse Query) → readQuery line ≡ r → length (compareLine p p′ line) ≤ mostCompared
-      go torn e = rw (torn-line e) (omega (arith, refusal-length Torn))
+      go malformed e = rw (malformed-line e) (omega (arith, refusal-length Malformed))
       go (taken q rest) e = rw (query-line e) (omega (arith, compared-length q (queryComparison p p′ q), query-most q))
 
   compared-fivefold : 0 < length line → length (compareLine p p′ line) ≤ 5 * length line
   compared-fivefold h = go (readQuery line) refl
     where
       go : (r : Parse Query) → readQuery line ≡ r → length (compareLine p p′ line) ≤ 5 * length line
-      go torn e = rw (torn-line e) (omega (arith, refusal-length Torn))
+      go malformed e = rw (malformed-line e) (omega (arith, refusal-length Malformed))
       go (taken q rest) e =
           rw (query-line e)
           (omega (arith, compared-length q (queryComparison p p′ q), query-least q, query-some line e))

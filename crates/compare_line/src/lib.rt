@@ -25,8 +25,8 @@ fn comparison_to(first: Params, second: Params, query: Query) -> Comparison
     requires { ⌜ T (inLimits first) × T (inLimits second) ⌝ }
     ensures { λ r. ⌜ r ≡ queryComparison first second query ⌝ }
 {
-    let a = desk_line::answer_to(first, true, query);
-    let b = desk_line::answer_to(second, true, query);
+    let a = line_answer::answer_to(first, true, query);
+    let b = line_answer::answer_to(second, true, query);
     compare_quotes::compare(a, b)
 }
 
@@ -50,7 +50,7 @@ pub fn put_line(buffer: &mut [u8], at: usize, first: Params, second: Params, lin
     ensures { λ r. ⌜ Put (now (buffer .entry)) at (compareLine first second (now (line .entry))) (now (buffer .exit)) r ⌝ }
 {
     let QueryRead::Of(query) = query::query_of(line) else {
-        return answer_text::put_refusal(buffer, at, Refusal::Torn);
+        return answer_text::put_refusal(buffer, at, Refusal::Malformed);
     };
     let kind = query.kind;
     let comparison = comparison_to(first, second, query);

@@ -1,7 +1,7 @@
 -- Comparisons of some ends and refusals, by computing the definition.
 use mathlib.Core.Path.{_≡_, refl}
 use Prim.Native.Nat.{ℕ}
-use Rattle.params.specs.declared.Refusal.the-variants.{NoSuchAge, Steep}
+use Rattle.params.specs.declared.Refusal.the-variants.{NoSuchAge, LogForceOutOfRange}
 use Rattle.exact.specs.declared.Figure.the-variants.{Printed, Open}
 use Rattle.path_quotes.specs.declared.Answer.{Answer}
 use Rattle.path_quotes.specs.declared.Answer.the-variants.{Quoted, Refused}
@@ -34,8 +34,8 @@ higher = Quoted (record { lower = 21; upper = 30; figure = Open })
 
 -- both quoted; the first refused, and both; the second refused
 pub answers : (comparisonOf quoted higher ≡ Compared (record { first = Printed 3; second = Open; values = Below }))
-    × (comparisonOf (Refused Steep) quoted ≡ NotCompared Steep)
-    × (comparisonOf (Refused Steep) (Refused NoSuchAge) ≡ NotCompared Steep)
+    × (comparisonOf (Refused LogForceOutOfRange) quoted ≡ NotCompared LogForceOutOfRange)
+    × (comparisonOf (Refused LogForceOutOfRange) (Refused NoSuchAge) ≡ NotCompared LogForceOutOfRange)
     × (comparisonOf quoted (Refused NoSuchAge) ≡ NotCompared NoSuchAge)
 unfolding mostApart valuesOf quotedEnds comparisonOf
 answers = (refl, refl, refl, refl)

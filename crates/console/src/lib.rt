@@ -14,13 +14,13 @@ pub fn empty() -> [u8; MOST_BYTES + 1]
 
 // Prints the run of an input, until all is printed or nothing more can be.
 fn print_run(ends: bool, input: &[u8]) {
-    let begun = desk::begin(input);
+    let begun = query_run::begin(input);
     let sheet = begun.sheet;
     let mut space = io::large_buffer();
     let out: &mut [u8] = &mut space;
     let mut at = begun.next;
     loop {
-        let piece = desk::part(sheet, ends, input, at, out);
+        let piece = query_run::part(sheet, ends, input, at, out);
         if !io::write_all(STDOUT_FILENO, &out[..piece.len]) {
             return;
         }

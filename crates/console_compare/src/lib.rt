@@ -9,7 +9,7 @@ fn print_run(input: &[u8]) {
     let out: &mut [u8] = &mut space;
     let mut at = sheets.next;
     loop {
-        let piece = compare_desk::part(sheets, input, at, out);
+        let piece = compare_run::part(sheets, input, at, out);
         if !io::write_all(STDOUT_FILENO, &out[..piece.len]) {
             return;
         }

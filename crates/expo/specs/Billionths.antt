@@ -1,4 +1,4 @@
--- The grid of 10^-9 (paper 01, "The grid", with paper 02, E4): "z is cut into half steps, z = n·500,000,000 + f, with
+-- The grid of 10^-9 (paper 01, "The grid", with paper 02, E4): "Let z be cut into half steps, z = n·500,000,000 + f, with
 -- constants for n = 0 to 41", [0, 1] from 21 on, lower sums to term 13 and upper sums to term 12, and 28 terms of the
 -- logarithm.
 use mathlib.Core.List.{List, [], _∷_}

@@ -1,7 +1,8 @@
--- The exponential of −z on a grid (paper 01, "The grid", and paper 02, E4), z ≥ 0 in units: "From the cut-off on it is
--- [0, 1]. Below, z = n·step + f. Terms: T0 = unit exactly; Tk = T(k−1)·f/(k·unit), outward. Lower end: even terms' lower
--- ends less odd terms' upper ends, k to the last lower term. Upper end: even uppers less odd lowers, k to the last upper
--- term, capped at the unit. Then multiply by the constant for e to the −(n/steps), over the unit, outward."
+-- The exponential of −z on a grid (paper 01, "The grid", and paper 02, E4), z ≥ 0 in units, with the grid's own numbers for
+-- the paper's: from the cut-off on it is [0, 1]; below, z = n·step + f. T0 is the unit exactly, and Tk = T(k−1)·f/(k·unit),
+-- outward. "Lower end: even terms' lower ends less odd terms' upper ends", k to the last lower term. "Upper end: even uppers
+-- less odd lowers", k to the last upper term, capped at the unit. Then "multiply by the constant" for e to the −(n/steps),
+-- over the unit, outward.
 use mathlib.Core.Bool.{cond}
 use Prim.Native.Nat.{ℕ, zero, suc, _+_, _-_, _*_, _/_, _%_, min}
 use lib.Dec.{ltb}
@@ -54,7 +55,7 @@ sumLower g f = evens (termLower g f) (g .lastLower) - odds (termUpper g f) (g .l
 unfoldable pub sumUpper : Grid → ℕ → ℕ
 sumUpper g f = min (g .unit) (evens (termUpper g f) (g .lastUpper) - odds (termLower g f) (g .lastUpper))
 
--- "That constant is the unit for n = 0; else its lower end is the whole part of unit·e^−(n/steps) and its upper end one
+-- that constant is the unit for n = 0; else its lower end is the whole part of unit·e^−(n/steps), "and its upper end one
 -- more."
 unfoldable pub constantLower : Grid → ℕ → ℕ
 constantLower g n = getD (g .constants) n 0

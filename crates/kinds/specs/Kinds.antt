@@ -15,8 +15,8 @@ use Rattle.kinds.specs.declared.Fold.{Fold}
 use Rattle.kinds.specs.declared.Fold.the-variants.{Death, Survival, Expectancy, Annuity}
 use Rattle.kinds.specs.declared.Rule.{Rule}
 
--- "`q`: one-year death probability, .. year 2014 to 2184. `coh`, `per`: chance to survive a span .., along the cohort or in
--- one calendar year. `ecoh`, `eper`: cohort and period life expectancy. The last four take years 2014 to 2064." A path of
+-- "`q`: one-year death probability, .. year 2014 to 2184." "`coh`, `per`: chance to survive a span .., along the cohort or in
+-- one calendar year." "`ecoh`, `eper`: cohort and period life expectancy." "The last four take years 2014 to 2064." A path of
 -- one cell is the same along the cohort and in one year. "1 paid now and on each 1 January while alive, .. cohort (`acoh`) or
 -- period (`aper`). Years are those of an expectancy."
 unfoldable pub ruleOf : Kind → Rule

@@ -5,11 +5,11 @@ use mathlib.Core.Bool.{Bool, true, false, cond}
 use mathlib.Core.List.{List}
 use lib.Dec.{eqb, leb}
 use lib.ListN.{length}
-use Rattle.params.specs.declared.Refusal.the-variants.{Accepted, Short}
+use Rattle.params.specs.declared.Refusal.the-variants.{Accepted, BufferTooShort}
 use Rattle.params.specs.Refusals.{refusalNumber}
 use Rattle.sheet.specs.declared.Written.{Written}
-use Rattle.desk_line.specs.Into.{textAnswer, Into}
-use Rattle.desk.specs.Desk.{runOf, runRoom}
+use Rattle.line_answer.specs.Into.{textAnswer, Into}
+use Rattle.query_run.specs.QueryRun.{runOf, runRoom}
 use Rattle.set_numbers.specs.SetNumbers.{toldLength}
 use Rattle.set_numbers.specs.AnswerLaws.{Told}
 use Rattle.kulfizan.specs.Run.{withEnds, runNo, runBuffer, runLength}
@@ -26,7 +26,7 @@ told-length : (need : ℕ) (text : List ℕ) (room before : ℕ)
 unfolding toldLength textAnswer refusalNumber
 told-length need text room before = go (leb need room)
   where
-    go : (b : Bool) → cond (eqb (refusalNumber (cond b Accepted Short)) 0) (cond b (length text) 0) before
+    go : (b : Bool) → cond (eqb (refusalNumber (cond b Accepted BufferTooShort)) 0) (cond b (length text) 0) before
         ≡ cond b (length text) before
     go true = refl
     go false = refl

@@ -1,5 +1,5 @@
-// The library's face for programs in other languages: a sheet read into numbers, numbers written as a sheet, a query of a
-// sheet answered, with a rate or without, the verdict on a published column, and the whole run of the desk.
+// The C interface, for programs in other languages: a sheet read into numbers, numbers written as a sheet, a query of a
+// sheet answered, with a rate or without, the verdict on a published column, and the whole run of an input.
 ghost use mathlib.Core.Path.{_≡_};
 ghost use lib.ListN.{length};
 ghost use Rattle.set_numbers.specs.SetNumbers.{readNo, numbersAfter, writeNo, bufferAfter, lengthAfter};
@@ -80,7 +80,7 @@ pub extern "C" fn kulfizan_verdict(sheet: &[u8], year: i64, column: &[u8], verdi
     sheet_verdict::verdict_into(sheet, year, column, verdict)
 }
 
-// Writes the whole run of the desk on an input into the buffer, and its length: as the program `quotes` prints it where
+// Writes the whole run of an input into the buffer, and its length: as the program `quotes` prints it where
 // `ends` is 0, else as `ends` does. 0, or 7 where the buffer has fewer than 5·n + 161 bytes for n bytes of input; refused, the
 // call leaves every byte and the length as they were.
 #[no_mangle]
@@ -89,5 +89,5 @@ pub extern "C" fn kulfizan_run(input: &[u8], ends: u8, out: &mut [u8], len: &mut
     ensures { λ r. ⌜ now (out .exit) ≡ runBuffer (now (input .entry)) ends (now (out .entry)) ⌝ }
     ensures { λ r. ⌜ now (len .exit) ≡ runLength (now (input .entry)) ends (length (now (out .entry))) (now (len .entry)) ⌝ }
 {
-    set_numbers::tell(desk::run(ends != 0, input, out), len)
+    set_numbers::tell(query_run::run(ends != 0, input, out), len)
 }

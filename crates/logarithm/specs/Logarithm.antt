@@ -1,6 +1,6 @@
--- The logarithm's sum on a grid (paper 01, "The grid", closure): "With u the force at y, the sum of u^k/k, k = 1 to 28, powers
--- (u times the power before, over 10^9) and quotients outward; the upper end adds twice the 29th power's upper end over 29,
--- rounded up." The number of terms is the grid's.
+-- The logarithm's sum on a grid (paper 01, "The grid", closure): "With u the force at y, .. the sum of u^k/k, k = 1 to 28,
+-- powers (u times the power before, over 10^9) and quotients outward; the upper end adds twice the 29th power's upper end over
+-- 29, rounded up." The number of terms is the grid's.
 use Prim.Native.Nat.{ℕ, zero, suc, _+_, _*_, _/_}
 use lib.IntN.{pos, _+ℤ_}
 use Rattle.whole.specs.Division.{ceilDivℕ}

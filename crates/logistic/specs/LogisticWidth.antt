@@ -51,9 +51,9 @@ near-algebra : (U E F d K : ℕ) → 0 < U → E ≤ U → 3 * (U * E) ≤ 3 * (
 near-algebra U E F d K p l h = le-of-mul-le-mul-right {k = U} (omega (arith, mul-le-mul-left d l)) p
 
 -- 4·X ≤ P², P not far above Q, and U ≤ Q
-steep : (d D P Q U X : ℕ) → 4 * X ≤ P * P → 3 * P ≤ 3 * Q + D → d * D ≤ 6 * U → U ≤ Q
+out-of-range : (d D P Q U X : ℕ) → 4 * X ≤ P * P → 3 * P ≤ 3 * Q + D → d * D ≤ 6 * U → U ≤ Q
     → 12 * (d * X) ≤ (3 * d + 6) * (P * Q)
-steep d D P Q U X h k l m =
+out-of-range d D P Q U X h k l m =
     omega (arith, mul-le-mul-left (3 * d) h, mul-le-mul-left (d * P) k, mul-le-mul-left P l, mul-le-mul-left (6 * P) m)
 
 fine-first : (d K U : ℕ) → (3 * d + K) * suc (3 * d + K) ≤ 6 * U → d * (3 * d + K) ≤ 6 * U
@@ -66,7 +66,7 @@ core : (U E F d K : ℕ) → 0 < U → E ≤ U → 3 * (U * E) ≤ 3 * (U * F) +
 core U E F d K p l h k =
     let n = near-algebra U E F d K p l h in
     let r : 12 * (d * (U * E)) ≤ (3 * d + 6) * ((U + E) * (U + F)) =
-    steep d (3 * d + K) (U + E) (U + F) U (U * E) (square U E (U - E) (add-sub-of-le l)) (omega arith)
+    out-of-range d (3 * d + K) (U + E) (U + F) U (U * E) (square U E (U - E) (add-sub-of-le l)) (omega arith)
     (fine-first d K U k) (omega arith) in
     omega (arith, mul-le-mul-left (4 * U) h, r)
 

@@ -37,10 +37,10 @@ fn unsigned_at(bytes: &[u8], at: usize) -> UnsignedRead
 {
     let run = digits_at(bytes, at);
     if run.count == 0 || 15 < run.count {
-        return UnsignedRead::Torn;
+        return UnsignedRead::Malformed;
     }
     if 1 < run.count && bytes[at] == b'0' {
-        return UnsignedRead::Torn;
+        return UnsignedRead::Malformed;
     }
     UnsignedRead::Unsigned(run.value, at + run.count)
 }
@@ -61,17 +61,17 @@ pub fn number_at(bytes: &[u8], at: usize) -> NumberRead
     ensures { λ r. ⌜ r ≡ numberAt (now (bytes .entry)) at ⌝ }
 {
     if bytes.len() <= at {
-        return NumberRead::Torn;
+        return NumberRead::Malformed;
     }
     let minus = minus_at(bytes, at);
     let UnsignedRead::Unsigned(value, next) = unsigned_at(bytes, at + minus) else {
-        return NumberRead::Torn;
+        return NumberRead::Malformed;
     };
     if minus == 0 {
         return NumberRead::Number(value as i64, next);
     }
     if value == 0 {
-        return NumberRead::Torn;
+        return NumberRead::Malformed;
     }
     NumberRead::Number(-(value as i64), next)
 }

@@ -1,17 +1,19 @@
 -- The table of refusals: each case's number in the papers, and 0 where nothing is refused.
 use Prim.Native.Nat.{ℕ}
 use Rattle.params.specs.declared.Refusal.{Refusal}
-use Rattle.params.specs.declared.Refusal.the-variants.{Accepted, Torn, OffScale, NoSuchAge, NoSuchYear}
-use Rattle.params.specs.declared.Refusal.the-variants.{NoSuchSpan, Steep, Short, NoSuchRate, TornColumn}
+use Rattle.params.specs.declared.Refusal.the-variants.{Accepted, Malformed, OutOfLimits, NoSuchAge, NoSuchYear}
+use Rattle.params.specs.declared.Refusal.the-variants.{NoSuchSpan, LogForceOutOfRange, BufferTooShort, NoSuchRate, MalformedColumn}
 
+-- of the trade's words "torn" is Malformed, "off scale" OutOfLimits, "steep" LogForceOutOfRange, "short" BufferTooShort and
+-- "torn column" MalformedColumn
 unfoldable pub refusalNumber : Refusal → ℕ
 refusalNumber Accepted = 0
-refusalNumber Torn = 1
-refusalNumber OffScale = 2
+refusalNumber Malformed = 1
+refusalNumber OutOfLimits = 2
 refusalNumber NoSuchAge = 3
 refusalNumber NoSuchYear = 4
 refusalNumber NoSuchSpan = 5
-refusalNumber Steep = 6
-refusalNumber Short = 7
+refusalNumber LogForceOutOfRange = 6
+refusalNumber BufferTooShort = 7
 refusalNumber NoSuchRate = 8
-refusalNumber TornColumn = 9
+refusalNumber MalformedColumn = 9

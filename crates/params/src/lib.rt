@@ -45,18 +45,23 @@ pub struct Age {
     pub beta: i64,
 }
 
-// The papers' refusals, and none.
+// The papers' refusals, and none; where the papers have a word of the trade it is given.
 pub enum Refusal {
     Accepted,
-    Torn,
-    OffScale,
+    // "torn"
+    Malformed,
+    // "off scale"
+    OutOfLimits,
     NoSuchAge,
     NoSuchYear,
     NoSuchSpan,
-    Steep,
-    Short,
+    // "steep"
+    LogForceOutOfRange,
+    // "short"
+    BufferTooShort,
     NoSuchRate,
-    TornColumn,
+    // "torn column"
+    MalformedColumn,
 }
 
 // The number of a refusal in the papers, and 0 where nothing is refused.
@@ -65,15 +70,15 @@ pub fn refusal_number(r: Refusal) -> u8
 {
     match r {
         Refusal::Accepted => 0,
-        Refusal::Torn => 1,
-        Refusal::OffScale => 2,
+        Refusal::Malformed => 1,
+        Refusal::OutOfLimits => 2,
         Refusal::NoSuchAge => 3,
         Refusal::NoSuchYear => 4,
         Refusal::NoSuchSpan => 5,
-        Refusal::Steep => 6,
-        Refusal::Short => 7,
+        Refusal::LogForceOutOfRange => 6,
+        Refusal::BufferTooShort => 7,
         Refusal::NoSuchRate => 8,
-        Refusal::TornColumn => 9,
+        Refusal::MalformedColumn => 9,
     }
 }
 

@@ -2,7 +2,7 @@
 use mathlib.Core.Bool.{cond}
 use Rattle.expo.specs.Billionths.{billionths}
 use Rattle.params.specs.declared.Params.{Params}
-use Rattle.params.specs.declared.Refusal.the-variants.{Steep}
+use Rattle.params.specs.declared.Refusal.the-variants.{LogForceOutOfRange}
 use Rattle.exact.specs.Figure.{figureOf}
 use Rattle.paths.specs.Path.{pathInRange}
 use Rattle.paths.specs.Values.{gridValue}
@@ -17,4 +17,4 @@ unfoldable pub pathAnswer : Params → Fold → Path → Answer
 pathAnswer p fold w =
     let e = gridValue (foldIs fold) billionths p (pathIs w) in
     cond (pathInRange p (pathIs w)) (Quoted (record { lower = e .lower; upper = e .upper; figure = figureOf (stepOf fold) e }))
-    (Refused Steep)
+    (Refused LogForceOutOfRange)

@@ -30,7 +30,7 @@ pub fn answer_along(p: Params, fold: Fold, path: Path) -> Answer
     let count = path.count;
     let worked = factors::factors_of(p, path);
     if !worked.ok {
-        return Answer::Refused(Refusal::Steep);
+        return Answer::Refused(Refusal::LogForceOutOfRange);
     }
     let ends = worked.ends;
     let e = kinds::folded(fold, ends, count);

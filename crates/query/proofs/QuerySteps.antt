@@ -6,12 +6,12 @@ use mathlib.Core.List.{List, []}
 use lib.IntN.{ℤ}
 use lib.ListN.{length, drop, drop-of-length-le}
 use lib.Seq.{drop-cons}
-use Rattle.tokens.specs.Text.{bytesOf, Parse, torn, taken, takeText}
+use Rattle.tokens.specs.Text.{bytesOf, Parse, malformed, taken, takeText}
 use Rattle.tokens.specs.Steps.{andThen, goes, stops}
 use Rattle.kinds.specs.declared.Kind.{Kind}
 use Rattle.query.specs.declared.Query.{Query}
 use Rattle.query.specs.declared.KindRead.{KindRead}
-use Rattle.query.specs.declared.KindRead.the-variants.{Torn, Of}
+use Rattle.query.specs.declared.KindRead.the-variants.{Malformed, Of}
 use Rattle.kinds.specs.Kinds.{takesRate, withRate}
 use Rattle.query.specs.Query.{onOffer, readWord, readField, readRate, alone, readQuery}
 use Rattle.query.specs.Code.{kindRead}
@@ -40,9 +40,9 @@ fromWord bs = andThen (readWord onOffer bs) (λ word rest. fromAge word rest)
 
 -- ---- the start, and the end
 
-pub start-torn : (line : List ℕ) → takeText (bytesOf "kind=") line ≡ torn → readQuery line ≡ torn
+pub start-malformed : (line : List ℕ) → takeText (bytesOf "kind=") line ≡ malformed → readQuery line ≡ malformed
 unfolding readQuery
-start-torn line e = stops _ e
+start-malformed line e = stops _ e
 
 pub start-taken : (line : List ℕ) {u : Unit} {rest : List ℕ} → takeText (bytesOf "kind=") line ≡ taken u rest
     → readQuery line ≡ fromWord rest
@@ -50,7 +50,7 @@ unfolding readQuery
 start-taken line e = goes _ e
 
 -- something follows, or nothing
-pub followed : {A : Type 0} (a : A) (line : List ℕ) (n : ℕ) → n < length line → alone a (drop n line) ≡ torn
+pub followed : {A : Type 0} (a : A) (line : List ℕ) (n : ℕ) → n < length line → alone a (drop n line) ≡ malformed
 unfolding alone
 followed a line n h = rw (drop-cons line n 0 h)
 
@@ -61,15 +61,15 @@ at-end a line n h = rw (drop-of-length-le line h)
 -- ---- a rate
 
 module _ (k : Kind) (bs : List ℕ) where
-  -- none is taken; it is torn; it is read
+  -- none is taken; it is malformed; it is read
   pub rate-none : takesRate k ≡ false → readRate k bs ≡ taken k bs
   unfolding readRate
   rate-none e = rw e
 
   module _ (t : takesRate k ≡ true) where
-    pub rate-torn : readField (bytesOf " rate=") bs ≡ torn → readRate k bs ≡ torn
+    pub rate-malformed : readField (bytesOf " rate=") bs ≡ malformed → readRate k bs ≡ malformed
     unfolding readRate
-    rate-torn e = rw t (stops _ e)
+    rate-malformed e = rw t (stops _ e)
 
     pub rate-taken : {rate : ℤ} {rest : List ℕ} → readField (bytesOf " rate=") bs ≡ taken rate rest
         → readRate k bs ≡ taken (withRate k rate) rest
@@ -79,8 +79,8 @@ module _ (k : Kind) (bs : List ℕ) where
 -- ---- what a result of the code says was read of a kind
 
 module _ (bytes : List ℕ) where
-  pub kind-torn : {r : KindRead} {q : Parse Kind} → kindRead bytes r ≡ q → r ≡ Torn → q ≡ torn
-  kind-torn e f = sym e ∙ ap (kindRead bytes) f
+  pub kind-malformed : {r : KindRead} {q : Parse Kind} → kindRead bytes r ≡ q → r ≡ Malformed → q ≡ malformed
+  kind-malformed e f = sym e ∙ ap (kindRead bytes) f
 
   pub kind-taken : {r : KindRead} {q : Parse Kind} {k : Kind} {next : ℕ} → kindRead bytes r ≡ q → r ≡ Of k next
       → q ≡ taken k (drop next bytes)

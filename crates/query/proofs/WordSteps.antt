@@ -5,12 +5,12 @@ use mathlib.Core.Bool.{Bool, true, false}
 use mathlib.Core.List.{List, _∷_}
 use lib.ListN.{length, drop}
 use Rattle.tokens.specs.declared.NumberRead.{NumberRead}
-use Rattle.tokens.specs.declared.NumberRead.the-variants.{Torn, Number}
-use Rattle.tokens.specs.Text.{torn, taken}
+use Rattle.tokens.specs.declared.NumberRead.the-variants.{Malformed, Number}
+use Rattle.tokens.specs.Text.{malformed, taken}
 use Rattle.tokens.specs.Number.{readNumber}
 use Rattle.tokens.specs.Places.{textAt, numberAt, numberRead}
 use Rattle.tokens.specs.TextLaws.{text-found, text-missing}
-use Rattle.tokens.specs.NumberLaws.{number-found, number-torn}
+use Rattle.tokens.specs.NumberLaws.{number-found, number-malformed}
 use Rattle.tokens.specs.Steps.{goes, stops}
 use Rattle.kinds.specs.declared.Kind.{Kind}
 use Rattle.query.specs.Query.{wordOf, readWord, readField}
@@ -18,7 +18,7 @@ use Rattle.query.specs.Query.{wordOf, readWord, readField}
 -- the number that the code's result at a place says was read
 number-said : (bytes : List ℕ) (at : ℕ) (r : NumberRead) → r ≡ numberAt bytes at
     → numberRead bytes r ≡ readNumber (drop at bytes)
-number-said bytes at Torn e = sym (number-torn bytes at (sym e))
+number-said bytes at Malformed e = sym (number-malformed bytes at (sym e))
 number-said bytes at (Number v next) e = sym (number-found bytes at (sym e))
 
 module _ (bytes : List ℕ) (at : ℕ) where
@@ -36,7 +36,7 @@ module _ (bytes : List ℕ) (at : ℕ) where
 
   -- a field's name is missing, or its number follows
   module _ (name : List ℕ) where
-    pub name-missing : textAt bytes at name ≡ false → readField name (drop at bytes) ≡ torn
+    pub name-missing : textAt bytes at name ≡ false → readField name (drop at bytes) ≡ malformed
     unfolding readField
     name-missing h = stops _ (text-missing bytes at name h)
 

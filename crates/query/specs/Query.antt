@@ -5,7 +5,7 @@ use Prim.Native.Nat.{ℕ}
 use mathlib.Core.Bool.{cond}
 use mathlib.Core.List.{List, [], _∷_, _++_}
 use lib.IntN.{ℤ, pos}
-use Rattle.tokens.specs.Text.{bytesOf, Parse, torn, taken, takeText}
+use Rattle.tokens.specs.Text.{bytesOf, Parse, malformed, taken, takeText}
 use Rattle.tokens.specs.Number.{readNumber, numberText}
 use Rattle.tokens.specs.Steps.{andThen}
 use Rattle.kinds.specs.declared.Kind.{Kind}
@@ -50,14 +50,14 @@ queryText q =
 
 -- the kind whose word stands at the front
 unfoldable pub readWord : List Kind → List ℕ → Parse Kind
-readWord [] bs = torn
-readWord (k ∷ ks) bs = elim (takeText (wordOf k) bs) [ torn ↦ readWord ks bs | taken u rest ↦ taken k rest ]
+readWord [] bs = malformed
+readWord (k ∷ ks) bs = elim (takeText (wordOf k) bs) [ malformed ↦ readWord ks bs | taken u rest ↦ taken k rest ]
 
 -- a name, and the number behind it
 unfoldable pub readField : List ℕ → List ℕ → Parse ℤ
 readField name bs = andThen (takeText name bs) (λ u rest. readNumber rest)
 
--- "A line of these kinds without `rate=`, or of another kind with it, is torn": the kind with the rate that stands at the
+-- a line of these kinds without ` rate=`, or of another kind with it, is malformed: the kind with the rate that stands at the
 -- front; of a kind that takes none nothing is read
 unfoldable pub readRate : Kind → List ℕ → Parse Kind
 readRate k bs =
@@ -67,7 +67,7 @@ readRate k bs =
 -- a value that nothing follows
 unfoldable pub alone : {A : Type 0} → A → List ℕ → Parse A
 alone a [] = taken a []
-alone a (b ∷ bs) = torn
+alone a (b ∷ bs) = malformed
 
 -- the query of a whole line
 unfoldable pub readQuery : List ℕ → Parse Query

@@ -9,12 +9,12 @@ use lib.Dec.{T, lit<}
 use lib.IntN.{ℤ, natAbs}
 use lib.ListN.{length, length-append}
 use Rattle.whole.specs.Clash.{clash}
-use Rattle.tokens.specs.Text.{bytesOf, Parse, torn, taken, takeText}
+use Rattle.tokens.specs.Text.{bytesOf, Parse, malformed, taken, takeText}
 use Rattle.tokens.specs.Number.{mostDigits, isDigit, numberText}
 use Rattle.tokens.specs.TextLaws.{takeText-split, takeText-whole}
 use Rattle.tokens.specs.DecimalLaws.{number-length}
 use Rattle.tokens.specs.Steps.{andThen, goes}
-use Rattle.sheet.specs.NumberTrip.{noDigitFirst, torn-not-taken, number-reads, number-read}
+use Rattle.sheet.specs.NumberTrip.{noDigitFirst, malformed-not-taken, number-reads, number-read}
 use Rattle.sheet.specs.SheetTrip.{then-taken}
 use Rattle.kinds.specs.declared.Kind.{Kind}
 use Rattle.kinds.specs.declared.Kind.the-variants.{Death, CohortSurvival, PeriodSurvival, CohortExpectancy, PeriodExpectancy}
@@ -38,13 +38,13 @@ word-reads (PeriodAnnuity rate) rest = refl
 
 word-read : (ks : List Kind) (bs : List ℕ) {k : Kind} {rest : List ℕ} → readWord ks bs ≡ taken k rest → bs ≡ wordOf k ++ rest
 unfolding readWord
-word-read [] bs e = torn-not-taken e
+word-read [] bs e = malformed-not-taken e
 word-read (k′ ∷ ks) bs {k} {rest} e = go (λ q. word-read ks bs q) (takeText (wordOf k′) bs) refl e
   where
     go : (readWord ks bs ≡ taken k rest → bs ≡ wordOf k ++ rest) → (p : Parse Unit) → takeText (wordOf k′) bs ≡ p
-        → _≡_ {A = Parse Kind} (elim p [ torn ↦ readWord ks bs | taken u after ↦ taken k′ after ]) (taken k rest)
+        → _≡_ {A = Parse Kind} (elim p [ malformed ↦ readWord ks bs | taken u after ↦ taken k′ after ]) (taken k rest)
         → bs ≡ wordOf k ++ rest
-    go ih torn t q = ih q
+    go ih malformed t q = ih q
     go ih (taken u after) t q =
         let x : k′ ≡ k = cc in
         let y : after ≡ rest = cc in
@@ -188,7 +188,7 @@ query-apart q rest = simp append-assoc
 pub alone-taken : {A : Type 0} (a : A) (bs : List ℕ) {b : A} {rest : List ℕ} → alone a bs ≡ taken b rest → (bs ≡ []) × (a ≡ b)
 unfolding alone
 alone-taken a [] e = (refl, cc)
-alone-taken a (c ∷ bs) e = torn-not-taken e
+alone-taken a (c ∷ bs) e = malformed-not-taken e
 
 line-read : (line : List ℕ) {q : Query} {rest : List ℕ} → readQuery line ≡ taken q rest → LineOf q line
 unfolding readQuery

@@ -1,8 +1,8 @@
--- Query lines that are read and query lines that are torn, by computation.
+-- Query lines that are read and query lines that are malformed, by computation.
 use mathlib.Core.Path.{_≡_, refl}
 use mathlib.Core.List.{[]}
 use lib.IntN.{pos, negsuc}
-use Rattle.tokens.specs.Text.{bytesOf, torn, taken, takeText}
+use Rattle.tokens.specs.Text.{bytesOf, malformed, taken, takeText}
 use Rattle.tokens.specs.Number.{isDigit, digits, afterDigits, valueFrom, noLeadingZero, wellFormed}
 use Rattle.tokens.specs.Number.{readUnsigned, negated, positive, readNumber}
 use Rattle.kinds.specs.declared.Kind.the-variants.{Death, CohortExpectancy, CohortAnnuity, PeriodAnnuity}
@@ -37,54 +37,54 @@ unfolding bytesOf takeText wordOf onOffer takesRate withRate readWord readField 
     afterDigits valueFrom noLeadingZero wellFormed readUnsigned negated positive readNumber
 rate-below-zero = refl
 
--- ---- torn
+-- ---- malformed
 
 -- no line feed, and a byte after it
-no-line-feed : readQuery (bytesOf "kind=q age=65 year=2020 span=0") ≡ torn
+no-line-feed : readQuery (bytesOf "kind=q age=65 year=2020 span=0") ≡ malformed
 unfolding bytesOf takeText wordOf onOffer takesRate withRate readWord readField readRate alone readQuery isDigit digits
     afterDigits valueFrom noLeadingZero wellFormed readUnsigned negated positive readNumber
 no-line-feed = refl
 
-byte-after : readQuery (bytesOf "kind=q age=65 year=2020 span=0\n\n") ≡ torn
+byte-after : readQuery (bytesOf "kind=q age=65 year=2020 span=0\n\n") ≡ malformed
 unfolding bytesOf takeText wordOf onOffer takesRate withRate readWord readField readRate alone readQuery isDigit digits
     afterDigits valueFrom noLeadingZero wellFormed readUnsigned negated positive readNumber
 byte-after = refl
 
 -- leading zeros
-leading-zeros : readQuery (bytesOf "kind=q age=007 year=2020 span=0\n") ≡ torn
+leading-zeros : readQuery (bytesOf "kind=q age=007 year=2020 span=0\n") ≡ malformed
 unfolding bytesOf takeText wordOf onOffer takesRate withRate readWord readField readRate alone readQuery isDigit digits
     afterDigits valueFrom noLeadingZero wellFormed readUnsigned negated positive readNumber
 leading-zeros = refl
 
 -- two blanks
-two-blanks : readQuery (bytesOf "kind=q  age=65 year=2020 span=0\n") ≡ torn
+two-blanks : readQuery (bytesOf "kind=q  age=65 year=2020 span=0\n") ≡ malformed
 unfolding bytesOf takeText wordOf onOffer takesRate withRate readWord readField readRate alone readQuery isDigit digits
     afterDigits valueFrom noLeadingZero wellFormed readUnsigned negated positive readNumber
 two-blanks = refl
 
 -- a word that is no kind's, and a kind's word with a byte after it
-capital : readQuery (bytesOf "kind=Q age=65 year=2020 span=0\n") ≡ torn
+capital : readQuery (bytesOf "kind=Q age=65 year=2020 span=0\n") ≡ malformed
 unfolding bytesOf takeText wordOf onOffer takesRate withRate readWord readField readRate alone readQuery isDigit digits
     afterDigits valueFrom noLeadingZero wellFormed readUnsigned negated positive readNumber
 capital = refl
 
-longer-word : readQuery (bytesOf "kind=qx age=65 year=2020 span=0\n") ≡ torn
+longer-word : readQuery (bytesOf "kind=qx age=65 year=2020 span=0\n") ≡ malformed
 unfolding bytesOf takeText wordOf onOffer takesRate withRate readWord readField readRate alone readQuery isDigit digits
     afterDigits valueFrom noLeadingZero wellFormed readUnsigned negated positive readNumber
 longer-word = refl
 
--- "A line of these kinds without `rate=`, or of another kind with it, is torn"
-no-rate : readQuery (bytesOf "kind=acoh age=65 year=2020 span=0\n") ≡ torn
+-- an annuity without ` rate=`, and another kind with it
+no-rate : readQuery (bytesOf "kind=acoh age=65 year=2020 span=0\n") ≡ malformed
 unfolding bytesOf takeText wordOf onOffer takesRate withRate readWord readField readRate alone readQuery isDigit digits
     afterDigits valueFrom noLeadingZero wellFormed readUnsigned negated positive readNumber
 no-rate = refl
 
-rate-of-another : readQuery (bytesOf "kind=q age=65 year=2020 span=0 rate=30000\n") ≡ torn
+rate-of-another : readQuery (bytesOf "kind=q age=65 year=2020 span=0 rate=30000\n") ≡ malformed
 unfolding bytesOf takeText wordOf onOffer takesRate withRate readWord readField readRate alone readQuery isDigit digits
     afterDigits valueFrom noLeadingZero wellFormed readUnsigned negated positive readNumber
 rate-of-another = refl
 
-rate-twice : readQuery (bytesOf "kind=aper age=65 year=2020 span=0 rate=30000 rate=30000\n") ≡ torn
+rate-twice : readQuery (bytesOf "kind=aper age=65 year=2020 span=0 rate=30000 rate=30000\n") ≡ malformed
 unfolding bytesOf takeText wordOf onOffer takesRate withRate readWord readField readRate alone readQuery isDigit digits
     afterDigits valueFrom noLeadingZero wellFormed readUnsigned negated positive readNumber
 rate-twice = refl

@@ -18,13 +18,13 @@ pub struct Query {
 
 // A kind whose word was read, with the place after it.
 pub enum KindRead {
-    Torn,
+    Malformed,
     Of(Kind, usize),
 }
 
 // A query that was read.
 pub enum QueryRead {
-    Torn,
+    Malformed,
     Of(Query),
 }
 
@@ -83,7 +83,7 @@ pub fn kind_at(bytes: &[u8], at: usize) -> KindRead
     if tokens::text_at(bytes, at, b"aper") {
         return KindRead::Of(Kind::PeriodAnnuity(0), at + 4);
     }
-    KindRead::Torn
+    KindRead::Malformed
 }
 
 // The number behind a name at a place.
@@ -92,7 +92,7 @@ pub fn field_at(bytes: &[u8], at: usize, name: &[u8]) -> NumberRead
         ≡ readField (now (name .entry)) (drop at (now (bytes .entry))) ⌝ }
 {
     if !tokens::text_at(bytes, at, name) {
-        return NumberRead::Torn;
+        return NumberRead::Malformed;
     }
     numbers::number_at(bytes, at + name.len())
 }
@@ -105,7 +105,7 @@ fn rate_at(bytes: &[u8], at: usize, kind: Kind) -> KindRead
         return KindRead::Of(kind, at);
     }
     let NumberRead::Number(rate, next) = field_at(bytes, at, b" rate=") else {
-        return KindRead::Torn;
+        return KindRead::Malformed;
     };
     KindRead::Of(with_rate(kind, rate), next)
 }
@@ -115,28 +115,28 @@ pub fn query_of(line: &[u8]) -> QueryRead
     ensures { λ r. ⌜ queryRead r ≡ readQuery (now (line .entry)) ⌝ }
 {
     if !tokens::text_at(line, 0, b"kind=") {
-        return QueryRead::Torn;
+        return QueryRead::Malformed;
     }
     let KindRead::Of(word, after_word) = kind_at(line, 5) else {
-        return QueryRead::Torn;
+        return QueryRead::Malformed;
     };
     let NumberRead::Number(age, after_age) = field_at(line, after_word, b" age=") else {
-        return QueryRead::Torn;
+        return QueryRead::Malformed;
     };
     let NumberRead::Number(year, after_year) = field_at(line, after_age, b" year=") else {
-        return QueryRead::Torn;
+        return QueryRead::Malformed;
     };
     let NumberRead::Number(span, after_span) = field_at(line, after_year, b" span=") else {
-        return QueryRead::Torn;
+        return QueryRead::Malformed;
     };
     let KindRead::Of(kind, after_rate) = rate_at(line, after_span, word) else {
-        return QueryRead::Torn;
+        return QueryRead::Malformed;
     };
     if !tokens::text_at(line, after_rate, b"\n") {
-        return QueryRead::Torn;
+        return QueryRead::Malformed;
     }
     if after_rate + 1 < line.len() {
-        return QueryRead::Torn;
+        return QueryRead::Malformed;
     }
     QueryRead::Of(Query {
         kind,

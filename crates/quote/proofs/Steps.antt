@@ -12,7 +12,7 @@ use Rattle.whole.specs.Bound.{Under, under-pos}
 use Rattle.whole.specs.Split.{split, split-sub}
 use Rattle.params.specs.declared.Params.{Params}
 use Rattle.params.specs.declared.Refusal.{Refusal}
-use Rattle.params.specs.declared.Refusal.the-variants.{Accepted, OffScale, Steep}
+use Rattle.params.specs.declared.Refusal.the-variants.{Accepted, OutOfLimits, LogForceOutOfRange}
 use Rattle.params.specs.Limits.{inLimits, startYear, lastYears}
 use Rattle.params.specs.Refusals.{refusalNumber}
 use Rattle.paths.specs.Path.{pathInRange}
@@ -55,9 +55,9 @@ first-passed t ts h = rw (is-true (t .passed) h)
 
 module _ (p : Params) (k : Kind) (age year span : ℤ) where
   -- a set out of its limits
-  off-scale : inLimits p ≡ false → refusalOf p k age year span ≡ OffScale
+  out-of-limits : inLimits p ≡ false → refusalOf p k age year span ≡ OutOfLimits
   unfolding refusalOf firstFailed
-  off-scale e = rw e
+  out-of-limits e = rw e
 
   -- the table refuses
   pub table-refuses : T (inLimits p) → (firstFailed (tableTests (ruleOf k) age year span) ≡ Accepted → ⊥)
@@ -67,7 +67,7 @@ module _ (p : Params) (k : Kind) (age year span : ℤ) where
 
   -- the table has it, so the cells decide
   pub cells-decide : T (inLimits p) → InTable (ruleOf k) age year span
-      → refusalOf p k age year span ≡ cond (pathInRange p (queryPath k age year span)) Accepted Steep
+      → refusalOf p k age year span ≡ cond (pathInRange p (queryPath k age year span)) Accepted LogForceOutOfRange
   unfolding refusalOf firstFailed tableTests
   cells-decide t h =
       rw (
@@ -80,7 +80,7 @@ module _ (p : Params) (k : Kind) (age year span : ℤ) where
 
 -- ---- the answer to a query, by that along its path
 
-decided : (b : Bool) (q : Quote) → cond b (Quoted q) (Refused Steep) ≡ answerBy (cond b Accepted Steep) q
+decided : (b : Bool) (q : Quote) → cond b (Quoted q) (Refused LogForceOutOfRange) ≡ answerBy (cond b Accepted LogForceOutOfRange) q
 unfolding answerBy refusalNumber
 decided true q = refl
 decided false q = refl
@@ -96,10 +96,10 @@ pub years-under : (k : Kind) → Under (ruleOf k .years) lastYears
 years-under k = let w = kind-within k in rw (w .years-are) (under-pos (w .last))
 
 -- a set out of its limits
-pub refused-off-scale : (p : Params) (k : Kind) (age year span : ℤ) → inLimits p ≡ false
-    → Refused OffScale ≡ answerOf p k age year span
+pub refused-out-of-limits : (p : Params) (k : Kind) (age year span : ℤ) → inLimits p ≡ false
+    → Refused OutOfLimits ≡ answerOf p k age year span
 unfolding answerOf answerBy refusalNumber
-refused-off-scale p k age year span e = rw (off-scale p k age year span e)
+refused-out-of-limits p k age year span e = rw (out-of-limits p k age year span e)
 
 -- an answer that is the definition's meets demand 3
 pub met : {p : Params} {k : Kind} {age year span : ℤ} {a : Answer} → a ≡ answerOf p k age year span

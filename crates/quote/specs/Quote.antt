@@ -9,7 +9,7 @@ use Rattle.expo.specs.Grid.{Ends}
 use Rattle.expo.specs.Billionths.{billionths}
 use Rattle.params.specs.declared.Params.{Params}
 use Rattle.params.specs.declared.Refusal.{Refusal}
-use Rattle.params.specs.declared.Refusal.the-variants.{OffScale, Steep}
+use Rattle.params.specs.declared.Refusal.the-variants.{OutOfLimits, LogForceOutOfRange}
 use Rattle.params.specs.Refusals.{refusalNumber}
 use Rattle.params.specs.Limits.{inLimits, startYear}
 use Rattle.exact.specs.Value.{Exact}
@@ -44,8 +44,8 @@ exactQuery p kind age year span = exactValue (foldIs (ruleOf kind .fold)) p (que
 unfoldable pub refusalOf : Params → Kind → ℤ → ℤ → ℤ → Refusal
 refusalOf p kind age year span =
     firstFailed
-    (record { passed = inLimits p; refusal = OffScale } ∷ tableTests (ruleOf kind) age year span
-    ++ (record { passed = pathInRange p (queryPath kind age year span); refusal = Steep } ∷ []))
+    (record { passed = inLimits p; refusal = OutOfLimits } ∷ tableTests (ruleOf kind) age year span
+    ++ (record { passed = pathInRange p (queryPath kind age year span); refusal = LogForceOutOfRange } ∷ []))
 
 unfoldable pub quoteOf : Params → Kind → ℤ → ℤ → ℤ → Quote
 quoteOf p kind age year span =

@@ -39,7 +39,7 @@ pub fn quote_of(p: Params, kind: Kind, age: i64, year: i64, span: i64) -> Answer
     ensures honest { λ r. ⌜ Demand3 p kind age year span r ⌝ }
 {
     if !limits::in_limits(p) {
-        return Answer::Refused(Refusal::OffScale);
+        return Answer::Refused(Refusal::OutOfLimits);
     }
     quote_within(p, kind, age, year, span)
 }

@@ -12,7 +12,7 @@ use lib.Seq.{take-append-seam}
 use Rattle.tokens.specs.Text.{bytesOf, takeText}
 use Rattle.params.specs.declared.Params.{Params}
 use Rattle.params.specs.declared.Refusal.{Refusal}
-use Rattle.params.specs.declared.Refusal.the-variants.{Accepted, Torn, OffScale, Short}
+use Rattle.params.specs.declared.Refusal.the-variants.{Accepted, Malformed, OutOfLimits, BufferTooShort}
 use Rattle.sheet.specs.declared.Reading.{Reading}
 use Rattle.sheet.specs.declared.Written.{Written}
 use Rattle.params.specs.Refusals.{refusalNumber}
@@ -27,10 +27,10 @@ use Rattle.round_trip.specs.Trips.{accepted, readBack, copies, copied, c
 
 -- ---- a set
 
--- an empty input is torn
-empty-torn : readSheet [] ≡ refused Torn
+-- an empty input is malformed
+empty-malformed : readSheet [] ≡ refused Malformed
 unfolding readSheet readSet readHead headText bytesOf takeText judged
-empty-torn = refl
+empty-malformed = refl
 
 -- what was written is within the buffer
 pub written-within : (p : Params) (buffer : List ℕ) {answer : Written} {after : List ℕ}
@@ -54,12 +54,12 @@ read-back p w buffer (e, f) = rw (e, f) (go (inLimits p) refl (leb (length (shee
     go : (c : Bool) → inLimits p ≡ c → (d : Bool)
         → readSheet (take (cond c (cond d (length (sheetText p)) 0) 0)
         (cond c (cond d (sheetText p ++ drop (length (sheetText p)) buffer) buffer) buffer))
-        ≡ cond (eqb (refusalNumber (cond c (cond d Accepted Short) OffScale)) 0)
-        (record { refusal = Accepted; set = p }) (refused Torn)
+        ≡ cond (eqb (refusalNumber (cond c (cond d Accepted BufferTooShort) OutOfLimits)) 0)
+        (record { refusal = Accepted; set = p }) (refused Malformed)
     go true q true =
         rw (take-append-seam (sheetText p) (drop (length (sheetText p)) buffer)) (written-reads-back p w (rw q tt))
-    go true q false = empty-torn
-    go false q d = empty-torn
+    go true q false = empty-malformed
+    go false q d = empty-malformed
 
 -- ---- a sheet
 

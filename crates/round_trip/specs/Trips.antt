@@ -6,7 +6,7 @@ use lib.Dec.{eqb, leb}
 use lib.ListN.{length, drop}
 use Rattle.params.specs.declared.Params.{Params}
 use Rattle.params.specs.declared.Refusal.{Refusal}
-use Rattle.params.specs.declared.Refusal.the-variants.{Accepted, Torn, Short}
+use Rattle.params.specs.declared.Refusal.the-variants.{Accepted, Malformed, BufferTooShort}
 use Rattle.sheet.specs.declared.Reading.{Reading}
 use Rattle.sheet.specs.declared.Written.{Written}
 use Rattle.params.specs.Refusals.{refusalNumber}
@@ -18,9 +18,9 @@ accepted r = eqb (refusalNumber r) 0
 
 -- ---- a set
 
--- where the writer accepts, the same set; elsewhere it wrote nothing, and an empty input is torn
+-- where the writer accepts, the same set; elsewhere it wrote nothing, and an empty input is malformed
 unfoldable pub readBack : Params → ℕ → Reading
-readBack p room = cond (accepted (writeRefusal p room)) (record { refusal = Accepted; set = p }) (refused Torn)
+readBack p room = cond (accepted (writeRefusal p room)) (record { refusal = Accepted; set = p }) (refused Malformed)
 
 -- ---- a sheet
 
@@ -35,7 +35,7 @@ copied bs buffer = cond (copies bs (length buffer)) (bs ++ drop (length bs) buff
 -- the reader's refusal, or short
 unfoldable pub copyRefusal : List ℕ → ℕ → Refusal
 copyRefusal bs room =
-    cond (accepted (readSheet bs .refusal)) (cond (leb (length bs) room) Accepted Short) (readSheet bs .refusal)
+    cond (accepted (readSheet bs .refusal)) (cond (leb (length bs) room) Accepted BufferTooShort) (readSheet bs .refusal)
 
 unfoldable pub copyAnswer : List ℕ → ℕ → Written
 copyAnswer bs room = record { refusal = copyRefusal bs room; len = cond (copies bs room) (length bs) 0 }

@@ -13,7 +13,7 @@ use mir.Syntax.{w64}
 use mir.Val.{SFits, ofZ}
 use Rattle.params.specs.declared.Params.{Params}
 use Rattle.params.specs.declared.Sex.the-variants.{M, F}
-use Rattle.params.specs.declared.Refusal.the-variants.{Accepted, Torn, OffScale, Short}
+use Rattle.params.specs.declared.Refusal.the-variants.{Accepted, Malformed, OutOfLimits, BufferTooShort}
 use Rattle.params.specs.Refusals.{refusalNumber}
 use Rattle.params.specs.Limits.{inLimits}
 use Rattle.sheet.specs.declared.Reading.{Reading}
@@ -91,7 +91,7 @@ module _ (sheet : List ℕ) (before : List ℤ) {got : Reading} (e : got ≡ rea
   unfolding readNo numbersAfter
   read-refused h = let q = ne-eqb no 0 h in (rw (is, q), rw (is, q, q))
 
-  pub read-short : no ≡ 0 → length before < setLength → {short : ℕ} → short ≡ refusalNumber Short
+  pub read-short : no ≡ 0 → length before < setLength → {short : ℕ} → short ≡ refusalNumber BufferTooShort
       → Read sheet before short before
   unfolding readNo numbersAfter refusalNumber
   read-short h s k = let q = lt-leb setLength (length before) s in (rw (is, h, q) k, rw (is, h, q))
@@ -110,10 +110,10 @@ abbrev pub Wrote : List ℤ → List ℕ → ℕ → ℕ → List ℕ → ℕ �
 Wrote ns buffer len answer after told =
     (answer ≡ writeNo ns (length buffer)) × ((after ≡ bufferAfter ns buffer) × (told ≡ lengthAfter ns (length buffer) len))
 
-pub write-torn : (ns : List ℤ) (buffer : List ℕ) (len : ℕ) → areSet ns ≡ false → {no : ℕ} → no ≡ refusalNumber Torn
+pub write-malformed : (ns : List ℤ) (buffer : List ℕ) (len : ℕ) → areSet ns ≡ false → {no : ℕ} → no ≡ refusalNumber Malformed
     → Wrote ns buffer len no buffer len
 unfolding writeNo bufferAfter lengthAfter refusalNumber
-write-torn ns buffer len e n = (n ∙ rw e, (rw e, rw e))
+write-malformed ns buffer len e n = (n ∙ rw e, (rw e, rw e))
 
 -- the number of a writer's answer, and the length told
 abbrev pub Told : Written → ℕ → ℕ → ℕ → Type 0
@@ -134,7 +134,7 @@ told-length : (p : Params) (room before : ℕ) → toldLength (writeAnswer p roo
 unfolding toldLength writeAnswer writeRefusal writtenLength refusalNumber
 told-length p room before = go (inLimits p) (leb (length (sheetText p)) room)
   where
-    go : (a b : Bool) → let no = refusalNumber (cond a (cond b Accepted Short) OffScale) in
+    go : (a b : Bool) → let no = refusalNumber (cond a (cond b Accepted BufferTooShort) OutOfLimits) in
         cond (eqb no 0) (cond a (cond b (length (sheetText p)) 0) 0) before ≡ cond (eqb no 0) (length (sheetText p)) before
     go true true = refl
     go true false = refl

@@ -13,8 +13,8 @@ use Rattle.params.specs.declared.Params.{Params}
 use Rattle.params.specs.declared.Sex.{Sex}
 use Rattle.params.specs.declared.Sex.the-variants.{M, F}
 use Rattle.params.specs.declared.Refusal.{Refusal}
-use Rattle.params.specs.declared.Refusal.the-variants.{Accepted, Torn, OffScale}
-use Rattle.params.specs.declared.Refusal.the-variants.{Short}
+use Rattle.params.specs.declared.Refusal.the-variants.{Accepted, Malformed, OutOfLimits}
+use Rattle.params.specs.declared.Refusal.the-variants.{BufferTooShort}
 use Rattle.params.specs.Refusals.{refusalNumber}
 use Rattle.params.specs.RefusalLaws.{accepted}
 use Rattle.params.specs.Set.{Whole}
@@ -67,7 +67,7 @@ accepted-set : (ns : List ℤ) (room : ℕ) → writeNo ns room ≡ 0 → (areSe
 unfolding writeNo writeRefusal refusalNumber
 accepted-set ns room e = go (areSet ns) (inLimits (setOf ns)) (leb (length (sheetText (setOf ns))) room) e
   where
-    go : (a b c : Bool) → refusalNumber (cond a (cond b (cond c Accepted Short) OffScale) Torn) ≡ 0 → (a ≡ true) × T b
+    go : (a b c : Bool) → refusalNumber (cond a (cond b (cond c Accepted BufferTooShort) OutOfLimits) Malformed) ≡ 0 → (a ≡ true) × T b
     go true true c e = (refl, tt)
     go true false c e = absurd (omega arith)
     go false b c e = absurd (omega arith)
@@ -89,7 +89,7 @@ accepted-sheet : (sheet : List ℕ) (places : ℕ) → readNo sheet places ≡ 0
 unfolding readNo
 accepted-sheet sheet places e = accepted (readSheet sheet .refusal) (go (refusalNumber (readSheet sheet .refusal)) e)
   where
-    go : (n : ℕ) → cond (eqb n 0) (cond (leb setLength places) 0 (refusalNumber Short)) n ≡ 0 → n ≡ 0
+    go : (n : ℕ) → cond (eqb n 0) (cond (leb setLength places) 0 (refusalNumber BufferTooShort)) n ≡ 0 → n ≡ 0
     go zero e = refl
     go (suc n) e = rw (ne-eqb (suc n) 0 (λ q. omega arith)) at e
 

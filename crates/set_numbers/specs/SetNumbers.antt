@@ -9,7 +9,7 @@ use lib.ListN.{length, getD, take, drop}
 use Rattle.params.specs.declared.Params.{Params}
 use Rattle.params.specs.declared.Sex.{Sex}
 use Rattle.params.specs.declared.Sex.the-variants.{M, F}
-use Rattle.params.specs.declared.Refusal.the-variants.{Torn, Short}
+use Rattle.params.specs.declared.Refusal.the-variants.{Malformed, BufferTooShort}
 use Rattle.params.specs.Refusals.{refusalNumber}
 use Rattle.sheet.specs.declared.Written.{Written}
 use Rattle.sheet.specs.Sheet.{values, paramsOf, sheetText, readSheet, writeRefusal, writtenBuffer}
@@ -59,7 +59,7 @@ setOver p before = setNumbers p ++ drop setLength before
 unfoldable pub readNo : List ℕ → ℕ → ℕ
 readNo sheet places =
     let no = refusalNumber (readSheet sheet .refusal) in
-    cond (eqb no 0) (cond (leb setLength places) 0 (refusalNumber Short)) no
+    cond (eqb no 0) (cond (leb setLength places) 0 (refusalNumber BufferTooShort)) no
 
 -- "untouched buffers" where the call is refused
 unfoldable pub numbersAfter : List ℕ → List ℤ → List ℤ
@@ -71,9 +71,9 @@ numbersAfter sheet before = cond (eqb (readNo sheet (length before)) 0) (setOver
 unfoldable pub toldLength : Written → ℕ → ℕ
 toldLength got before = cond (eqb (refusalNumber (got .refusal)) 0) (got .len) before
 
--- torn where the numbers are no set's, else the writer's refusal
+-- malformed where the numbers are no set's, else the writer's refusal
 unfoldable pub writeNo : List ℤ → ℕ → ℕ
-writeNo ns room = refusalNumber (cond (areSet ns) (writeRefusal (setOf ns) room) Torn)
+writeNo ns room = refusalNumber (cond (areSet ns) (writeRefusal (setOf ns) room) Malformed)
 
 unfoldable pub bufferAfter : List ℤ → List ℕ → List ℕ
 bufferAfter ns buffer = cond (areSet ns) (writtenBuffer (setOf ns) buffer) buffer

@@ -78,7 +78,7 @@ pub fn read_into(sheet: &[u8], values: &mut [i64]) -> u8
         return number;
     }
     if values.len() < SET_LENGTH {
-        return params::refusal_number(Refusal::Short);
+        return params::refusal_number(Refusal::BufferTooShort);
     }
     put_set(values, set);
     number
@@ -165,7 +165,7 @@ pub fn write_from(values: &[i64], buffer: &mut [u8], len: &mut u64) -> u8
     ensures { λ r. ⌜ now (len .exit) ≡ lengthAfter (now (values .entry)) (length (now (buffer .entry))) (now (len .entry)) ⌝ }
 {
     if !are_set(values) {
-        return params::refusal_number(Refusal::Torn);
+        return params::refusal_number(Refusal::Malformed);
     }
     tell(sheet_writer::write(set_of(values), buffer), len)
 }

@@ -14,7 +14,7 @@ use lib.Ieee.Fits.{and-i, and-l}
 use lib.IntN.{ℤ, pos, negsuc, natAbs}
 use lib.ListN.{length}
 use Rattle.whole.specs.Clash.{clash}
-use Rattle.tokens.specs.Text.{Parse, torn, taken}
+use Rattle.tokens.specs.Text.{Parse, malformed, taken}
 use Rattle.tokens.specs.Number.{zeroDigit, minusSign, isDigit, digits, afterDigits, valueFrom, value}
 use Rattle.tokens.specs.Number.{noLeadingZero, wellFormed, readUnsigned, negated, positive, readNumber}
 use Rattle.tokens.specs.Number.{decimal, unsignedText, numberText}
@@ -166,8 +166,8 @@ value-decimal m (d ∷ e ∷ ds) a t h =
 
 -- ---- a number without its sign
 
-pub torn-not-taken : {A X : Type 0} {a : A} {rest : List ℕ} → torn ≡ taken a rest → X
-torn-not-taken e = clash cc
+pub malformed-not-taken : {A X : Type 0} {a : A} {rest : List ℕ} → malformed ≡ taken a rest → X
+malformed-not-taken e = clash cc
 
 unsigned-reads : (n : ℕ) (rest : List ℕ) → n < 10 ^ 15 → T (noDigitFirst rest)
     → readUnsigned (unsignedText n ++ rest) ≡ taken n rest
@@ -190,7 +190,7 @@ unfolding readUnsigned unsignedText wellFormed
 unsigned-read bs n rest e = go (wellFormed (digits bs)) refl e
   where
     go : (c : Bool) → wellFormed (digits bs) ≡ c
-        → cond c (taken (value (digits bs)) (afterDigits bs)) torn ≡ taken n rest
+        → cond c (taken (value (digits bs)) (afterDigits bs)) malformed ≡ taken n rest
         → TextOf (unsignedText n) n bs rest
     go true w q =
         let v : value (digits bs) ≡ n = cc in
@@ -201,7 +201,7 @@ unsigned-read bs n rest e = go (wellFormed (digits bs)) refl e
         let d = value-decimal 14 (digits bs) (f .all) z (well-bounds (digits bs) w .1) in
         rw (← v, ← r)
         (record { is = rw (d, digits-split bs); small = digits-taken bs w .small; ends = f .ends })
-    go false w q = torn-not-taken q
+    go false w q = malformed-not-taken q
 
 -- ---- a number
 
@@ -231,8 +231,8 @@ number-reads (negsuc n) rest h t = rw (unsigned-reads (suc n) rest h t)
 negated-read : (bs : List ℕ) (v : ℤ) (rest : List ℕ) (q : Parse ℕ) → readUnsigned bs ≡ q → negated q ≡ taken v rest
     → TextOf (numberText v) (natAbs v) (minusSign ∷ bs) rest
 unfolding negated numberText
-negated-read bs v rest torn u e = torn-not-taken e
-negated-read bs v rest (taken zero r) u e = torn-not-taken e
+negated-read bs v rest malformed u e = malformed-not-taken e
+negated-read bs v rest (taken zero r) u e = malformed-not-taken e
 negated-read bs v rest (taken (suc n) r) u e =
     let x : negsuc n ≡ v = cc in
     let y : r ≡ rest = cc in
@@ -242,7 +242,7 @@ negated-read bs v rest (taken (suc n) r) u e =
 positive-read : (bs : List ℕ) (v : ℤ) (rest : List ℕ) (q : Parse ℕ) → readUnsigned bs ≡ q → positive q ≡ taken v rest
     → TextOf (numberText v) (natAbs v) bs rest
 unfolding positive numberText
-positive-read bs v rest torn u e = torn-not-taken e
+positive-read bs v rest malformed u e = malformed-not-taken e
 positive-read bs v rest (taken n r) u e =
     let x : pos n ≡ v = cc in
     let y : r ≡ rest = cc in
@@ -252,7 +252,7 @@ positive-read bs v rest (taken n r) u e =
 pub number-read : (bs : List ℕ) (v : ℤ) (rest : List ℕ) → readNumber bs ≡ taken v rest
     → TextOf (numberText v) (natAbs v) bs rest
 unfolding readNumber
-number-read [] v rest e = torn-not-taken e
+number-read [] v rest e = malformed-not-taken e
 number-read (b ∷ bs) v rest e = go (eqb b minusSign) refl e
   where
     go : (c : Bool) → eqb b minusSign ≡ c

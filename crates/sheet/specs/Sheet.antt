@@ -7,13 +7,13 @@ use mathlib.Core.List.{List, [], _∷_, _++_}
 use lib.Dec.{leb}
 use lib.IntN.{ℤ, pos}
 use lib.ListN.{getD, length, drop}
-use Rattle.tokens.specs.Text.{bytesOf, Parse, torn, taken, takeText}
+use Rattle.tokens.specs.Text.{bytesOf, Parse, malformed, taken, takeText}
 use Rattle.tokens.specs.Number.{readNumber, numberText, unsignedText}
 use Rattle.params.specs.declared.Params.{Params}
 use Rattle.params.specs.declared.Sex.{Sex}
 use Rattle.params.specs.declared.Sex.the-variants.{M, F}
 use Rattle.params.specs.declared.Refusal.{Refusal}
-use Rattle.params.specs.declared.Refusal.the-variants.{Accepted, Torn, OffScale, Short}
+use Rattle.params.specs.declared.Refusal.the-variants.{Accepted, Malformed, OutOfLimits, BufferTooShort}
 use Rattle.sheet.specs.declared.Reading.{Reading}
 use Rattle.sheet.specs.declared.Written.{Written}
 use Rattle.params.specs.Set.{A, B, alpha, beta, ages, blank}
@@ -71,11 +71,11 @@ sheetText p = headText (p .sex) ++ linesText keys (values p)
 unfoldable pub readLine : List ℕ → List ℕ → Parse ℤ
 readLine key bs =
     elim (takeText (key ++ bytesOf "=") bs) [
-      | torn ↦ torn
+      | malformed ↦ malformed
       | taken u after ↦
           elim (readNumber after) [
-            | torn ↦ torn
-            | taken v rest ↦ elim (takeText (bytesOf "\n") rest) [ torn ↦ torn | taken w next ↦ taken v next ]
+            | malformed ↦ malformed
+            | taken v rest ↦ elim (takeText (bytesOf "\n") rest) [ malformed ↦ malformed | taken w next ↦ taken v next ]
           ]
     ]
 
@@ -84,14 +84,14 @@ unfoldable pub readLines : List (List ℕ) → List ℕ → Parse (List ℤ)
 readLines [] bs = taken [] bs
 readLines (k ∷ ks) bs =
     elim (readLine k bs) [
-      | torn ↦ torn
-      | taken v rest ↦ elim (readLines ks rest) [ torn ↦ torn | taken vs next ↦ taken (v ∷ vs) next ]
+      | malformed ↦ malformed
+      | taken v rest ↦ elim (readLines ks rest) [ malformed ↦ malformed | taken vs next ↦ taken (v ∷ vs) next ]
     ]
 
 unfoldable pub readHead : List ℕ → Parse Sex
 readHead bs =
     elim (takeText (headText M) bs) [
-      | torn ↦ elim (takeText (headText F) bs) [ torn ↦ torn | taken u rest ↦ taken F rest ]
+      | malformed ↦ elim (takeText (headText F) bs) [ malformed ↦ malformed | taken u rest ↦ taken F rest ]
       | taken u rest ↦ taken M rest
     ]
 
@@ -113,14 +113,14 @@ paramsOf sex vs =
       beta = runFrom 7 vs;
     }
 
--- the set that the whole input stands for, or torn
+-- the set that the whole input stands for, or malformed
 unfoldable pub readSet : List ℕ → Parse Params
 readSet bs =
     elim (readHead bs) [
-      | torn ↦ torn
+      | malformed ↦ malformed
       | taken sex rest ↦
           elim (readLines keys rest)
-          [ torn ↦ torn | taken vs next ↦ elim next [ [] ↦ taken (paramsOf sex vs) [] | b ∷ more ↦ torn ] ]
+          [ malformed ↦ malformed | taken vs next ↦ elim next [ [] ↦ taken (paramsOf sex vs) [] | b ∷ more ↦ malformed ] ]
     ]
 
 -- "A refused reading hands back sex M and every number 0."
@@ -129,17 +129,17 @@ refused r = record { refusal = r; set = blank }
 
 -- "Refusal 1 is decided over the whole sheet before 2."
 unfoldable pub judged : Parse Params → Reading
-judged torn = refused Torn
-judged (taken p rest) = cond (inLimits p) (record { refusal = Accepted; set = p }) (refused OffScale)
+judged malformed = refused Malformed
+judged (taken p rest) = cond (inLimits p) (record { refusal = Accepted; set = p }) (refused OutOfLimits)
 
 unfoldable pub readSheet : List ℕ → Reading
-readSheet bs = cond (leb (length bs) mostBytes) (judged (readSet bs)) (refused Torn)
+readSheet bs = cond (leb (length bs) mostBytes) (judged (readSet bs)) (refused Malformed)
 
 -- ---- writing
 
 -- "The writer gives the one sheet of an in-limit set and its length, which is 0 when refused."
 unfoldable pub writeRefusal : Params → ℕ → Refusal
-writeRefusal p room = cond (inLimits p) (cond (leb (length (sheetText p)) room) Accepted Short) OffScale
+writeRefusal p room = cond (inLimits p) (cond (leb (length (sheetText p)) room) Accepted BufferTooShort) OutOfLimits
 
 unfoldable pub writtenLength : Params → ℕ → ℕ
 writtenLength p room = cond (inLimits p) (cond (leb (length (sheetText p)) room) (length (sheetText p)) 0) 0

@@ -11,7 +11,7 @@ use lib.Ieee.Bits.{is-true}
 use lib.Ieee.Fits.{and-l, and-r}
 use lib.IntN.{ℤ, natAbs}
 use lib.ListN.{length, length-append}
-use Rattle.tokens.specs.Text.{bytesOf, Parse, torn, taken, takeText}
+use Rattle.tokens.specs.Text.{bytesOf, Parse, malformed, taken, takeText}
 use Rattle.tokens.specs.Steps.{andThen, goes}
 use Rattle.tokens.specs.TextLaws.{takeText-split, takeText-whole}
 use Rattle.tokens.specs.Number.{isDigit, readNumber, numberText, unsignedText, decimal}
@@ -21,7 +21,7 @@ use Rattle.params.specs.declared.Params.{Params}
 use Rattle.params.specs.declared.Sex.{Sex}
 use Rattle.params.specs.declared.Sex.the-variants.{M, F}
 use Rattle.params.specs.declared.Refusal.{Refusal}
-use Rattle.params.specs.declared.Refusal.the-variants.{Accepted, Torn, OffScale}
+use Rattle.params.specs.declared.Refusal.the-variants.{Accepted, Malformed, OutOfLimits}
 use Rattle.sheet.specs.declared.Reading.{Reading}
 use Rattle.params.specs.Refusals.{refusalNumber}
 use Rattle.params.specs.Set.{A, B, alpha, beta, ages, Whole}
@@ -30,7 +30,7 @@ use Rattle.sheet.specs.Sheet.{mostBytes, headBytes, forAges, ageKeys, ke
 use Rattle.sheet.specs.Sheet.{sheetText, readLine, readLines, readHead, paramsOf, readSet}
 use Rattle.sheet.specs.Sheet.{refused, judged, readSheet}
 use Rattle.params.specs.LimitsLaws.{in-limits-age, in-limits-series}
-use Rattle.sheet.specs.NumberTrip.{torn-not-taken, number-reads, number-read}
+use Rattle.sheet.specs.NumberTrip.{malformed-not-taken, number-reads, number-read}
 use Rattle.sheet.specs.SetTrip.{keys-length, values-length, values-params, params-values}
 use Rattle.sheet.specs.SetTrip.{params-whole}
 
@@ -43,7 +43,7 @@ AllSmall (v ∷ vs) = (natAbs v < 10 ^ 15) × AllSmall vs
 
 pub then-taken : {A B X : Type 0} (q : Parse A) (f : A → List ℕ → Parse B) {b : B} {rest : List ℕ}
     → andThen q f ≡ taken b rest → ((a : A) (after : List ℕ) → q ≡ taken a after → f a after ≡ taken b rest → X) → X
-then-taken torn f e g = torn-not-taken e
+then-taken malformed f e g = malformed-not-taken e
 then-taken (taken a after) f e g = g a after refl e
 
 -- ---- a line
@@ -134,12 +134,12 @@ head-read bs sex rest e = go (takeText (headText M) bs) refl e
     go : (q : Parse Unit) → takeText (headText M) bs ≡ q
         → _≡_ {A = Parse Sex}
         (elim q [
-          | torn ↦ elim (takeText (headText F) bs) [ torn ↦ torn | taken u after ↦ taken F after ]
+          | malformed ↦ elim (takeText (headText F) bs) [ malformed ↦ malformed | taken u after ↦ taken F after ]
           | taken u after ↦ taken M after
         ])
         (taken sex rest)
         → bs ≡ headText sex ++ rest
-    go torn t w =
+    go malformed t w =
         then-taken (takeText (headText F) bs) _ w λ u after r f.
         let x : F ≡ sex = cc in
         let y : after ≡ rest = cc in
@@ -161,9 +161,9 @@ set-reads p w s =
 
 -- nothing follows the last line
 at-end : {p : Params} (q : Params) (next rest : List ℕ)
-    → _≡_ {A = Parse Params} (elim next [ [] ↦ taken q [] | b ∷ more ↦ torn ]) (taken p rest) → (next ≡ []) × (q ≡ p)
+    → _≡_ {A = Parse Params} (elim next [ [] ↦ taken q [] | b ∷ more ↦ malformed ]) (taken p rest) → (next ≡ []) × (q ≡ p)
 at-end q [] rest e = (refl, cc)
-at-end q (b ∷ more) rest e = torn-not-taken e
+at-end q (b ∷ more) rest e = malformed-not-taken e
 
 params-sheet : (sex : Sex) (vs : List ℤ) → length vs ≡ 368
     → sheetText (paramsOf sex vs) ≡ headText sex ++ linesText keys vs
@@ -266,16 +266,16 @@ refused-not-accepted r h e =
 judged-accepted : {X : Type 0} (q : Parse Params) (p : Params) → judged q ≡ record { refusal = Accepted; set = p }
     → ((rest : List ℕ) → q ≡ taken p rest → T (inLimits p) → X) → X
 unfolding judged refusalNumber
-judged-accepted torn p e f = refused-not-accepted Torn (omega arith) e
+judged-accepted malformed p e f = refused-not-accepted Malformed (omega arith) e
 judged-accepted {X} (taken p′ rest) p e f = go (inLimits p′) refl e
   where
     go : (c : Bool) → inLimits p′ ≡ c
-        → cond c (record { refusal = Accepted; set = p′ }) (refused OffScale) ≡ record { refusal = Accepted; set = p }
+        → cond c (record { refusal = Accepted; set = p′ }) (refused OutOfLimits) ≡ record { refusal = Accepted; set = p }
         → X
     go true w q =
         let x : p′ ≡ p = ap (λ (r : Reading). r .set) q in
         f rest (rw x) (rw (← x, w) tt)
-    go false w q = refused-not-accepted OffScale (omega arith) q
+    go false w q = refused-not-accepted OutOfLimits (omega arith) q
 
 -- an accepted input is the sheet of the set that it gives, which is whole and in limits
 pub read-writes-back : (bs : List ℕ) (p : Params) → readSheet bs ≡ record { refusal = Accepted; set = p }
@@ -283,8 +283,8 @@ pub read-writes-back : (bs : List ℕ) (p : Params) → readSheet bs ≡ record 
 unfolding readSheet refusalNumber
 read-writes-back bs p e = go (leb (length bs) mostBytes) e
   where
-    go : (c : Bool) → cond c (judged (readSet bs)) (refused Torn) ≡ record { refusal = Accepted; set = p }
+    go : (c : Bool) → cond c (judged (readSet bs)) (refused Malformed) ≡ record { refusal = Accepted; set = p }
         → (sheetText p ≡ bs) × (T (inLimits p)) × Whole p
     go true q = judged-accepted (readSet bs) p q λ rest r t.
         let (same, whole) = set-read bs p rest r in (same, t, whole)
-    go false q = refused-not-accepted Torn (omega arith) q
+    go false q = refused-not-accepted Malformed (omega arith) q

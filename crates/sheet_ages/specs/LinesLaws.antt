@@ -4,13 +4,13 @@ use Prim.Native.Nat.{ℕ, zero, suc, _+_}
 use native.Mathlib.Nat.{suc-add, zero-add}
 use mathlib.Core.List.{List, [], _∷_, _++_}
 use lib.IntN.{ℤ}
-use Rattle.tokens.specs.Text.{Parse, torn, taken}
+use Rattle.tokens.specs.Text.{Parse, malformed, taken}
 use Rattle.sheet.specs.Sheet.{forAges, readLine, readLines}
 use Rattle.tokens.specs.Steps.{andThen, goes, stops}
 use Rattle.sheet_lines.specs.FourLaws.{after}
 
 after-none : (q : Parse (List ℤ)) → after [] q ≡ q
-after-none torn = refl
+after-none malformed = refl
 after-none (taken us rest) = refl
 
 -- a value in front of those that are read
@@ -22,11 +22,11 @@ abbrev thenLines : List (List ℕ) → Parse (List ℤ) → Parse (List ℤ)
 thenLines js q = andThen q (λ vs rest. after vs (readLines js rest))
 
 behind-after : (v : ℤ) (vs : List ℤ) (q : Parse (List ℤ)) → behind v (after vs q) ≡ after (v ∷ vs) q
-behind-after v vs torn = refl
+behind-after v vs malformed = refl
 behind-after v vs (taken us rest) = refl
 
 behind-then : (js : List (List ℕ)) (v : ℤ) (q : Parse (List ℤ)) → behind v (thenLines js q) ≡ thenLines js (behind v q)
-behind-then js v torn = refl
+behind-then js v malformed = refl
 behind-then js v (taken vs rest) = behind-after v vs (readLines js rest)
 
 lines-append : (ks js : List (List ℕ)) (bs : List ℕ) → readLines (ks ++ js) bs ≡ thenLines js (readLines ks bs)
@@ -37,12 +37,12 @@ lines-append (k ∷ ks) js bs = go (λ rest. lines-append ks js rest) (readLine 
     go : ((rest : List ℕ) → readLines (ks ++ js) rest ≡ thenLines js (readLines ks rest)) → (q : Parse ℤ)
         → andThen q (λ v rest. behind v (readLines (ks ++ js) rest))
         ≡ thenLines js (andThen q (λ v rest. behind v (readLines ks rest)))
-    go ih torn = refl
+    go ih malformed = refl
     go ih (taken v rest) = ap (behind v) (ih rest) ∙ behind-then js v (readLines ks rest)
 
--- the lines in front are torn, or they are read
-pub lines-torn : (ks js : List (List ℕ)) (bs : List ℕ) → readLines ks bs ≡ torn → readLines (ks ++ js) bs ≡ torn
-lines-torn ks js bs e = lines-append ks js bs ∙ stops _ e
+-- the lines in front are malformed, or they are read
+pub lines-malformed : (ks js : List (List ℕ)) (bs : List ℕ) → readLines ks bs ≡ malformed → readLines (ks ++ js) bs ≡ malformed
+lines-malformed ks js bs e = lines-append ks js bs ∙ stops _ e
 
 pub lines-then : (ks js : List (List ℕ)) (bs : List ℕ) {vs : List ℤ} {rest : List ℕ} → readLines ks bs ≡ taken vs rest
     → readLines (ks ++ js) bs ≡ after vs (readLines js rest)
@@ -53,9 +53,9 @@ pub ages-suc : (f : ℕ → List (List ℕ)) (n : ℕ) → forAges f (suc n) ≡
 unfolding forAges
 ages-suc f n = refl
 
--- the lines of some ages are torn, and so are those of more
-pub more-torn : (f : ℕ → List (List ℕ)) (bs : List ℕ) (k n : ℕ) → readLines (forAges f n) bs ≡ torn
-    → readLines (forAges f (k + n)) bs ≡ torn
-more-torn f bs zero n e = rw (zero-add n) e
-more-torn f bs (suc k) n e =
-    rw (suc-add k n, ages-suc f (k + n)) (lines-torn (forAges f (k + n)) (f (k + n)) bs (more-torn f bs k n e))
+-- the lines of some ages are malformed, and so are those of more
+pub more-malformed : (f : ℕ → List (List ℕ)) (bs : List ℕ) (k n : ℕ) → readLines (forAges f n) bs ≡ malformed
+    → readLines (forAges f (k + n)) bs ≡ malformed
+more-malformed f bs zero n e = rw (zero-add n) e
+more-malformed f bs (suc k) n e =
+    rw (suc-add k n, ages-suc f (k + n)) (lines-malformed (forAges f (k + n)) (f (k + n)) bs (more-malformed f bs k n e))

@@ -6,14 +6,14 @@ use mathlib.Core.List.{List, [], _∷_, _++_}
 use lib.IntN.{ℤ, pos}
 use lib.ListN.{length, getD, take, set, length-append, length-set, List·getD-append}
 use lib.Seq.{take-all, take-suc-set, getD-append-add}
-use Rattle.tokens.specs.Text.{torn, taken}
+use Rattle.tokens.specs.Text.{malformed, taken}
 use Rattle.params.specs.declared.Params.{Params}
 use Rattle.params.specs.Set.{ages, Whole}
 use Rattle.sheet.specs.Sheet.{forAges, ageKeys, readLines}
 use Rattle.sheet_ages.specs.Ages.{run, withRuns, fromAges}
 use Rattle.tokens.specs.Steps.{goes, stops}
 use Rattle.sheet_lines.specs.FourLaws.{after}
-use Rattle.sheet_ages.specs.LinesLaws.{lines-then, ages-suc, more-torn}
+use Rattle.sheet_ages.specs.LinesLaws.{lines-then, ages-suc, more-malformed}
 
 -- ---- a run
 
@@ -122,15 +122,15 @@ fill-next {bs} {rest} {next} {start} {x} {p} {v₀} {v₁} {v₂} {v₃} h e f =
       beta = run-store {i = 3} (v₀ ∷ v₁ ∷ v₂ ∷ v₃ ∷ []) v₃ (omega arith) h (f .long) refl (f .beta);
     }
 
--- an age's lines are torn, so all are
-pub fill-torn : {bs rest : List ℕ} {start : Params} {x : ℕ} {p : Params} → x < ages
-    → readLines (ageKeys x) rest ≡ torn → Filled bs rest start x p → fromAges start bs ≡ torn
+-- an age's lines are malformed, so all are
+pub fill-malformed : {bs rest : List ℕ} {start : Params} {x : ℕ} {p : Params} → x < ages
+    → readLines (ageKeys x) rest ≡ malformed → Filled bs rest start x p → fromAges start bs ≡ malformed
 unfolding fromAges
-fill-torn {bs} {x} h e f =
-    let t : readLines (forAges ageKeys x ++ ageKeys x) bs ≡ torn =
+fill-malformed {bs} {x} h e f =
+    let t : readLines (forAges ageKeys x ++ ageKeys x) bs ≡ malformed =
     lines-then (forAges ageKeys x) (ageKeys x) bs (f .read) ∙ ap (after (f .vs)) e in
     let k : ages - suc x + suc x ≡ ages = omega arith in
-    stops _ (rw k at (more-torn ageKeys bs (ages - suc x) (suc x) (rw (ages-suc ageKeys x) t)))
+    stops _ (rw k at (more-malformed ageKeys bs (ages - suc x) (suc x) (rw (ages-suc ageKeys x) t)))
 
 -- all are read
 filled : {bs rest : List ℕ} {start p : Params} (f : Filled bs rest start ages p) → withRuns start (f .vs) ≡ p

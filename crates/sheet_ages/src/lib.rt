@@ -14,7 +14,7 @@ use params::Params;
 use sheet_lines::FourRead;
 use words::Short;
 
-// A set that was read, and the place that follows its lines, where nothing was torn.
+// A set that was read, and the place that follows its lines, where nothing was malformed.
 pub struct SetRead {
     pub ok: bool,
     pub next: usize,

@@ -1,5 +1,5 @@
 -- A line at a place, in the steps of the code: its key with the `=`, its number and the line feed, each of which is found at
--- its place or leaves the line torn.
+-- its place or leaves the line malformed.
 use mathlib.Core.Path.{_≡_, sym, ap, _∙_}
 use Prim.Native.Nat.{ℕ, _+_}
 use mathlib.Core.Bool.{true, false}
@@ -10,20 +10,20 @@ use Rattle.words.specs.declared.Short.{Short}
 use Rattle.words.specs.Word.{byteBits}
 use Rattle.words.specs.LaneLaws.{lanes-length}
 use Rattle.words.specs.ShortText.{textOf}
-use Rattle.tokens.specs.declared.NumberRead.the-variants.{Torn, Number}
-use Rattle.tokens.specs.Text.{bytesOf, torn, taken, takeText}
+use Rattle.tokens.specs.declared.NumberRead.the-variants.{Malformed, Number}
+use Rattle.tokens.specs.Text.{bytesOf, malformed, taken, takeText}
 use Rattle.tokens.specs.Number.{readNumber}
 use Rattle.tokens.specs.Places.{textAt, numberAt}
 use Rattle.tokens.specs.TextLaws.{text-found, text-missing}
-use Rattle.tokens.specs.NumberLaws.{number-found, number-torn}
+use Rattle.tokens.specs.NumberLaws.{number-found, number-malformed}
 use Rattle.sheet.specs.Sheet.{readLine}
 use Rattle.tokens.specs.Steps.{goes, stops}
 use Rattle.sheet_lines.specs.Lines.{Heads}
 
 module _ (bytes : List ℕ) (at : ℕ) (head : Short) {key : List ℕ} (k : Heads head key) where
-  pub key-torn : textAt bytes at (textOf head) ≡ false → readLine key (drop at bytes) ≡ torn
+  pub key-malformed : textAt bytes at (textOf head) ≡ false → readLine key (drop at bytes) ≡ malformed
   unfolding readLine
-  key-torn h = stops _ (text-missing bytes at (key ++ bytesOf "=") (rw (k .text) at h))
+  key-malformed h = stops _ (text-missing bytes at (key ++ bytesOf "=") (rw (k .text) at h))
 
   module _ (h : textAt bytes at (textOf head) ≡ true) where
     headed : takeText (key ++ bytesOf "=") (drop at bytes) ≡ taken tt (drop (at + head .len) bytes)
@@ -32,17 +32,17 @@ module _ (bytes : List ℕ) (at : ℕ) (head : Short) {key : List ℕ} (k : Head
         ∙ ap (λ (n : ℕ). taken tt (drop (at + n) bytes))
         (ap length (sym (k .text)) ∙ lanes-length byteBits (head .len) (head .word))
 
-    pub no-number : numberAt bytes (at + head .len) ≡ Torn → readLine key (drop at bytes) ≡ torn
+    pub no-number : numberAt bytes (at + head .len) ≡ Malformed → readLine key (drop at bytes) ≡ malformed
     unfolding readLine
-    no-number n = goes _ headed ∙ stops _ (number-torn bytes (at + head .len) n)
+    no-number n = goes _ headed ∙ stops _ (number-malformed bytes (at + head .len) n)
 
     module _ {v : ℤ} {next : ℕ} (n : numberAt bytes (at + head .len) ≡ Number v next) where
       number : readNumber (drop (at + head .len) bytes) ≡ taken v (drop next bytes)
       number = number-found bytes (at + head .len) n
 
-      pub feed-torn : textAt bytes next (bytesOf "\n") ≡ false → readLine key (drop at bytes) ≡ torn
+      pub feed-malformed : textAt bytes next (bytesOf "\n") ≡ false → readLine key (drop at bytes) ≡ malformed
       unfolding readLine
-      feed-torn f = goes _ headed ∙ goes _ number ∙ stops _ (text-missing bytes next (bytesOf "\n") f)
+      feed-malformed f = goes _ headed ∙ goes _ number ∙ stops _ (text-missing bytes next (bytesOf "\n") f)
 
       pub line-taken : textAt bytes next (bytesOf "\n") ≡ true
           → readLine key (drop at bytes) ≡ taken v (drop (next + 1) bytes)

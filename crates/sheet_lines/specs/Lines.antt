@@ -1,4 +1,4 @@
--- What the code says was read of four lines: their numbers, with the bytes from a place on, or torn; and that this is right for
+-- What the code says was read of four lines: their numbers, with the bytes from a place on, or malformed; and that this is right for
 -- the keys that their heads hold.
 use mathlib.Core.Path.{_≡_}
 use Prim.Native.Nat.{ℕ}
@@ -8,14 +8,14 @@ use lib.ListN.{drop}
 use Rattle.words.specs.declared.Short.{Short}
 use Rattle.words.specs.ShortText.{textOf}
 use Rattle.tokens.specs.declared.NumberRead.{NumberRead}
-use Rattle.tokens.specs.Text.{bytesOf, Parse, torn, taken}
+use Rattle.tokens.specs.Text.{bytesOf, Parse, malformed, taken}
 use Rattle.tokens.specs.Places.{numberRead}
 use Rattle.sheet.specs.Sheet.{readLine, readLines}
 use Rattle.sheet_lines.specs.declared.FourRead.{FourRead}
-use Rattle.sheet_lines.specs.declared.FourRead.the-variants.{Torn as TornFour, Four}
+use Rattle.sheet_lines.specs.declared.FourRead.the-variants.{Malformed as MalformedFour, Four}
 
 abbrev pub fourRead : List ℕ → FourRead → Parse (List ℤ)
-fourRead bytes TornFour = torn
+fourRead bytes MalformedFour = malformed
 fourRead bytes (Four next a b c d) = taken (a ∷ b ∷ c ∷ d ∷ []) (drop next bytes)
 
 -- a short text that is a line's key and the `=` after it

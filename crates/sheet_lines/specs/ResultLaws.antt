@@ -4,14 +4,14 @@ use Prim.Native.Nat.{ℕ}
 use mathlib.Core.List.{List, [], _∷_}
 use lib.IntN.{ℤ}
 use lib.ListN.{drop}
-use Rattle.tokens.specs.Text.{Parse, torn, taken}
+use Rattle.tokens.specs.Text.{Parse, malformed, taken}
 use Rattle.sheet_lines.specs.declared.FourRead.{FourRead}
-use Rattle.sheet_lines.specs.declared.FourRead.the-variants.{Torn, Four}
+use Rattle.sheet_lines.specs.declared.FourRead.the-variants.{Malformed, Four}
 use Rattle.sheet_lines.specs.Lines.{fourRead}
 
 module _ (bytes : List ℕ) where
-  pub four-torn : {r : FourRead} {q : Parse (List ℤ)} → fourRead bytes r ≡ q → r ≡ Torn → q ≡ torn
-  four-torn e f = sym e ∙ ap (fourRead bytes) f
+  pub four-malformed : {r : FourRead} {q : Parse (List ℤ)} → fourRead bytes r ≡ q → r ≡ Malformed → q ≡ malformed
+  four-malformed e f = sym e ∙ ap (fourRead bytes) f
 
   pub four-taken : {r : FourRead} {q : Parse (List ℤ)} {next : ℕ} {v₀ v₁ v₂ v₃ : ℤ} → fourRead bytes r ≡ q
       → r ≡ Four next v₀ v₁ v₂ v₃ → q ≡ taken (v₀ ∷ v₁ ∷ v₂ ∷ v₃ ∷ []) (drop next bytes)

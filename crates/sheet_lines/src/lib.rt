@@ -6,7 +6,7 @@ use words::Short;
 
 // The numbers of four lines that were read, after the place that follows the lines.
 pub enum FourRead {
-    Torn,
+    Malformed,
     Four(usize, i64, i64, i64, i64),
 }
 
@@ -16,13 +16,13 @@ fn line_at(bytes: &[u8], at: usize, head: Short) -> NumberRead
     ensures { λ r. ⌜ LineOf (now (bytes .entry)) at head r ⌝ }
 {
     if !tokens::short_at(bytes, at, head) {
-        return NumberRead::Torn;
+        return NumberRead::Malformed;
     }
     let NumberRead::Number(v, after_number) = numbers::number_at(bytes, at + head.len) else {
-        return NumberRead::Torn;
+        return NumberRead::Malformed;
     };
     if !tokens::byte_at(bytes, after_number, b'\n') {
-        return NumberRead::Torn;
+        return NumberRead::Malformed;
     }
     NumberRead::Number(v, after_number + 1)
 }
@@ -33,16 +33,16 @@ pub fn four_at(bytes: &[u8], at: usize, h0: Short, h1: Short, h2: Short, h3: Sho
     ensures { λ r. ⌜ FourOf (now (bytes .entry)) at h0 h1 h2 h3 r ⌝ }
 {
     let NumberRead::Number(v0, second) = line_at(bytes, at, h0) else {
-        return FourRead::Torn;
+        return FourRead::Malformed;
     };
     let NumberRead::Number(v1, third) = line_at(bytes, second, h1) else {
-        return FourRead::Torn;
+        return FourRead::Malformed;
     };
     let NumberRead::Number(v2, fourth) = line_at(bytes, third, h2) else {
-        return FourRead::Torn;
+        return FourRead::Malformed;
     };
     let NumberRead::Number(v3, next) = line_at(bytes, fourth, h3) else {
-        return FourRead::Torn;
+        return FourRead::Malformed;
     };
     FourRead::Four(next, v0, v1, v2, v3)
 }

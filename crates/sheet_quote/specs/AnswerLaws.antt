@@ -7,10 +7,10 @@ use borrow.Author.Tests.{le-leb, lt-leb, ne-eqb}
 use lib.IntN.{ℤ}
 use lib.ListN.{length, drop, set, drop-of-length-le}
 use lib.Seq.{sets-eq}
-use Rattle.tokens.specs.Text.{Parse, torn, taken}
+use Rattle.tokens.specs.Text.{Parse, malformed, taken}
 use Rattle.tokens.specs.Steps.{goes, stops}
 use Rattle.params.specs.declared.Refusal.{Refusal}
-use Rattle.params.specs.declared.Refusal.the-variants.{Accepted, Torn, Short}
+use Rattle.params.specs.declared.Refusal.the-variants.{Accepted, Malformed, BufferTooShort}
 use Rattle.params.specs.Refusals.{refusalNumber}
 use Rattle.sheet.specs.declared.Reading.{Reading}
 use Rattle.sheet.specs.Sheet.{readSheet}
@@ -26,19 +26,19 @@ use Rattle.sheet_quote.specs.SheetQuote.{wordKind, kindOf, ratedKindOf, 
 use Rattle.sheet_quote.specs.SheetQuote.{quoteLength, printedNumber, stepsNumber, quoteNumbers, quoteOver}
 use Rattle.sheet_quote.specs.SheetQuote.{quotedNo, quotedAfter, quoteNo, quoteAfter}
 use Rattle.query.specs.declared.KindRead.{KindRead}
-use Rattle.query.specs.declared.KindRead.the-variants.{Torn as NoKind, Of}
+use Rattle.query.specs.declared.KindRead.the-variants.{Malformed as NoKind, Of}
 use Rattle.query.specs.Code.{kindRead}
 
 -- ---- the kind of a word
 
 module _ (word : List ℕ) where
   -- rates aside
-  pub word-torn : readWord onOffer word ≡ torn → wordKind word ≡ torn
+  pub word-malformed : readWord onOffer word ≡ malformed → wordKind word ≡ malformed
   unfolding wordKind
-  word-torn e = stops _ e
+  word-malformed e = stops _ e
 
   module _ {kind : Kind} (n : ℕ) (e : readWord onOffer word ≡ taken kind (drop n word)) where
-    pub word-goes-on : n < length word → wordKind word ≡ torn
+    pub word-goes-on : n < length word → wordKind word ≡ malformed
     unfolding wordKind
     word-goes-on h = goes _ e ∙ followed kind word n h
 
@@ -47,16 +47,16 @@ module _ (word : List ℕ) where
     word-ends h = goes _ e ∙ at-end kind word n h ∙ rw (drop-of-length-le word h)
 
   -- where no rate is given, and where one is
-  pub kind-torn : wordKind word ≡ torn → kindOf word ≡ torn
+  pub kind-malformed : wordKind word ≡ malformed → kindOf word ≡ malformed
   unfolding kindOf
-  kind-torn e = stops _ e
+  kind-malformed e = stops _ e
 
-  pub rated-kind-torn : (rate : ℤ) → wordKind word ≡ torn → ratedKindOf word rate ≡ torn
+  pub rated-kind-malformed : (rate : ℤ) → wordKind word ≡ malformed → ratedKindOf word rate ≡ malformed
   unfolding ratedKindOf
-  rated-kind-torn rate e = stops _ e
+  rated-kind-malformed rate e = stops _ e
 
   module _ {kind : Kind} {rest : List ℕ} (e : wordKind word ≡ taken kind rest) where
-    pub rate-wanting : takesRate kind ≡ true → kindOf word ≡ torn
+    pub rate-wanting : takesRate kind ≡ true → kindOf word ≡ malformed
     unfolding kindOf
     rate-wanting t = goes _ e ∙ rw t
 
@@ -64,7 +64,7 @@ module _ (word : List ℕ) where
     unfolding kindOf
     no-rate t = goes _ e ∙ rw t
 
-    pub rate-unasked : (rate : ℤ) → takesRate kind ≡ false → ratedKindOf word rate ≡ torn
+    pub rate-unasked : (rate : ℤ) → takesRate kind ≡ false → ratedKindOf word rate ≡ malformed
     unfolding ratedKindOf
     rate-unasked rate t = goes _ e ∙ rw t
 
@@ -75,11 +75,11 @@ module _ (word : List ℕ) where
 -- ---- the answer
 
 module _ (sheet : List ℕ) (age year span : ℤ) where
-  -- of a torn kind, and of one that was read, whatever follows it
+  -- of a malformed kind, and of one that was read, whatever follows it
   module _ {k : Parse Kind} where
-    pub answer-torn : k ≡ torn → sheetAnswer sheet k age year span ≡ Refused Torn
+    pub answer-malformed : k ≡ malformed → sheetAnswer sheet k age year span ≡ Refused Malformed
     unfolding sheetAnswer answerTo
-    answer-torn e = ap (λ (q : Parse Kind). answerTo q (readSheet sheet) age year span) e
+    answer-malformed e = ap (λ (q : Parse Kind). answerTo q (readSheet sheet) age year span) e
 
     pub answer-taken : {kind : Kind} {rest : List ℕ} → k ≡ taken kind rest
         → sheetAnswer sheet k age year span ≡ sheetAnswer sheet (taken kind []) age year span
@@ -118,7 +118,7 @@ unfolding quoteOver quoteNumbers
 four-put q before {p} {s} e f h = sets-eq (q .lower ∷ q .upper ∷ p ∷ s ∷ []) before 0 h ∙ rw (e, f)
 
 module _ (q : Quote) (before : List ℕ) {number : ℕ} where
-  pub put-short : length before < quoteLength → number ≡ refusalNumber Short → PutQuote q before number before
+  pub put-short : length before < quoteLength → number ≡ refusalNumber BufferTooShort → PutQuote q before number before
   unfolding quotedNo quotedAfter
   put-short h e = let t = lt-leb quoteLength (length before) h in (rw t e, rw t)
 
@@ -138,8 +138,8 @@ module _ {a : Answer} (before : List ℕ) {number : ℕ} where
 
 -- a query of a sheet, by the kind that was read
 module _ (sheet : List ℕ) {k : Parse Kind} (age year span : ℤ) (before : List ℕ) {number : ℕ} where
-  pub put-torn : k ≡ torn → number ≡ refusalNumber Torn → PutAnswer (sheetAnswer sheet k age year span) before number before
-  put-torn e n = put-refused before (answer-torn sheet age year span e) n
+  pub put-malformed : k ≡ malformed → number ≡ refusalNumber Malformed → PutAnswer (sheetAnswer sheet k age year span) before number before
+  put-malformed e n = put-refused before (answer-malformed sheet age year span e) n
 
   pub put-taken : {kind : Kind} {rest : List ℕ} → k ≡ taken kind rest
       → {a : Answer} → a ≡ sheetAnswer sheet (taken kind []) age year span

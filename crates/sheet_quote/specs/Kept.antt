@@ -9,9 +9,9 @@ use borrow.Author.Tests.{ne-eqb}
 use lib.Dec.{eqb, leb}
 use lib.IntN.{ℤ}
 use lib.ListN.{length}
-use Rattle.tokens.specs.Text.{Parse, torn, taken}
+use Rattle.tokens.specs.Text.{Parse, malformed, taken}
 use Rattle.params.specs.declared.Refusal.{Refusal}
-use Rattle.params.specs.declared.Refusal.the-variants.{Accepted, Torn, Short}
+use Rattle.params.specs.declared.Refusal.the-variants.{Accepted, Malformed, BufferTooShort}
 use Rattle.params.specs.Refusals.{refusalNumber}
 use Rattle.sheet.specs.declared.Reading.{Reading}
 use Rattle.sheet.specs.Sheet.{readSheet}
@@ -30,7 +30,7 @@ unfolding quoteNo quoteAfter quotedNo quotedAfter refusalNumber
 refused-keeps (Refused r) before h = refl
 refused-keeps (Quoted q) before h = go (leb quoteLength (length before)) h
   where
-    go : (b : Bool) → (refusalNumber (cond b Accepted Short) ≡ 0 → ⊥) → cond b (quoteOver q before) before ≡ before
+    go : (b : Bool) → (refusalNumber (cond b Accepted BufferTooShort) ≡ 0 → ⊥) → cond b (quoteOver q before) before ≡ before
     go true n = absurd (n refl)
     go false n = refl
 
@@ -55,7 +55,7 @@ numbered-by r q = go (answer-by r q)
 
 numbered-to : (k : Parse Kind) (got : Reading) (age year span : ℤ) → Numbered (answerTo k got age year span)
 unfolding answerTo refusalNumber answerOf
-numbered-to torn got age year span = numbered-refusal Torn (λ e. omega arith)
+numbered-to malformed got age year span = numbered-refusal Malformed (λ e. omega arith)
 numbered-to (taken kind rest) got age year span = go (refusalNumber (got .refusal)) refl
   where
     go : (n : ℕ) → n ≡ refusalNumber (got .refusal)
@@ -81,6 +81,6 @@ pub quote-stands : (q : Quote) (before : List ℕ) → quoteNo (Quoted q) (lengt
 unfolding quoteNo quoteAfter quotedNo quotedAfter refusalNumber
 quote-stands q before e = go (leb quoteLength (length before)) e
   where
-    go : (b : Bool) → refusalNumber (cond b Accepted Short) ≡ 0 → cond b (quoteOver q before) before ≡ quoteOver q before
+    go : (b : Bool) → refusalNumber (cond b Accepted BufferTooShort) ≡ 0 → cond b (quoteOver q before) before ≡ quoteOver q before
     go true e = refl
     go false e = absurd (omega arith)

@@ -2,7 +2,7 @@
 use mathlib.Core.Path.{_≡_, refl}
 use mathlib.Core.List.{[]}
 use lib.IntN.{pos}
-use Rattle.tokens.specs.Text.{bytesOf, torn, taken, takeText}
+use Rattle.tokens.specs.Text.{bytesOf, malformed, taken, takeText}
 use Rattle.kinds.specs.declared.Kind.the-variants.{CohortExpectancy, PeriodAnnuity}
 use Rattle.kinds.specs.Kinds.{takesRate, withRate}
 use Rattle.query.specs.Query.{wordOf, onOffer, readWord, alone}
@@ -17,14 +17,14 @@ unfolding bytesOf takeText wordOf onOffer takesRate withRate readWord alone word
 annuity = refl
 
 -- an annuity without a rate, another kind with one, and a word that goes on
-no-rate : kindOf (bytesOf "aper") ≡ torn
+no-rate : kindOf (bytesOf "aper") ≡ malformed
 unfolding bytesOf takeText wordOf onOffer takesRate readWord alone wordKind kindOf
 no-rate = refl
 
-rate-of-another : ratedKindOf (bytesOf "ecoh") (pos 30000) ≡ torn
+rate-of-another : ratedKindOf (bytesOf "ecoh") (pos 30000) ≡ malformed
 unfolding bytesOf takeText wordOf onOffer takesRate withRate readWord alone wordKind ratedKindOf
 rate-of-another = refl
 
-longer-word : ratedKindOf (bytesOf "aperx") (pos 30000) ≡ torn
+longer-word : ratedKindOf (bytesOf "aperx") (pos 30000) ≡ malformed
 unfolding bytesOf takeText wordOf onOffer takesRate withRate readWord alone wordKind ratedKindOf
 longer-word = refl

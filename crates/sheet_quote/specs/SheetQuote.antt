@@ -5,9 +5,9 @@ use Prim.Native.Nat.{ℕ}
 use lib.Dec.{eqb, leb}
 use lib.IntN.{ℤ}
 use lib.ListN.{length, drop}
-use Rattle.tokens.specs.Text.{Parse, torn, taken}
+use Rattle.tokens.specs.Text.{Parse, malformed, taken}
 use Rattle.tokens.specs.Steps.{andThen}
-use Rattle.params.specs.declared.Refusal.the-variants.{Accepted, Torn, Short}
+use Rattle.params.specs.declared.Refusal.the-variants.{Accepted, Malformed, BufferTooShort}
 use Rattle.params.specs.Refusals.{refusalNumber}
 use Rattle.sheet.specs.declared.Reading.{Reading}
 use Rattle.sheet.specs.Sheet.{readSheet}
@@ -23,23 +23,23 @@ use Rattle.query.specs.Query.{onOffer, readWord, alone}
 
 -- ---- the kind
 
--- the kind of a word, rates aside, and torn where the word is no kind's or goes on
+-- the kind of a word, rates aside, and malformed where the word is no kind's or goes on
 unfoldable pub wordKind : List ℕ → Parse Kind
 wordKind word = andThen (readWord onOffer word) (λ kind rest. alone kind rest)
 
--- "A line of these kinds without `rate=`, or of another kind with it, is torn": so is a call. The kind of a word where no rate
--- is given, and where one is
+-- as in a query line, an annuity's word without a rate and another kind's with one are malformed. The kind of a word where no
+-- rate is given, and where one is
 unfoldable pub kindOf : List ℕ → Parse Kind
-kindOf word = andThen (wordKind word) (λ kind rest. cond (takesRate kind) torn (taken kind rest))
+kindOf word = andThen (wordKind word) (λ kind rest. cond (takesRate kind) malformed (taken kind rest))
 
 unfoldable pub ratedKindOf : List ℕ → ℤ → Parse Kind
-ratedKindOf word rate = andThen (wordKind word) (λ kind rest. cond (takesRate kind) (taken (withRate kind rate) rest) torn)
+ratedKindOf word rate = andThen (wordKind word) (λ kind rest. cond (takesRate kind) (taken (withRate kind rate) rest) malformed)
 
 -- ---- the answer
 
--- torn, which has the lowest number; else the sheet's refusal; else the answer of its set
+-- malformed, which has the lowest number; else the sheet's refusal; else the answer of its set
 unfoldable pub answerTo : Parse Kind → Reading → ℤ → ℤ → ℤ → Answer
-answerTo torn got age year span = Refused Torn
+answerTo malformed got age year span = Refused Malformed
 answerTo (taken kind rest) got age year span =
     cond (eqb (refusalNumber (got .refusal)) 0) (answerOf (got .set) kind age year span) (Refused (got .refusal))
 
@@ -71,7 +71,7 @@ quoteOver q before = quoteNumbers q ++ drop quoteLength before
 
 -- of a quote: short where there are too few places, and then the numbers as they were
 unfoldable pub quotedNo : ℕ → ℕ
-quotedNo places = refusalNumber (cond (leb quoteLength places) Accepted Short)
+quotedNo places = refusalNumber (cond (leb quoteLength places) Accepted BufferTooShort)
 
 unfoldable pub quotedAfter : Quote → List ℕ → List ℕ
 quotedAfter q before = cond (leb quoteLength (length before)) (quoteOver q before) before

@@ -24,36 +24,36 @@ fn word_kind(word: &[u8]) -> KindRead
     ensures { λ r. ⌜ kindRead (now (word .entry)) r ≡ wordKind (now (word .entry)) ⌝ }
 {
     let KindRead::Of(kind, end) = query::kind_at(word, 0) else {
-        return KindRead::Torn;
+        return KindRead::Malformed;
     };
     if end < word.len() {
-        return KindRead::Torn;
+        return KindRead::Malformed;
     }
     KindRead::Of(kind, end)
 }
 
-// The kind of a word where no rate is given: torn where it takes one.
+// The kind of a word where no rate is given: malformed where it takes one.
 fn kind_of(word: &[u8]) -> KindRead
     ensures { λ r. ⌜ kindRead (now (word .entry)) r ≡ kindOf (now (word .entry)) ⌝ }
 {
     let KindRead::Of(kind, end) = word_kind(word) else {
-        return KindRead::Torn;
+        return KindRead::Malformed;
     };
     if query::takes_rate(kind) {
-        return KindRead::Torn;
+        return KindRead::Malformed;
     }
     KindRead::Of(kind, end)
 }
 
-// The kind of a word with a rate: torn where it takes none.
+// The kind of a word with a rate: malformed where it takes none.
 fn rated_kind_of(word: &[u8], rate: i64) -> KindRead
     ensures { λ r. ⌜ kindRead (now (word .entry)) r ≡ ratedKindOf (now (word .entry)) rate ⌝ }
 {
     let KindRead::Of(kind, end) = word_kind(word) else {
-        return KindRead::Torn;
+        return KindRead::Malformed;
     };
     if !query::takes_rate(kind) {
-        return KindRead::Torn;
+        return KindRead::Malformed;
     }
     KindRead::Of(query::with_rate(kind, rate), end)
 }
@@ -109,7 +109,7 @@ fn put_quote(numbers: &mut [u64], quote: Quote) -> u8
     ensures { λ r. ⌜ now (numbers .exit) ≡ quotedAfter quote (now (numbers .entry)) ⌝ }
 {
     if numbers.len() < QUOTE_LENGTH {
-        return params::refusal_number(Refusal::Short);
+        return params::refusal_number(Refusal::BufferTooShort);
     }
     put_four(numbers, quote);
     params::refusal_number(Refusal::Accepted)
@@ -126,7 +126,7 @@ fn put_answer(numbers: &mut [u64], answer: Answer) -> u8
     }
 }
 
-// Answers a query of a sheet, of the kind that was read, in the first four numbers: torn where none was.
+// Answers a query of a sheet, of the kind that was read, in the first four numbers: malformed where none was.
 fn answer_into(
     sheet: &[u8],
     read: KindRead,
@@ -142,7 +142,7 @@ fn answer_into(
         (now (numbers .entry)) ⌝ }
 {
     let KindRead::Of(kind, _) = read else {
-        return params::refusal_number(Refusal::Torn);
+        return params::refusal_number(Refusal::Malformed);
     };
     put_answer(numbers, sheet_answer(sheet, kind, age, year, span))
 }

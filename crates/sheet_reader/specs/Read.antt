@@ -3,16 +3,16 @@ use Prim.Native.Nat.{ℕ}
 use mathlib.Core.Bool.{Bool, cond, _&&_}
 use mathlib.Core.List.{[], _∷_}
 use lib.Dec.{leb}
-use Rattle.tokens.specs.Text.{Parse, torn, taken}
+use Rattle.tokens.specs.Text.{Parse, malformed, taken}
 use Rattle.params.specs.declared.Params.{Params}
 use Rattle.params.specs.declared.Refusal.{Refusal}
-use Rattle.params.specs.declared.Refusal.the-variants.{Accepted, Torn, OffScale}
+use Rattle.params.specs.declared.Refusal.the-variants.{Accepted, Malformed, OutOfLimits}
 
 -- nothing follows
 unfoldable pub whole : Parse Params → Parse Params
-whole torn = torn
+whole malformed = malformed
 whole (taken p []) = taken p []
-whole (taken p (b ∷ more)) = torn
+whole (taken p (b ∷ more)) = malformed
 
 -- the lines were read to this place, and nothing follows them in n bytes
 unfoldable pub atEnd : Bool → ℕ → ℕ → Bool
@@ -20,4 +20,4 @@ atEnd ok next n = ok && leb n next
 
 -- "Refusal 1 is decided over the whole sheet before 2."
 unfoldable pub refusalOf : Bool → Bool → Refusal
-refusalOf whole within = cond whole (cond within Accepted OffScale) Torn
+refusalOf whole within = cond whole (cond within Accepted OutOfLimits) Malformed

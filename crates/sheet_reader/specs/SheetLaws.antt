@@ -9,12 +9,12 @@ use lib.Dec.{leb}
 use lib.IntN.{ℤ}
 use lib.ListN.{length, drop, drop-of-length-le}
 use lib.Seq.{drop-cons}
-use Rattle.tokens.specs.Text.{bytesOf, Parse, torn, taken, takeText}
+use Rattle.tokens.specs.Text.{bytesOf, Parse, malformed, taken, takeText}
 use Rattle.tokens.specs.Places.{textAt}
-use Rattle.tokens.specs.TextLaws.{text-found, text-missing, takeText-then, takeText-torn}
+use Rattle.tokens.specs.TextLaws.{text-found, text-missing, takeText-then, takeText-malformed}
 use Rattle.params.specs.declared.Params.{Params}
 use Rattle.params.specs.declared.Refusal.{Refusal}
-use Rattle.params.specs.declared.Refusal.the-variants.{Accepted, Torn, OffScale}
+use Rattle.params.specs.declared.Refusal.the-variants.{Accepted, Malformed, OutOfLimits}
 use Rattle.params.specs.declared.Sex.{Sex}
 use Rattle.params.specs.declared.Sex.the-variants.{M, F}
 use Rattle.params.specs.Refusals.{refusalNumber}
@@ -30,7 +30,7 @@ use Rattle.tokens.specs.Steps.{goes, stops}
 
 -- ---- its length
 
-pub too-long : (bs : List ℕ) → mostBytes < length bs → readSheet bs ≡ refused Torn
+pub too-long : (bs : List ℕ) → mostBytes < length bs → readSheet bs ≡ refused Malformed
 unfolding readSheet
 too-long bs h = rw (lt-leb (length bs) mostBytes h)
 
@@ -49,9 +49,9 @@ head-then bs sex rest e = goes _ e ∙ go (readLines keys rest)
     go : (q : Parse (List ℤ))
         → _≡_ {A = Parse Params}
         (elim q
-        [ torn ↦ torn | taken vs next ↦ elim next [ [] ↦ taken (paramsOf sex vs) [] | b ∷ more ↦ torn ] ])
-        (whole (elim q [ torn ↦ torn | taken vs next ↦ taken (paramsOf sex vs) next ]))
-    go torn = refl
+        [ malformed ↦ malformed | taken vs next ↦ elim next [ [] ↦ taken (paramsOf sex vs) [] | b ∷ more ↦ malformed ] ])
+        (whole (elim q [ malformed ↦ malformed | taken vs next ↦ taken (paramsOf sex vs) next ]))
+    go malformed = refl
     go (taken vs []) = refl
     go (taken vs (b ∷ more)) = refl
 
@@ -61,12 +61,12 @@ module _ (bs : List ℕ) where
   unfolding readHead
   m-head e = rw (e, readHead)
 
-  f-head : {rest : List ℕ} → takeText (headText M) bs ≡ torn → takeText (headText F) bs ≡ taken tt rest
+  f-head : {rest : List ℕ} → takeText (headText M) bs ≡ malformed → takeText (headText F) bs ≡ taken tt rest
       → readHead bs ≡ taken F rest
   unfolding readHead
   f-head d e = rw (d, readHead) (rw e)
 
-  no-head : takeText (headText M) bs ≡ torn → takeText (headText F) bs ≡ torn → readHead bs ≡ torn
+  no-head : takeText (headText M) bs ≡ malformed → takeText (headText F) bs ≡ malformed → readHead bs ≡ malformed
   unfolding readHead
   no-head d e = rw (d, readHead) (rw e)
 
@@ -79,11 +79,11 @@ sexPlace = 17
 
 module _ (bs : List ℕ) where
   -- other first bytes are no sheet's
-  pub head-none : textAt bs 0 sexText ≡ false → readSet bs ≡ torn
+  pub head-none : textAt bs 0 sexText ≡ false → readSet bs ≡ malformed
   unfolding readSet readHead headText bytesOf
   head-none h =
       let e = text-missing bs 0 sexText h in
-      stops _ (no-head bs (takeText-torn sexText (bytesOf "M\n") bs e) (takeText-torn sexText (bytesOf "F\n") bs e))
+      stops _ (no-head bs (takeText-malformed sexText (bytesOf "M\n") bs e) (takeText-malformed sexText (bytesOf "F\n") bs e))
 
   module _ (h : textAt bs 0 sexText ≡ true) where
     -- what follows them decides
@@ -98,7 +98,7 @@ module _ (bs : List ℕ) where
         (m-head bs (then-sex (bytesOf "M\n") ∙ text-found bs sexPlace (bytesOf "M\n") m))
 
     module _ (m : textAt bs sexPlace (bytesOf "M\n") ≡ false) where
-      not-m : takeText (headText M) bs ≡ torn
+      not-m : takeText (headText M) bs ≡ malformed
       unfolding headText bytesOf
       not-m = then-sex (bytesOf "M\n") ∙ text-missing bs sexPlace (bytesOf "M\n") m
 
@@ -108,13 +108,13 @@ module _ (bs : List ℕ) where
           head-then bs F (drop headBytes bs)
           (f-head bs not-m (then-sex (bytesOf "F\n") ∙ text-found bs sexPlace (bytesOf "F\n") f))
 
-      pub head-torn : textAt bs sexPlace (bytesOf "F\n") ≡ false → readSet bs ≡ torn
+      pub head-malformed : textAt bs sexPlace (bytesOf "F\n") ≡ false → readSet bs ≡ malformed
       unfolding readSet headText bytesOf
-      head-torn f = stops _ (no-head bs not-m (then-sex (bytesOf "F\n") ∙ text-missing bs sexPlace (bytesOf "F\n") f))
+      head-malformed f = stops _ (no-head bs not-m (then-sex (bytesOf "F\n") ∙ text-missing bs sexPlace (bytesOf "F\n") f))
 
 -- ---- to the sheet's end
 
--- nothing follows, the lines are torn, or something follows
+-- nothing follows, the lines are malformed, or something follows
 pub ended : {ok : Bool} {next n : ℕ} → ok ≡ true → n ≤ next → atEnd ok next n ≡ true
 unfolding atEnd
 ended {next} {n} e h = rw (e, le-leb n next h)
@@ -129,12 +129,12 @@ followed {next} {n} e h = rw (e, lt-leb n next h)
 
 module _ (bytes : List ℕ) (r : SetRead) where
   -- what the code read is the set, where it came to the sheet's end
-  whole-set : whole (setRead bytes r) ≡ cond (atEnd (r .ok) (r .next) (length bytes)) (taken (r .set) []) torn
+  whole-set : whole (setRead bytes r) ≡ cond (atEnd (r .ok) (r .next) (length bytes)) (taken (r .set) []) malformed
   unfolding whole
   whole-set = go (r .ok) refl (leb (length bytes) (r .next)) refl
     where
       go : (b : Bool) → r .ok ≡ b → (c : Bool) → leb (length bytes) (r .next) ≡ c
-          → whole (setRead bytes r) ≡ cond (atEnd (r .ok) (r .next) (length bytes)) (taken (r .set) []) torn
+          → whole (setRead bytes r) ≡ cond (atEnd (r .ok) (r .next) (length bytes)) (taken (r .set) []) malformed
       go false e c f = rw (unread (r .next) (length bytes) e, e)
       go true e true f =
           let h = leb-true (length bytes) (r .next) f in
@@ -145,14 +145,14 @@ module _ (bytes : List ℕ) (r : SetRead) where
 
 -- ---- the refusal
 
--- the cases in their order: torn, whatever the limits say, then off scale, then accepted
-pub torn-first : {w : Bool} (i : Bool) → w ≡ false → refusalOf w i ≡ Torn
+-- the cases in their order: malformed, whatever the limits say, then out of limits, then accepted
+pub malformed-first : {w : Bool} (i : Bool) → w ≡ false → refusalOf w i ≡ Malformed
 unfolding refusalOf
-torn-first i e = rw e
+malformed-first i e = rw e
 
-pub then-off-scale : {w i : Bool} → w ≡ true → i ≡ false → refusalOf w i ≡ OffScale
+pub then-out-of-limits : {w i : Bool} → w ≡ true → i ≡ false → refusalOf w i ≡ OutOfLimits
 unfolding refusalOf
-then-off-scale e f = rw (e, f)
+then-out-of-limits e f = rw (e, f)
 
 pub then-accepted : {w i : Bool} → w ≡ true → i ≡ true → refusalOf w i ≡ Accepted
 unfolding refusalOf
@@ -165,7 +165,7 @@ decided bytes r = refusalOf (atEnd (r .ok) (r .next) (length bytes)) (inLimits (
 module _ (p : Params) where
   -- a refusal is given with the blank set
   gives-refusal : (w i : Bool) → inLimits p ≡ i → (refusalNumber (refusalOf w i) ≡ 0 → ⊥)
-      → judged (cond w (taken p []) torn) ≡ refused (refusalOf w i)
+      → judged (cond w (taken p []) malformed) ≡ refused (refusalOf w i)
   unfolding judged refusalOf refusalNumber
   gives-refusal true true e h = absurd (h refl)
   gives-refusal true false e h = rw e
@@ -173,7 +173,7 @@ module _ (p : Params) where
 
   -- and where there is none, the set is the one that was read
   gives-set : (w i : Bool) → inLimits p ≡ i → refusalNumber (refusalOf w i) ≡ 0
-      → judged (cond w (taken p []) torn) ≡ record { refusal = refusalOf w i; set = p }
+      → judged (cond w (taken p []) malformed) ≡ record { refusal = refusalOf w i; set = p }
   unfolding judged refusalOf refusalNumber
   gives-set true true e h = rw e
   gives-set true false e h = absurd (omega arith)
@@ -181,7 +181,7 @@ module _ (p : Params) where
 
 module _ (bytes : List ℕ) (r : SetRead) (q : Parse Params) (e : setRead bytes r ≡ q) where
   -- so it is with the reading that the result stands for
-  read-whole : whole q ≡ cond (atEnd (r .ok) (r .next) (length bytes)) (taken (r .set) []) torn
+  read-whole : whole q ≡ cond (atEnd (r .ok) (r .next) (length bytes)) (taken (r .set) []) malformed
   read-whole = ap whole (sym e) ∙ whole-set bytes r
 
   pub set-refused : {f : Refusal} {s : Params} → f ≡ decided bytes r → s ≡ blank → (refusalNumber f ≡ 0 → ⊥)

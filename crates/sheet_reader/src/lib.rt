@@ -2,7 +2,7 @@
 ghost use mathlib.Core.Path.{_≡_};
 ghost use lib.ListN.{drop};
 ghost use Rattle.sheet.specs.Sheet.{headBytes, refused, judged, readSheet};
-ghost use Rattle.params.specs.declared.Refusal.the-variants.{Torn};
+ghost use Rattle.params.specs.declared.Refusal.the-variants.{Malformed};
 ghost use Rattle.sheet_set.specs.SetLines.{fromLines};
 ghost use Rattle.sheet_reader.specs.Read.{whole, atEnd, refusalOf};
 use params::Refusal;
@@ -15,12 +15,12 @@ pub const MOST_BYTES: usize = 65_536;
 // The place of the sex.
 const SEX: usize = 17;
 
-// What is handed back for a torn sheet.
-fn torn() -> Reading
-    ensures { λ r. ⌜ r ≡ refused Torn ⌝ }
+// What is handed back for a malformed sheet.
+fn malformed() -> Reading
+    ensures { λ r. ⌜ r ≡ refused Malformed ⌝ }
 {
     Reading {
-        refusal: Refusal::Torn,
+        refusal: Refusal::Malformed,
         set: params::blank(),
     }
 }
@@ -43,10 +43,10 @@ fn refusal_of(whole: bool, within: bool) -> Refusal
     ensures { λ r. ⌜ r ≡ refusalOf whole within ⌝ }
 {
     if !whole {
-        return Refusal::Torn;
+        return Refusal::Malformed;
     }
     if !within {
-        return Refusal::OffScale;
+        return Refusal::OutOfLimits;
     }
     Refusal::Accepted
 }
@@ -74,10 +74,10 @@ pub fn read(bytes: &[u8]) -> Reading
     ensures { λ r. ⌜ r ≡ readSheet (now (bytes .entry)) ⌝ }
 {
     if MOST_BYTES < bytes.len() {
-        return torn();
+        return malformed();
     }
     if !tokens::text_at(bytes, 0, b"table=AG2014\nsex=") {
-        return torn();
+        return malformed();
     }
     if tokens::text_at(bytes, SEX, b"M\n") {
         return judged_set(bytes, Sex::M);
@@ -85,5 +85,5 @@ pub fn read(bytes: &[u8]) -> Reading
     if tokens::text_at(bytes, SEX, b"F\n") {
         return judged_set(bytes, Sex::F);
     }
-    torn()
+    malformed()
 }

@@ -1,4 +1,4 @@
--- The lines of the ages after the four lines of the series: torn where those are, and else the runs of the set that has
+-- The lines of the ages after the four lines of the series: malformed where those are, and else the runs of the set that has
 -- their values.
 use mathlib.Core.Path.{_≡_, refl, ap, _∙_}
 use Prim.Native.Nat.{ℕ, zero, suc, _+_, _*_}
@@ -6,7 +6,7 @@ use native.Mathlib.Omega.{arith}
 use mathlib.Core.List.{List, [], _∷_}
 use lib.IntN.{ℤ, pos}
 use lib.ListN.{getD}
-use Rattle.tokens.specs.Text.{bytesOf, Parse, torn, taken}
+use Rattle.tokens.specs.Text.{bytesOf, Parse, malformed, taken}
 use Rattle.tokens.specs.Steps.{andThen, stops}
 use Rattle.params.specs.declared.Params.{Params}
 use Rattle.params.specs.declared.Sex.{Sex}
@@ -14,7 +14,7 @@ use Rattle.params.specs.Set.{ages}
 use Rattle.sheet.specs.Sheet.{forAges, ageKeys, keys, readLines, runFrom, paramsOf}
 use Rattle.sheet_lines.specs.FourLaws.{after}
 use Rattle.sheet_ages.specs.Ages.{run, withRuns, fromAges}
-use Rattle.sheet_ages.specs.LinesLaws.{lines-torn, lines-then}
+use Rattle.sheet_ages.specs.LinesLaws.{lines-malformed, lines-then}
 use Rattle.sheet_set.specs.SetLines.{fromLines}
 
 run-behind : (i : ℕ) (a b c d : ℤ) (vs : List ℤ) (n : ℕ)
@@ -28,9 +28,9 @@ run-behind i a b c d vs (suc n) =
 abbrev pub seriesKeys : List (List ℕ)
 seriesKeys = bytesOf "a" ∷ bytesOf "theta" ∷ bytesOf "K" ∷ bytesOf "k" ∷ []
 
-pub series-torn : (sex : Sex) (bs : List ℕ) → readLines seriesKeys bs ≡ torn → fromLines sex bs ≡ torn
+pub series-malformed : (sex : Sex) (bs : List ℕ) → readLines seriesKeys bs ≡ malformed → fromLines sex bs ≡ malformed
 unfolding fromLines keys
-series-torn sex bs e = stops _ (lines-torn seriesKeys (forAges ageKeys ages) bs e)
+series-malformed sex bs e = stops _ (lines-malformed seriesKeys (forAges ageKeys ages) bs e)
 
 pub series-read : (p : Params) (bs : List ℕ) {rest : List ℕ}
     → readLines seriesKeys bs ≡ taken (p .a ∷ p .theta ∷ p .period ∷ p .kappa ∷ []) rest
@@ -44,7 +44,7 @@ series-read p bs {rest} e =
     go : (q : Parse (List ℤ))
         → andThen (after (p .a ∷ p .theta ∷ p .period ∷ p .kappa ∷ []) q) (λ vs next. taken (paramsOf (p .sex) vs) next)
         ≡ andThen q (λ vs next. taken (withRuns p vs) next)
-    go torn = refl
+    go malformed = refl
     go (taken vs next) =
         rw (
           run-behind 0 (p .a) (p .theta) (p .period) (p .kappa) vs ages,

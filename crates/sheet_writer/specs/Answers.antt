@@ -9,7 +9,7 @@ use lib.ListN.{length}
 use Rattle.printing.specs.OverwrittenLaws.{overwritten-front}
 use Rattle.params.specs.declared.Params.{Params}
 use Rattle.sheet.specs.declared.Written.{Written}
-use Rattle.params.specs.declared.Refusal.the-variants.{Accepted, OffScale, Short}
+use Rattle.params.specs.declared.Refusal.the-variants.{Accepted, OutOfLimits, BufferTooShort}
 use Rattle.params.specs.Limits.{inLimits}
 use Rattle.sheet.specs.Sheet.{sheetText, writeRefusal, writtenLength, writeAnswer, writtenBuffer}
 use Rattle.printing.specs.Put.{Put}
@@ -19,12 +19,12 @@ abbrev pub Answers : Params → List ℕ → Written → List ℕ → Type 0
 Answers p buffer answer after = (answer ≡ writeAnswer p (length buffer)) × (after ≡ writtenBuffer p buffer)
 
 module _ (p : Params) (buffer : List ℕ) where
-  pub off-scale : inLimits p ≡ false → Answers p buffer (record { refusal = OffScale; len = 0 }) buffer
+  pub out-of-limits : inLimits p ≡ false → Answers p buffer (record { refusal = OutOfLimits; len = 0 }) buffer
   unfolding writeRefusal writtenLength writeAnswer writtenBuffer
-  off-scale e = (rw e, rw e)
+  out-of-limits e = (rw e, rw e)
 
   pub short : inLimits p ≡ true → length buffer < length (sheetText p)
-      → Answers p buffer (record { refusal = Short; len = 0 }) buffer
+      → Answers p buffer (record { refusal = BufferTooShort; len = 0 }) buffer
   unfolding writeRefusal writtenLength writeAnswer writtenBuffer
   short e h = let q = lt-leb (length (sheetText p)) (length buffer) h in (rw (e, q), rw (e, q))
 

@@ -38,19 +38,19 @@ fn put_sheet(buffer: &mut [u8], p: Params) -> usize
     put_ages(buffer, first, p)
 }
 
-// The sheet of the set, for any set and any buffer: refused as off scale or short, a call leaves every byte as it was.
+// The sheet of the set, for any set and any buffer: refused as out of limits or short, a call leaves every byte as it was.
 pub fn write(p: Params, buffer: &mut [u8]) -> Written
     ensures { λ r. ⌜ (r ≡ writeAnswer p (length (now (buffer .entry)))) × (now (buffer .exit) ≡ writtenBuffer p (now (buffer .entry))) ⌝ }
 {
     if !limits::in_limits(p) {
         return Written {
-            refusal: Refusal::OffScale,
+            refusal: Refusal::OutOfLimits,
             len: 0,
         };
     }
     if buffer.len() < sheet_length::sheet_len(p) {
         return Written {
-            refusal: Refusal::Short,
+            refusal: Refusal::BufferTooShort,
             len: 0,
         };
     }

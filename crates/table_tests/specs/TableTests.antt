@@ -19,15 +19,15 @@ between low high z = leZ low z && leZ z high
 
 -- ---- the table of refusals, 3 to 5 and 8
 
--- "no such age: age outside 0 to 120"
+-- "no such age": "age outside 0 to 120"
 unfoldable pub ageInTable : ℤ → Bool
 ageInTable age = between (pos 0) (pos lastClosed) age
 
--- "no such year: year outside the kind's range"
+-- "no such year": "year outside the kind's range"
 unfoldable pub yearInTable : Rule → ℤ → Bool
 yearInTable rule year = between (pos (startYear + firstYears)) (pos startYear +ℤ rule .years) year
 
--- "no such span: span outside 0 to 121 − age; for `q` and expectancies, not 0"
+-- "no such span": "span outside 0 to 121 − age; for `q` and expectancies, not 0"
 unfoldable pub spanInTable : Rule → ℤ → ℤ → Bool
 spanInTable rule age span = between (pos 0) (pos (mostSpan (rule .fold) (natAbs age))) span
 

@@ -17,9 +17,9 @@ use mir.Facts.{toZ-ofZ, toZ-pos}
 use Rattle.whole.specs.Clash.{clash}
 use Rattle.tokens.specs.declared.Digits.{Digits}
 use Rattle.tokens.specs.declared.UnsignedRead.{UnsignedRead}
-use Rattle.tokens.specs.declared.UnsignedRead.the-variants.{Torn as NoUnsigned, Unsigned}
-use Rattle.tokens.specs.declared.NumberRead.the-variants.{Torn, Number}
-use Rattle.tokens.specs.Text.{Parse, torn, taken}
+use Rattle.tokens.specs.declared.UnsignedRead.the-variants.{Malformed as NoUnsigned, Unsigned}
+use Rattle.tokens.specs.declared.NumberRead.the-variants.{Malformed, Number}
+use Rattle.tokens.specs.Text.{Parse, malformed, taken}
 use Rattle.tokens.specs.Number.{minusSign, zeroDigit, mostDigits, digits, afterDigits, valueFrom, value, wellFormed}
 use Rattle.tokens.specs.Number.{readUnsigned, negated, positive, readNumber}
 use Rattle.tokens.specs.Places.{placed, numberAt}
@@ -52,14 +52,14 @@ module _ {bytes : List ℕ} {at : ℕ} {r : Digits} (d : DigitsRead bytes at r) 
   unfolding unsignedAt readUnsigned
   ill e = rw e
 
-  pub torn-none : r .count ≡ 0 → unsignedAt bytes at ≡ NoUnsigned
-  torn-none h = ill (ill-none _ (omega (arith, count-is)))
+  pub malformed-none : r .count ≡ 0 → unsignedAt bytes at ≡ NoUnsigned
+  malformed-none h = ill (ill-none _ (omega (arith, count-is)))
 
-  pub torn-long : mostDigits < r .count → unsignedAt bytes at ≡ NoUnsigned
-  torn-long h = ill (ill-long _ (omega (arith, count-is)))
+  pub malformed-long : mostDigits < r .count → unsignedAt bytes at ≡ NoUnsigned
+  malformed-long h = ill (ill-long _ (omega (arith, count-is)))
 
-  pub torn-zero : 1 < r .count → getD bytes at 0 ≡ zeroDigit → unsignedAt bytes at ≡ NoUnsigned
-  torn-zero h e = ill (ill-zero _ (omega (arith, count-is)) (first-digit (omega arith) ∙ e))
+  pub malformed-zero : 1 < r .count → getD bytes at 0 ≡ zeroDigit → unsignedAt bytes at ≡ NoUnsigned
+  malformed-zero h e = ill (ill-zero _ (omega (arith, count-is)) (first-digit (omega arith) ∙ e))
 
   well : 0 < r .count → r .count ≤ mostDigits → wellFormed (digits (drop at bytes)) ≡ true
       → unsignedAt bytes at ≡ Unsigned (r .value) (at + r .count)
@@ -85,16 +85,16 @@ module _ {bytes : List ℕ} {at : ℕ} {r : Digits} (d : DigitsRead bytes at r) 
 
 -- what a number without its sign gives, after a minus and with none
 placed-zero : (n : ℕ) (p : Parse ℕ) {v next : ℕ} → placedUnsigned n p ≡ Unsigned v next → v ≡ 0
-    → placed n (negated p) ≡ Torn
+    → placed n (negated p) ≡ Malformed
 unfolding negated
-placed-zero n torn e h = cc
+placed-zero n malformed e h = cc
 placed-zero n (taken zero rest) e h = refl
 placed-zero n (taken (suc w) rest) {v} e h = let q : suc w ≡ v = cc in absurd (omega arith)
 
 placed-minus : (n : ℕ) (p : Parse ℕ) {v next : ℕ} → placedUnsigned n p ≡ Unsigned v next → (v ≡ 0 → ⊥)
     → placed n (negated p) ≡ Number (negℤ (pos v)) next
 unfolding negated
-placed-minus n torn e h = cc
+placed-minus n malformed e h = cc
 placed-minus n (taken zero rest) {v} e h = let q : 0 ≡ v = cc in absurd (h (sym q))
 placed-minus n (taken (suc w) rest) {v} {next} e h =
     let ev : suc w ≡ v = cc in
@@ -104,14 +104,14 @@ placed-minus n (taken (suc w) rest) {v} {next} e h =
 placed-plain : (n : ℕ) (p : Parse ℕ) {v next : ℕ} → placedUnsigned n p ≡ Unsigned v next
     → placed n (positive p) ≡ Number (pos v) next
 unfolding positive
-placed-plain n torn e = cc
+placed-plain n malformed e = cc
 placed-plain n (taken w rest) e = cc
 
-placed-torn : (n : ℕ) (p : Parse ℕ) → placedUnsigned n p ≡ NoUnsigned
-    → (placed n (negated p) ≡ Torn) × (placed n (positive p) ≡ Torn)
+placed-malformed : (n : ℕ) (p : Parse ℕ) → placedUnsigned n p ≡ NoUnsigned
+    → (placed n (negated p) ≡ Malformed) × (placed n (positive p) ≡ Malformed)
 unfolding negated positive
-placed-torn n torn e = (refl, refl)
-placed-torn n (taken w rest) e = (cc, cc)
+placed-malformed n malformed e = (refl, refl)
+placed-malformed n (taken w rest) e = (cc, cc)
 
 -- ---- in 64 bits
 
@@ -123,7 +123,7 @@ unsigned-small bytes at {v} {next} e w = go (readUnsigned (drop at bytes)) refl 
   where
     go : (p : Parse ℕ) → readUnsigned (drop at bytes) ≡ p → placedUnsigned (length bytes) p ≡ Unsigned v next
         → v < 10 ^ mostDigits
-    go torn q u = clash cc
+    go malformed q u = clash cc
     go (taken w rest) q u = let ev : w ≡ v = cc in omega (arith, unsigned-taken (drop at bytes) q .small)
 
 -- v and −v fit, and are read back from their bits
@@ -149,7 +149,7 @@ minus-back v h = rw (positive-back v h, less v) (toZ-ofZ (negative-fits v h))
 
 -- ---- what stands at the place: nothing, a minus, or another byte
 
-pub number-past : (bytes : List ℕ) (at : ℕ) → length bytes ≤ at → numberAt bytes at ≡ Torn
+pub number-past : (bytes : List ℕ) (at : ℕ) → length bytes ≤ at → numberAt bytes at ≡ Malformed
 unfolding numberAt readNumber
 number-past bytes at h = rw (drop-of-length-le bytes h)
 
@@ -176,12 +176,12 @@ module _ (bytes : List ℕ) (at : ℕ) {r : UnsignedRead} (h : at < length bytes
     unfolding numberAt
     minus-is = rw (add-one at, drop-cons bytes at 0, read-minus _ (drop (suc at) bytes) e)
 
-    pub minus-torn : r ≡ NoUnsigned → numberAt bytes at ≡ Torn
+    pub minus-malformed : r ≡ NoUnsigned → numberAt bytes at ≡ Malformed
     unfolding unsignedAt
-    minus-torn w = minus-is ∙ placed-torn _ _ (sym u ∙ w) .0
+    minus-malformed w = minus-is ∙ placed-malformed _ _ (sym u ∙ w) .0
 
     module _ {v next : ℕ} (w : r ≡ Unsigned v next) where
-      pub minus-zero : v ≡ 0 → numberAt bytes at ≡ Torn
+      pub minus-zero : v ≡ 0 → numberAt bytes at ≡ Malformed
       unfolding unsignedAt
       minus-zero z = minus-is ∙ placed-zero _ _ (sym u ∙ w) z
 
@@ -196,9 +196,9 @@ module _ (bytes : List ℕ) (at : ℕ) {r : UnsignedRead} (h : at < length bytes
     unfolding numberAt
     plain-is = rw (drop-cons bytes at 0, read-plain _ (drop (suc at) bytes) e)
 
-    pub plain-torn : r ≡ NoUnsigned → numberAt bytes at ≡ Torn
+    pub plain-malformed : r ≡ NoUnsigned → numberAt bytes at ≡ Malformed
     unfolding unsignedAt
-    plain-torn w = plain-is ∙ placed-torn _ _ (sym u ∙ w) .1
+    plain-malformed w = plain-is ∙ placed-malformed _ _ (sym u ∙ w) .1
 
     pub plain-number : {v next : ℕ} → r ≡ Unsigned v next → numberAt bytes at ≡ Number (toZ w64 v) next
     unfolding unsignedAt
@@ -215,17 +215,17 @@ module _ (bytes : List ℕ) (at : ℕ) {m : ℕ} {r : UnsignedRead} (h : at < le
       go true e = let k = eqb-true _ _ e in f k (c ∙ minus-one _ k)
       go false e = let k = eqb-false _ _ e in g k (c ∙ minus-none _ k)
 
-  pub sign-torn : r ≡ NoUnsigned → numberAt bytes at ≡ Torn
-  sign-torn w =
-      by-sign (λ e k. minus-torn bytes at h e (rw k at u) w)
-      (λ e k. plain-torn bytes at h e (rw (k, add-zero at) at u) w)
+  pub sign-malformed : r ≡ NoUnsigned → numberAt bytes at ≡ Malformed
+  sign-malformed w =
+      by-sign (λ e k. minus-malformed bytes at h e (rw k at u) w)
+      (λ e k. plain-malformed bytes at h e (rw (k, add-zero at) at u) w)
 
   module _ {v next : ℕ} (w : r ≡ Unsigned v next) where
     pub sign-none : m ≡ 0 → numberAt bytes at ≡ Number (toZ w64 v) next
     sign-none z =
         by-sign (λ e k. absurd (omega arith)) (λ e k. plain-number bytes at h e (rw (k, add-zero at) at u) w)
 
-    pub sign-zero : (m ≡ 0 → ⊥) → v ≡ 0 → numberAt bytes at ≡ Torn
+    pub sign-zero : (m ≡ 0 → ⊥) → v ≡ 0 → numberAt bytes at ≡ Malformed
     sign-zero n z = by-sign (λ e k. minus-zero bytes at h e (rw k at u) w z) (λ e k. absurd (n k))
 
     pub sign-minus : (m ≡ 0 → ⊥) → (v ≡ 0 → ⊥) → numberAt bytes at ≡ Number (toZ w64 (ofZ w64 (pos 0 -ℤ toZ w64 v))) next

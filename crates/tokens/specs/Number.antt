@@ -6,7 +6,7 @@ use mathlib.Core.List.{List, [], _∷_, _++_}
 use lib.Dec.{eqb, leb, ltb}
 use lib.IntN.{ℤ, pos, negsuc}
 use lib.ListN.{length}
-use Rattle.tokens.specs.Text.{Parse, torn, taken}
+use Rattle.tokens.specs.Text.{Parse, malformed, taken}
 
 -- the bytes of `-`, `0` and the line feed
 abbrev pub minusSign : ℕ
@@ -50,20 +50,20 @@ wellFormed ds = noLeadingZero ds && leb (length ds) mostDigits
 
 -- a number without its sign, and a number
 unfoldable pub readUnsigned : List ℕ → Parse ℕ
-readUnsigned bs = cond (wellFormed (digits bs)) (taken (value (digits bs)) (afterDigits bs)) torn
+readUnsigned bs = cond (wellFormed (digits bs)) (taken (value (digits bs)) (afterDigits bs)) malformed
 
 -- −v, where v is not 0
 unfoldable pub negated : Parse ℕ → Parse ℤ
-negated torn = torn
-negated (taken zero bs) = torn
+negated malformed = malformed
+negated (taken zero bs) = malformed
 negated (taken (suc v) bs) = taken (negsuc v) bs
 
 unfoldable pub positive : Parse ℕ → Parse ℤ
-positive torn = torn
+positive malformed = malformed
 positive (taken v bs) = taken (pos v) bs
 
 unfoldable pub readNumber : List ℕ → Parse ℤ
-readNumber [] = torn
+readNumber [] = malformed
 readNumber (b ∷ bs) = elim (eqb b minusSign) [ true ↦ negated (readUnsigned bs) | false ↦ positive (readUnsigned (b ∷ bs)) ]
 
 -- ---- a number's text

@@ -11,8 +11,8 @@ use lib.Dec.{eqb}
 use lib.IntN.{ℤ, natAbs}
 use lib.ListN.{length, drop, length-drop}
 use lib.Seq.{drop-drop}
-use Rattle.tokens.specs.declared.NumberRead.the-variants.{Torn, Number}
-use Rattle.tokens.specs.Text.{Parse, torn, taken}
+use Rattle.tokens.specs.declared.NumberRead.the-variants.{Malformed, Number}
+use Rattle.tokens.specs.Text.{Parse, malformed, taken}
 use Rattle.tokens.specs.Number.{minusSign, mostDigits, digits, afterDigits, value, wellFormed}
 use Rattle.tokens.specs.Number.{readUnsigned, negated, positive, readNumber}
 use Rattle.tokens.specs.Places.{placed, numberAt}
@@ -45,11 +45,11 @@ digits-taken bs e =
 
 -- whatever is read without a sign, and with one
 abbrev UnsignedTaken : List ℕ → Parse ℕ → Type 0
-UnsignedTaken bs torn = Unit
+UnsignedTaken bs malformed = Unit
 UnsignedTaken bs (taken v rest) = Taken bs v rest
 
 abbrev NumberTaken : List ℕ → Parse ℤ → Type 0
-NumberTaken bs torn = Unit
+NumberTaken bs malformed = Unit
 NumberTaken bs (taken v rest) = Taken bs (natAbs v) rest
 
 unsigned-all : (bs : List ℕ) → UnsignedTaken bs (readUnsigned bs)
@@ -57,19 +57,19 @@ unfolding readUnsigned
 unsigned-all bs = go (wellFormed (digits bs)) refl
   where
     go : (x : Bool) → wellFormed (digits bs) ≡ x
-        → UnsignedTaken bs (cond x (taken (value (digits bs)) (afterDigits bs)) torn)
+        → UnsignedTaken bs (cond x (taken (value (digits bs)) (afterDigits bs)) malformed)
     go true h = digits-taken bs h
     go false h = tt
 
 negated-all : (b : ℕ) (bs : List ℕ) (p : Parse ℕ) → UnsignedTaken bs p → NumberTaken (b ∷ bs) (negated p)
 unfolding negated
-negated-all b bs torn t = tt
+negated-all b bs malformed t = tt
 negated-all b bs (taken zero rest) t = tt
 negated-all b bs (taken (suc v) rest) t = later b t
 
 positive-all : (bs : List ℕ) (p : Parse ℕ) → UnsignedTaken bs p → NumberTaken bs (positive p)
 unfolding positive
-positive-all bs torn t = tt
+positive-all bs malformed t = tt
 positive-all bs (taken v rest) t = t
 
 -- a minus, and another byte
@@ -117,17 +117,17 @@ number-found bytes at {v} {next} e = go (readNumber (drop at bytes)) refl e
   where
     go : (p : Parse ℤ) → readNumber (drop at bytes) ≡ p → placed (length bytes) p ≡ Number v next
         → readNumber (drop at bytes) ≡ taken v (drop next bytes)
-    go torn q h = cc
+    go malformed q h = cc
     go (taken w rest) q h =
         let ev : w ≡ v = cc in
         let en : length bytes - length rest ≡ next = cc in
         rw (← ev, ← en) (q ∙ ap (taken w) (sym (at-place bytes at (number-taken (drop at bytes) q))))
 
 -- no number stands at the place
-pub number-torn : (bytes : List ℕ) (at : ℕ) → numberAt bytes at ≡ Torn → readNumber (drop at bytes) ≡ torn
+pub number-malformed : (bytes : List ℕ) (at : ℕ) → numberAt bytes at ≡ Malformed → readNumber (drop at bytes) ≡ malformed
 unfolding numberAt
-number-torn bytes at e = go (readNumber (drop at bytes)) e
+number-malformed bytes at e = go (readNumber (drop at bytes)) e
   where
-    go : (p : Parse ℤ) → placed (length bytes) p ≡ Torn → p ≡ torn
-    go torn h = refl
+    go : (p : Parse ℤ) → placed (length bytes) p ≡ Malformed → p ≡ malformed
+    go malformed h = refl
     go (taken v rest) h = cc

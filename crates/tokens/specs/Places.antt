@@ -5,12 +5,12 @@ use mathlib.Core.List.{List}
 use lib.IntN.{ℤ}
 use lib.ListN.{length, drop}
 use Rattle.tokens.specs.declared.NumberRead.{NumberRead}
-use Rattle.tokens.specs.declared.NumberRead.the-variants.{Torn, Number}
-use Rattle.tokens.specs.Text.{Parse, torn, taken, takeText}
+use Rattle.tokens.specs.declared.NumberRead.the-variants.{Malformed, Number}
+use Rattle.tokens.specs.Text.{Parse, malformed, taken, takeText}
 use Rattle.tokens.specs.Number.{readNumber}
 
 abbrev pub isTaken : {A : Type 0} → Parse A → Bool
-isTaken torn = false
+isTaken malformed = false
 isTaken (taken a rest) = true
 
 -- whether the bytes from a place on begin with the text
@@ -19,7 +19,7 @@ textAt bytes at text = isTaken (takeText text (drop at bytes))
 
 -- a number that was read, with the place after it, in n bytes
 abbrev pub placed : ℕ → Parse ℤ → NumberRead
-placed n torn = Torn
+placed n malformed = Malformed
 placed n (taken v rest) = Number v (n - length rest)
 
 -- the number at a place
@@ -28,5 +28,5 @@ numberAt bytes at = placed (length bytes) (readNumber (drop at bytes))
 
 -- what a result of the code says was read: the number, and the bytes from the place after it on
 abbrev pub numberRead : List ℕ → NumberRead → Parse ℤ
-numberRead bytes Torn = torn
+numberRead bytes Malformed = malformed
 numberRead bytes (Number v next) = taken v (drop next bytes)

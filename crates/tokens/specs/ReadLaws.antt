@@ -11,8 +11,8 @@ use mir.Facts.{toZ-ofZ}
 use mir.Syntax.{w64}
 use mir.Val.{hbits, ofZ, toZ}
 use Rattle.tokens.specs.declared.NumberRead.{NumberRead}
-use Rattle.tokens.specs.declared.NumberRead.the-variants.{Torn, Number}
-use Rattle.tokens.specs.Text.{Parse, torn, taken}
+use Rattle.tokens.specs.declared.NumberRead.the-variants.{Malformed, Number}
+use Rattle.tokens.specs.Text.{Parse, malformed, taken}
 use Rattle.tokens.specs.Places.{numberRead}
 
 -- a test `!found` that held, and one that failed
@@ -26,10 +26,10 @@ has {r} e h = sym e ∙ not-false r h
 pub held : (z : ℤ) → mag z < 2 ^ hbits w64 → toZ w64 (ofZ w64 z) ≡ z
 held z h = toZ-ofZ (record { sfits = h })
 
--- a number that was torn, and one that was read
+-- a number that was malformed, and one that was read
 module _ (bytes : List ℕ) where
-  pub read-torn : {r : NumberRead} {q : Parse ℤ} → numberRead bytes r ≡ q → r ≡ Torn → q ≡ torn
-  read-torn e f = sym e ∙ ap (numberRead bytes) f
+  pub read-malformed : {r : NumberRead} {q : Parse ℤ} → numberRead bytes r ≡ q → r ≡ Malformed → q ≡ malformed
+  read-malformed e f = sym e ∙ ap (numberRead bytes) f
 
   pub read-taken : {r : NumberRead} {q : Parse ℤ} {v : ℤ} {next : ℕ} → numberRead bytes r ≡ q → r ≡ Number v next
       → q ≡ taken v (drop next bytes)

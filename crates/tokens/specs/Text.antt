@@ -11,13 +11,13 @@ unfoldable pub bytesOf : String → List ℕ
 bytesOf none = []
 bytesOf (c then s) = code c ∷ bytesOf s
 
--- what is read at the front of a list of bytes: a value and the bytes after it, or torn
+-- what is read at the front of a list of bytes: a value and the bytes after it, or malformed
 pub data Parse (A : Type 0) : Type 0 where
-  torn : Parse A
+  malformed : Parse A
   taken : A → List ℕ → Parse A
 
 -- the bytes after the text, where they begin with it
 unfoldable pub takeText : List ℕ → List ℕ → Parse Unit
 takeText [] bs = taken tt bs
-takeText (t ∷ ts) [] = torn
-takeText (t ∷ ts) (b ∷ bs) = elim (eqb b t) [ true ↦ takeText ts bs | false ↦ torn ]
+takeText (t ∷ ts) [] = malformed
+takeText (t ∷ ts) (b ∷ bs) = elim (eqb b t) [ true ↦ takeText ts bs | false ↦ malformed ]

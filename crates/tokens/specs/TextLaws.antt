@@ -9,17 +9,17 @@ use borrow.Author.Tests.{eqb-true, eq-eqb, ne-eqb}
 use lib.Dec.{eqb}
 use lib.ListN.{length, drop, length-append, length-drop}
 use lib.Seq.{drop-append-seam, drop-drop}
-use Rattle.tokens.specs.Text.{Parse, torn, taken, takeText}
+use Rattle.tokens.specs.Text.{Parse, malformed, taken, takeText}
 use Rattle.tokens.specs.Places.{isTaken, textAt}
 
 -- ---- one byte
 
--- the text goes on where the byte is its first, and is torn where it is not
+-- the text goes on where the byte is its first, and is malformed where it is not
 pub takeText-match : {b t : ℕ} (ts bs : List ℕ) → b ≡ t → takeText (t ∷ ts) (b ∷ bs) ≡ takeText ts bs
 unfolding takeText
 takeText-match {b} {t} ts bs e = rw (eq-eqb b t e, takeText)
 
-pub takeText-clash : {b t : ℕ} (ts bs : List ℕ) → (b ≡ t → ⊥) → takeText (t ∷ ts) (b ∷ bs) ≡ torn
+pub takeText-clash : {b t : ℕ} (ts bs : List ℕ) → (b ≡ t → ⊥) → takeText (t ∷ ts) (b ∷ bs) ≡ malformed
 unfolding takeText
 takeText-clash {b} {t} ts bs h = rw (ne-eqb b t h, takeText)
 
@@ -51,7 +51,7 @@ pub takeText-room : (t bs : List ℕ) {u : Unit} {rest : List ℕ} → takeText 
     → length bs ≡ length t + length rest
 takeText-room t bs {rest} e = rw (takeText-whole t bs e) (length-append t rest)
 
--- a text and then another: behind a text in front of both, and where the first is read and where it is torn
+-- a text and then another: behind a text in front of both, and where the first is read and where it is malformed
 pub takeText-behind : (t u bs : List ℕ) → takeText (t ++ u) (t ++ bs) ≡ takeText u bs
 takeText-behind [] u bs = refl
 takeText-behind (b ∷ t) u bs = takeText-match (t ++ u) (t ++ bs) refl ∙ takeText-behind t u bs
@@ -60,14 +60,14 @@ pub takeText-then : (t u bs : List ℕ) {w : Unit} {rest : List ℕ} → takeTex
     → takeText (t ++ u) bs ≡ takeText u rest
 takeText-then t u bs {rest} e = rw (takeText-whole t bs e) (takeText-behind t u rest)
 
-pub takeText-torn : (t u bs : List ℕ) → takeText t bs ≡ torn → takeText (t ++ u) bs ≡ torn
+pub takeText-malformed : (t u bs : List ℕ) → takeText t bs ≡ malformed → takeText (t ++ u) bs ≡ malformed
 unfolding takeText
-takeText-torn [] u bs e = cc
-takeText-torn (b ∷ t) u [] e = refl
-takeText-torn (b ∷ t) u (c ∷ bs) e = go (λ q. takeText-torn t u bs q) (eqb c b) refl
+takeText-malformed [] u bs e = cc
+takeText-malformed (b ∷ t) u [] e = refl
+takeText-malformed (b ∷ t) u (c ∷ bs) e = go (λ q. takeText-malformed t u bs q) (eqb c b) refl
   where
-    go : (takeText t bs ≡ torn → takeText (t ++ u) bs ≡ torn) → (x : Bool) → eqb c b ≡ x
-        → takeText ((b ∷ t) ++ u) (c ∷ bs) ≡ torn
+    go : (takeText t bs ≡ malformed → takeText (t ++ u) bs ≡ malformed) → (x : Bool) → eqb c b ≡ x
+        → takeText ((b ∷ t) ++ u) (c ∷ bs) ≡ malformed
     go ih true h = rw (h, takeText) (ih (rw (h, takeText) at e))
     go ih false h = rw (h, takeText)
 
@@ -81,7 +81,7 @@ text-found bytes at text e = go (takeText text (drop at bytes)) refl e
   where
     go : (p : Parse Unit) → takeText text (drop at bytes) ≡ p → isTaken p ≡ true
         → takeText text (drop at bytes) ≡ taken tt (drop (at + length text) bytes)
-    go torn q h = cc
+    go malformed q h = cc
     go (taken u rest) q h = q ∙ ap (taken tt) (takeText-rest text (drop at bytes) q ∙ drop-drop (length text) at bytes)
 
 -- it lies within the bytes from the place on
@@ -90,12 +90,12 @@ pub text-room : (bytes : List ℕ) (at : ℕ) (text : List ℕ) → textAt bytes
 text-room bytes at text e =
     omega (arith, takeText-room text (drop at bytes) (text-found bytes at text e), length-drop at bytes)
 
--- a text that is not found is torn
+-- a text that is not found is malformed
 pub text-missing : (bytes : List ℕ) (at : ℕ) (text : List ℕ) → textAt bytes at text ≡ false
-    → takeText text (drop at bytes) ≡ torn
+    → takeText text (drop at bytes) ≡ malformed
 unfolding textAt
 text-missing bytes at text e = go (takeText text (drop at bytes)) e
   where
-    go : (p : Parse Unit) → isTaken p ≡ false → p ≡ torn
-    go torn h = refl
+    go : (p : Parse Unit) → isTaken p ≡ false → p ≡ malformed
+    go malformed h = refl
     go (taken u rest) h = cc

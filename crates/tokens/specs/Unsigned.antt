@@ -7,8 +7,8 @@ use lib.Dec.{eqb}
 use lib.ListN.{length, take, drop}
 use Rattle.tokens.specs.declared.Digits.{Digits}
 use Rattle.tokens.specs.declared.UnsignedRead.{UnsignedRead}
-use Rattle.tokens.specs.declared.UnsignedRead.the-variants.{Torn, Unsigned}
-use Rattle.tokens.specs.Text.{Parse, torn, taken}
+use Rattle.tokens.specs.declared.UnsignedRead.the-variants.{Malformed, Unsigned}
+use Rattle.tokens.specs.Text.{Parse, malformed, taken}
 use Rattle.tokens.specs.Number.{minusSign, mostDigits, digits, value, readUnsigned}
 
 -- at most k digits at the front
@@ -22,7 +22,7 @@ pub record DigitsRead (bytes : List ℕ) (at : ℕ) (r : Digits) : Type 0 where
 
 -- a number without its sign that was read, with the place after it, in n bytes
 abbrev pub placedUnsigned : ℕ → Parse ℕ → UnsignedRead
-placedUnsigned n torn = Torn
+placedUnsigned n malformed = Malformed
 placedUnsigned n (taken v rest) = Unsigned v (n - length rest)
 
 -- the number without its sign at a place

@@ -9,13 +9,13 @@ use words::Short;
 
 // A number that was read, with the place after it.
 pub enum NumberRead {
-    Torn,
+    Malformed,
     Number(i64, usize),
 }
 
 // A number without its sign that was read, with the place after it.
 pub enum UnsignedRead {
-    Torn,
+    Malformed,
     Unsigned(u64, usize),
 }
 

@@ -9,8 +9,8 @@ use Rattle.sheet.specs.declared.Reading.{Reading}
 use Rattle.sheet.specs.Sheet.{readSheet}
 use Rattle.lines.specs.Lines.{firstLines, afterLines}
 use Rattle.lines.specs.LineLaws.{lines-take, lines-drop, lines-within}
-use Rattle.desk.specs.Desk.{sheetLines}
-use Rattle.desk.specs.Sheets.{ReadWell, read-well}
+use Rattle.query_run.specs.QueryRun.{sheetLines}
+use Rattle.query_run.specs.Sheets.{ReadWell, read-well}
 use Rattle.two_sheets.specs.TwoSheets.{firstSheet, secondSheet, afterSheets}
 
 -- ---- definition

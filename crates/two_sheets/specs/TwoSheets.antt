@@ -1,10 +1,10 @@
--- Two sheets in one input: "The sheets are the first and the second 370 lines", and fewer lines are torn.
+-- Two sheets in one input: the first and the second 370 lines, and fewer lines are malformed.
 use mathlib.Core.List.{List}
 use Prim.Native.Nat.{ℕ}
 use Rattle.sheet.specs.declared.Reading.{Reading}
 use Rattle.sheet.specs.Sheet.{readSheet}
 use Rattle.lines.specs.Lines.{firstLines, afterLines}
-use Rattle.desk.specs.Desk.{sheetLines}
+use Rattle.query_run.specs.QueryRun.{sheetLines}
 
 unfoldable pub firstSheet : List ℕ → Reading
 firstSheet input = readSheet (firstLines sheetLines input)

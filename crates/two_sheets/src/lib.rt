@@ -2,7 +2,7 @@
 ghost use mathlib.Core.Path.{_≡_};
 ghost use Rattle.two_sheets.specs.TwoSheets.{firstSheet, secondSheet};
 ghost use Rattle.two_sheets.specs.TwoSheetLaws.{sheetsEnd};
-use desk::SHEET_LINES;
+use query_run::SHEET_LINES;
 use sheet::Reading;
 
 // The two sheets of an input, and the place after them.

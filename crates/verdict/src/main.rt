@@ -6,7 +6,7 @@ use verdict_text::MOST_VERDICT;
 // Reads standard input into the bytes, and prints its line out of the buffer.
 fn answer_in(bytes: &mut [u8], out: &mut [u8]) {
     let len = io::read_full(STDIN_FILENO, bytes);
-    let line = verdict_desk::run(&bytes[..len], out);
+    let line = verdict_run::run(&bytes[..len], out);
     io::write_all(STDOUT_FILENO, &out[..line.len]);
 }
 

@@ -1,5 +1,5 @@
--- The line that the program `verdict` prints of a year (paper 02, E3): "`year=2020 verdict=right`, `wrong` or `open`, or `year=2020
--- no=` and the number".
+-- The line that the program `verdict` prints of a year (paper 02, E3): `year=2020 verdict=right`, `wrong` or `open`, or
+-- `year=2020 no=` and the number.
 use mathlib.Core.List.{List, _++_}
 use Prim.Native.Nat.{ℕ}
 use lib.IntN.{ℤ}

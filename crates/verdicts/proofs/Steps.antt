@@ -12,7 +12,7 @@ use Rattle.expo.specs.Billionths.{billionths}
 use Rattle.expo.specs.declared.Ends as code
 use Rattle.params.specs.declared.Params.{Params}
 use Rattle.params.specs.declared.Refusal.{Refusal}
-use Rattle.params.specs.declared.Refusal.the-variants.{Accepted, OffScale, NoSuchYear, Steep, TornColumn}
+use Rattle.params.specs.declared.Refusal.the-variants.{Accepted, OutOfLimits, NoSuchYear, LogForceOutOfRange, MalformedColumn}
 use Rattle.params.specs.Limits.{inLimits}
 use Rattle.params.specs.Refusals.{refusalNumber}
 use Rattle.folds.specs.Code.{listOf}
@@ -42,15 +42,15 @@ use Rattle.verdicts.specs.Figures.{figures-in}
 use Rattle.verdicts.specs.Theorem.{verdict-honest}
 
 -- a set out of its limits
-pub off-scale : (p : Params) (year : ℤ) (read : Parse (List ℕ)) → inLimits p ≡ false → Refused OffScale ≡ judged p year read
+pub out-of-limits : (p : Params) (year : ℤ) (read : Parse (List ℕ)) → inLimits p ≡ false → Refused OutOfLimits ≡ judged p year read
 unfolding judged columnRefusal columnTests firstFailed judgedBy refusalNumber
-off-scale p year read e = rw e
+out-of-limits p year read e = rw e
 
--- a torn column
-pub torn-column : (p : Params) (year : ℤ) (column : List ℕ) {whole : Bool} → T (inLimits p) → whole ≡ false
-    → Refused TornColumn ≡ judged p year (columnRead whole column)
+-- a malformed column
+pub malformed-column : (p : Params) (year : ℤ) (column : List ℕ) {whole : Bool} → T (inLimits p) → whole ≡ false
+    → Refused MalformedColumn ≡ judged p year (columnRead whole column)
 unfolding judged columnRefusal columnTests firstFailed judgedBy refusalNumber columnRead
-torn-column p year column t e = rw (is-true (inLimits p) t, e)
+malformed-column p year column t e = rw (is-true (inLimits p) t, e)
 
 -- an answer of a whole column is the definition's, and honest
 pub answered : (p : Params) (year : ℤ) (column : List ℕ) {whole : Bool} {r : Judged} → whole ≡ true
@@ -78,7 +78,7 @@ module _ (p : Params) (year : ℤ) (column : List ℕ) (t : T (inLimits p)) wher
 
   module _ (y : T (yearInTable (ruleOf Death) year)) where
     -- a cell out of range
-    pub cell-out : pathInRange p (yearCells year) ≡ false → Refused Steep ≡ judged p year (taken column [])
+    pub cell-out : pathInRange p (yearCells year) ≡ false → Refused LogForceOutOfRange ≡ judged p year (taken column [])
     unfolding judged columnRefusal columnTests firstFailed judgedBy refusalNumber
     cell-out e = rw (is-true (inLimits p) t, is-true (yearInTable (ruleOf Death) year) y, e)
 

@@ -4,7 +4,7 @@ use mathlib.Core.Bool.{Bool, true, false, cond}
 use mathlib.Core.List.{List, []}
 use Prim.Native.Nat.{ℕ}
 use lib.ListN.{getD}
-use Rattle.tokens.specs.Text.{Parse, torn, taken}
+use Rattle.tokens.specs.Text.{Parse, malformed, taken}
 use Rattle.expo.specs.Grid.{Ends}
 use Rattle.expo.specs.Billionths.{billionths}
 use Rattle.expo.specs.Code.{endsOf}
@@ -20,7 +20,7 @@ use Rattle.verdicts.specs.Verdict.{differs, isOpen}
 -- a column where the whole of it was read
 unfoldable pub columnRead : Bool → List ℕ → Parse (List ℕ)
 columnRead true column = taken column []
-columnRead false column = torn
+columnRead false column = malformed
 
 -- the verdict on one age
 unfoldable pub ageVerdict : Shown → ℕ → Verdict

@@ -7,9 +7,9 @@ use lib.ListN.{getD, replicate}
 use Rattle.whole.specs.Table.{listed}
 use Rattle.whole.specs.SignedEnds.{leastProduct, greatestProduct, outward}
 use Rattle.whole.specs.Division.{floorDiv, ceilDiv}
-use Rattle.tokens.specs.Text.{torn, taken}
+use Rattle.tokens.specs.Text.{malformed, taken}
 use Rattle.params.specs.declared.Params.{Params}
-use Rattle.params.specs.declared.Refusal.the-variants.{OffScale, NoSuchYear, Steep, TornColumn}
+use Rattle.params.specs.declared.Refusal.the-variants.{OutOfLimits, NoSuchYear, LogForceOutOfRange, MalformedColumn}
 use Rattle.params.specs.declared.Sex.the-variants.{M}
 use Rattle.params.specs.Set.{A, B, alpha, beta, ages}
 use Rattle.params.specs.Limits.{inLimits, seriesInLimits, agesInLimits, ageInLimits}
@@ -54,7 +54,7 @@ rows = (refl, refl, refl, refl, refl, refl, refl)
 
 -- ---- refusals
 
--- this a, and every other number 0: each cell is steep
+-- this a, and every other number 0: each cell is out of range
 abbrev withA : ℕ → Params
 withA a =
     record {
@@ -69,10 +69,10 @@ withA a =
       beta = replicate ages (pos 0);
     }
 
--- 2 before 9, and 9 before 4: with a past its limit a torn column in a year that is none of `q`; with a in its limit the same,
+-- 2 before 9, and 9 before 4: with a past its limit a malformed column in a year that is none of `q`; with a in its limit the same,
 -- and then a whole column in the years before the first and after the last
-pub refusals : (judged (withA 100000001) (pos 2013) torn ≡ Refused OffScale)
-    × (judged (withA 100000000) (pos 2013) torn ≡ Refused TornColumn)
+pub refusals : (judged (withA 100000001) (pos 2013) malformed ≡ Refused OutOfLimits)
+    × (judged (withA 100000000) (pos 2013) malformed ≡ Refused MalformedColumn)
     × (judged (withA 100000000) (pos 2013) (taken [] []) ≡ Refused NoSuchYear)
     × (judged (withA 100000000) (pos 2185) (taken [] []) ≡ Refused NoSuchYear)
 unfolding judged judgedBy columnRefusal columnTests firstFailed refusalNumber inLimits seriesInLimits agesInLimits ageInLimits
@@ -80,9 +80,9 @@ unfolding judged judgedBy columnRefusal columnTests firstFailed refusalNumber in
 refusals = (refl, refl, refl, refl)
 
 -- 6 in the first year and in the last
-pub steep : (judged (withA 0) (pos 2014) (taken [] []) ≡ Refused Steep)
-    × (judged (withA 0) (pos 2184) (taken [] []) ≡ Refused Steep)
+pub out-of-range : (judged (withA 0) (pos 2014) (taken [] []) ≡ Refused LogForceOutOfRange)
+    × (judged (withA 0) (pos 2184) (taken [] []) ≡ Refused LogForceOutOfRange)
 unfolding judged judgedBy columnRefusal columnTests firstFailed refusalNumber inLimits seriesInLimits agesInLimits ageInLimits
     A B alpha beta yearInTable ruleOf yearCells pathOf listed placeAt pathInRange neededInRange fittedInRange inRange
     logForce cellForce periodIn kappaIn kappaStep leastProduct greatestProduct outward floorDiv ceilDiv
-steep = (refl, refl)
+out-of-range = (refl, refl)

@@ -1,5 +1,5 @@
 -- "Right is returned only for a column whose every entry is the rounded exact value, wrong only for one with an entry that isn't":
--- of any set, year and column, read or torn.
+-- of any set, year and column, read or malformed.
 use mathlib.Core.Path.{_≡_, refl, ap, sym, _∙_}
 use mathlib.Core.Bool.{true, false}
 use mathlib.Core.List.{List}

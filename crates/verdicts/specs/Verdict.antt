@@ -6,11 +6,11 @@ use Prim.Native.Nat.{ℕ, zero, suc, _-_}
 use lib.Dec.{eqb}
 use lib.IntN.{ℤ, pos, natAbs}
 use lib.ListN.{getD}
-use Rattle.tokens.specs.Text.{bytesOf, Parse, torn, taken}
+use Rattle.tokens.specs.Text.{bytesOf, Parse, malformed, taken}
 use Rattle.tokens.specs.Places.{isTaken}
 use Rattle.params.specs.declared.Params.{Params}
 use Rattle.params.specs.declared.Refusal.{Refusal}
-use Rattle.params.specs.declared.Refusal.the-variants.{OffScale, NoSuchYear, Steep, TornColumn}
+use Rattle.params.specs.declared.Refusal.the-variants.{OutOfLimits, NoSuchYear, LogForceOutOfRange, MalformedColumn}
 use Rattle.params.specs.Refusals.{refusalNumber}
 use Rattle.params.specs.Limits.{inLimits, startYear}
 use Rattle.weights.specs.Weights.{lastClosed}
@@ -79,20 +79,20 @@ unfoldable pub yearCells : ℤ → List Place
 yearCells year = pathOf false 0 (natAbs year - startYear) columnAges
 
 -- "9 torn column, .. after 2 and before 4 and 6": the years are those of `q`, and 6 is given where a cell that some age needs is
--- steep
+-- out of range
 unfoldable pub columnTests : Params → ℤ → Parse (List ℕ) → List Test
 columnTests p year read =
-    record { passed = inLimits p; refusal = OffScale } ∷
-    record { passed = isTaken read; refusal = TornColumn } ∷
+    record { passed = inLimits p; refusal = OutOfLimits } ∷
+    record { passed = isTaken read; refusal = MalformedColumn } ∷
     record { passed = yearInTable (ruleOf Death) year; refusal = NoSuchYear } ∷
-    record { passed = pathInRange p (yearCells year); refusal = Steep } ∷ []
+    record { passed = pathInRange p (yearCells year); refusal = LogForceOutOfRange } ∷ []
 
 unfoldable pub columnRefusal : Params → ℤ → Parse (List ℕ) → Refusal
 columnRefusal p year read = firstFailed (columnTests p year read)
 
 -- the entries that were read
 unfoldable pub entriesIn : Parse (List ℕ) → List ℕ
-entriesIn torn = []
+entriesIn malformed = []
 entriesIn (taken column rest) = column
 
 -- a verdict where nothing is refused

@@ -104,23 +104,23 @@ pub fn judge_within(p: Params, year: i64, column: [u64; COLUMN_AGES]) -> Judged
     };
     let worked = factors::factors_of(p, cells);
     if !worked.ok {
-        return Judged::Refused(Refusal::Steep);
+        return Judged::Refused(Refusal::LogForceOutOfRange);
     }
     let ends = worked.ends;
     let verdict = verdict_on(ends, column);
     Judged::Of(verdict)
 }
 
-// What is answered of any column, where the whole of it was read and where it is torn.
+// What is answered of any column, where the whole of it was read and where it is malformed.
 pub fn judge(p: Params, year: i64, whole: bool, column: [u64; COLUMN_AGES]) -> Judged
     ensures answered { λ r. ⌜ r ≡ judged p year (columnRead whole column) ⌝ }
     ensures honest { λ r. ⌜ Honest p year column r ⌝ }
 {
     if !limits::in_limits(p) {
-        return Judged::Refused(Refusal::OffScale);
+        return Judged::Refused(Refusal::OutOfLimits);
     }
     if !whole {
-        return Judged::Refused(Refusal::TornColumn);
+        return Judged::Refused(Refusal::MalformedColumn);
     }
     judge_within(p, year, column)
 }

@@ -20,7 +20,7 @@ use Rattle.expo.specs.declared.Ends as code
 use Rattle.params.specs.declared.Params.{Params}
 use Rattle.params.specs.Limits.{lastYears}
 use Rattle.cells.specs.declared.Cell.{Cell}
-use Rattle.cells.specs.declared.Cell.the-variants.{Steep, Of}
+use Rattle.cells.specs.declared.Cell.the-variants.{LogForceOutOfRange, Of}
 use Rattle.years.specs.declared.Year.{Year}
 use Rattle.mortality.specs.Cell.{survival, neededInRange}
 use Rattle.years.specs.Code.{YearWithin}
@@ -42,11 +42,11 @@ along cohort age year count = record { cohort = cohort; age = age; year = year; 
 abbrev pub cellAt : Params → Path → ℕ → Cell
 cellAt p w s = cellOf p (placeOf w s .age) (placeOf w s .year)
 
-inside : (b : Bool) {d e : code.Ends} → cond b (Of d) Steep ≡ Of e → T b × (d ≡ e)
+inside : (b : Bool) {d e : code.Ends} → cond b (Of d) LogForceOutOfRange ≡ Of e → T b × (d ≡ e)
 inside true q = (tt, cc)
 inside false q = clash cc
 
-outside : (b : Bool) (d : code.Ends) → cond b (Of d) Steep ≡ Steep → b ≡ false
+outside : (b : Bool) (d : code.Ends) → cond b (Of d) LogForceOutOfRange ≡ LogForceOutOfRange → b ≡ false
 outside true d q = clash cc
 outside false d q = refl
 
@@ -57,7 +57,7 @@ cell-in p x n {e} q =
     let r = inside (neededInRange p x n) {d = coded (survival billionths p x n)} {e = e} q in
     (r .0, rw (← r .1))
 
-cell-out : (p : Params) (x n : ℕ) → cellOf p x n ≡ Steep → neededInRange p x n ≡ false
+cell-out : (p : Params) (x n : ℕ) → cellOf p x n ≡ LogForceOutOfRange → neededInRange p x n ≡ false
 unfolding cellOf
 cell-out p x n q = outside (neededInRange p x n) (coded (survival billionths p x n)) q
 
@@ -103,7 +103,7 @@ worked-last {p} {w} {es} {s} d h m =
     ∙ getD-at (factors billionths p (pathTo w s)) _ [] (endsOf d) s
     (factors-length billionths p (pathTo w s) ∙ path-length (w .cohort) (w .age) (w .year) s)
 
-pub worked-out : (p : Params) (w : Path) {s : ℕ} → s < w .count → cellAt p w s ≡ Steep → pathInRange p (pathIs w) ≡ false
+pub worked-out : (p : Params) (w : Path) {s : ℕ} → s < w .count → cellAt p w s ≡ LogForceOutOfRange → pathInRange p (pathIs w) ≡ false
 worked-out p w {s} l q =
     range-out p (w .cohort) (w .age) (w .year) s (w .count) l (cell-out p (placeOf w s .age) (placeOf w s .year) q)
 

@@ -56,7 +56,7 @@ pub record YearAt (p : Params) (w : Path) (s : ℕ) (y : Year) : Type 0 where
 
 -- the ages to 90 are worked, or a cell is out of range
 pub record WalkOf (p : Params) (w : Path) (r : Walk) : Type 0 where
-  pub steep : T (not (r .ok)) → pathInRange p (pathIs w) ≡ false
+  pub out-of-range : T (not (r .ok)) → pathInRange p (pathIs w) ≡ false
   pub worked : T (r .ok) → Worked p w (r .ends) (r .done)
   pub next : T (r .ok) → YearAt p w (r .done) (r .year)
   pub old : T (r .ok) → r .done < w .count → firstClosed ≤ w .age + r .done

@@ -1,4 +1,4 @@
--- `old_cell` meets its contract: without the ends of H the cell is steep, and with them p is that of the closure's force.
+-- `old_cell` meets its contract: without the ends of H the cell is out of range, and with them p is that of the closure's force.
 use mathlib.Core.Path.{ap, _∙_}
 use borrow.Author.Needs.{needs}
 use borrow.Author.Tests.{not-true, not-false}

@@ -1,4 +1,4 @@
--- `young_cell` meets its contract: out of range the cell is steep, and in range p is that of the force.
+-- `young_cell` meets its contract: out of range the cell is out of range, and in range p is that of the force.
 use mathlib.Core.Path.{_≡_, ap, sym, _∙_}
 use mathlib.Core.Bool.{true}
 use borrow.Author.Needs.{needs}

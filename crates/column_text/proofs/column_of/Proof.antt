@@ -13,7 +13,7 @@ use Rattle.lines.specs.LineLaws.{line-take, place-within}
 use Rattle.column_text.specs.Column.{columnOf}
 use Rattle.column_text.specs.Table.{emptyTable, withLine, walk}
 use Rattle.column_text.specs.Code.{listRead}
-use Rattle.column_text.specs.WalkLaws.{lineAt, line-here, walk-column, walk-torn, walk-next, walk-end}
+use Rattle.column_text.specs.WalkLaws.{lineAt, line-here, walk-column, walk-malformed, walk-next, walk-end}
 use Rattle.column_text.proofs.column_of.Statement.{statement}
 use Rattle.column_text.proofs.column_of.Tie as tie
 
@@ -83,7 +83,7 @@ returns : tie.Need-returns Inv-loop μ-loop
 returns c =
     let w = c .before .before .before .before in
     let l = turn w .loop in
-    sym (l .inv .1 ∙ walk-torn (bytes (turn w)) (l .at) (omega arith) (l .table) (put-as (c .before) (not-true _ (c .if1 .taken))))
+    sym (l .inv .1 ∙ walk-malformed (bytes (turn w)) (l .at) (omega arith) (l .table) (put-as (c .before) (not-true _ (c .if1 .taken))))
 
 loop-less : tie.Need-loop-less Inv-loop μ-loop
 loop-less c =

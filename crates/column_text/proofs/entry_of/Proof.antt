@@ -1,5 +1,5 @@
 -- `entry_of` meets its contract: each part of the line is found at its place and leaves the others to be read, or the line is
--- torn.
+-- malformed.
 use borrow.Author.Needs.{needs}
 use mathlib.Core.Path.{_≡_, sym, _∙_}
 use Prim.Native.Nat.{ℕ, _+_}
@@ -8,13 +8,13 @@ use mathlib.Core.List.{List}
 use lib.ListN.{drop}
 use Rattle.tokens.specs.Text.{bytesOf}
 use Rattle.tokens.specs.TextLaws.{text-found, text-missing, text-room}
-use Rattle.tokens.specs.ReadLaws.{lacks, has, held, read-torn, read-taken}
+use Rattle.tokens.specs.ReadLaws.{lacks, has, held, read-malformed, read-taken}
 use Rattle.tokens.specs.Steps.{goes, stops}
 use Rattle.query.specs.Query.{alone}
 use Rattle.query.proofs.QuerySteps.{followed, at-end}
 use Rattle.column_text.specs.declared.Entry.{Entry}
 use Rattle.column_text.specs.Column.{readEntry}
-use Rattle.column_text.proofs.EntrySteps.{lineEnd, fromQ, fromName, age-torn, age-taken, unsigned-torn, unsigned-taken}
+use Rattle.column_text.proofs.EntrySteps.{lineEnd, fromQ, fromName, age-malformed, age-taken, unsigned-malformed, unsigned-taken}
 use Rattle.column_text.proofs.entry_of.Statement.{statement}
 use Rattle.column_text.proofs.entry_of.Tie as tie
 
@@ -87,7 +87,7 @@ enum-told c = search needs
 
 returns : tie.Need-returns
 unfolding bytesOf
-returns c = sym (age-torn _ (read-torn _ (c .before .before .field-at .ensures) (c .enum-told .given .1)))
+returns c = sym (age-malformed _ (read-malformed _ (c .before .before .field-at .ensures) (c .enum-told .given .1)))
 
 slice-aggregate-text-at : tie.Need-slice-aggregate-text-at
 slice-aggregate-text-at c = search needs
@@ -118,7 +118,7 @@ enum-told-2 c = search needs
 returns-3 : tie.Need-returns-3
 returns-3 c =
     let q = c .before .before in
-    sym (after-name (q .before) ∙ stops _ (unsigned-torn _ (q .q-at .ensures) (c .enum-told2 .given .1)))
+    sym (after-name (q .before) ∙ stops _ (unsigned-malformed _ (q .q-at .ensures) (c .enum-told2 .given .1)))
 
 slice-aggregate-text-at-2 : tie.Need-slice-aggregate-text-at-2
 slice-aggregate-text-at-2 c = search needs

@@ -1,4 +1,4 @@
--- `place_line` meets its contract: the line is torn, or its entry is put into the table.
+-- `place_line` meets its contract: the line is malformed, or its entry is put into the table.
 use borrow.Author.Needs.{needs}
 use mathlib.Core.Path.{_≡_, sym, ap, _∙_}
 use mathlib.Core.List.{[]}

@@ -9,7 +9,7 @@ use Rattle.tokens.specs.ReadLaws.{lacks, has}
 use Rattle.tokens.specs.Steps.{goes, stops}
 use Rattle.column_text.specs.Column.{wholes, readDigits, readQ}
 use Rattle.column_text.specs.QLaws.{digits-small}
-use Rattle.column_text.proofs.EntrySteps.{fromPoint, digit-torn, digit-taken, unsigned-torn, unsigned-taken}
+use Rattle.column_text.proofs.EntrySteps.{fromPoint, digit-malformed, digit-taken, unsigned-malformed, unsigned-taken}
 use Rattle.column_text.proofs.q_at.Statement.{statement}
 use Rattle.column_text.proofs.q_at.Tie as tie
 
@@ -41,7 +41,7 @@ enum-told : tie.Need-enum-told
 enum-told c = search needs
 
 returns : tie.Need-returns
-returns c = sym (digit-torn _ (unsigned-torn _ (c .before .before .digits-at .ensures) (c .enum-told .given .1)))
+returns c = sym (digit-malformed _ (unsigned-malformed _ (c .before .before .digits-at .ensures) (c .enum-told .given .1)))
 
 slice-aggregate-text-at : tie.Need-slice-aggregate-text-at
 slice-aggregate-text-at c = search needs

@@ -9,7 +9,7 @@ use native.Mathlib.Omega.{arith}
 use lib.ListN.{length}
 use mir.Syntax.{w64}
 use Rattle.column_text.specs.Column.{columnLines}
-use Rattle.column_text.specs.StepLaws.{Stepped, stepped-start, stepped-torn, stepped-next, stepped-end}
+use Rattle.column_text.specs.StepLaws.{Stepped, stepped-start, stepped-malformed, stepped-next, stepped-end}
 use Rattle.column_text.proofs.table_steps.Statement.{statement}
 use Rattle.column_text.proofs.table_steps.Tie as tie
 
@@ -35,7 +35,7 @@ array-read-if1 c = search needs
 returns : tie.Need-returns Inv-loop μ-loop
 returns c =
     let l = c .before .before .loop in
-    sym (stepped-torn (l .inv .1) (omega (arith, long (c .before .before .before))) (c .if1 .taken))
+    sym (stepped-malformed (l .inv .1) (omega (arith, long (c .before .before .before))) (c .if1 .taken))
 
 mul-steps : tie.Need-mul-steps Inv-loop μ-loop
 mul-steps c = search needs

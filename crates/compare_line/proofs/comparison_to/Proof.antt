@@ -5,7 +5,7 @@ use mathlib.Core.Bool.{Bool, true}
 use lib.Dec.{T}
 use Rattle.params.specs.Limits.{inLimits}
 use Rattle.path_quotes.specs.declared.Answer.{Answer}
-use Rattle.desk_line.specs.Line.{queryAnswer}
+use Rattle.line_answer.specs.Line.{queryAnswer}
 use Rattle.compare_quotes.specs.Compare.{comparisonOf}
 use Rattle.compare_line.specs.CompareLine.{queryComparison}
 use Rattle.compare_line.proofs.comparison_to.Statement.{statement}

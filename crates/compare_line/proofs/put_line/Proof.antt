@@ -1,25 +1,25 @@
--- `put_line` meets its contract: a torn line's refusal, or a query's text and its comparison.
+-- `put_line` meets its contract: a malformed line's refusal, or a query's text and its comparison.
 use borrow.Author.Needs.{needs}
 use mathlib.Core.Path.{_≡_, sym, ap, _∙_}
 use mathlib.Core.List.{List, [], _++_}
 use Prim.Native.Nat.{ℕ, _-_}
 use native.Mathlib.Omega.{arith}
 use lib.ListN.{length, take}
-use Rattle.tokens.specs.Text.{torn, taken}
+use Rattle.tokens.specs.Text.{malformed, taken}
 use Rattle.printing.specs.Put.{Room}
 use Rattle.printing.specs.PutLaws.{put-as, room-as}
-use Rattle.params.specs.declared.Refusal.the-variants.{Torn}
+use Rattle.params.specs.declared.Refusal.the-variants.{Malformed}
 use Rattle.kinds.specs.Kinds.{ruleOf, decimalsOf}
 use Rattle.query.specs.declared.Query.{Query}
 use Rattle.query.specs.Query.{readQuery, queryText}
 use Rattle.query.specs.Code.{queryRead}
 use Rattle.answer_text.specs.AnswerText.{refusalLine}
-use Rattle.desk_line.specs.LineLaws.{echo, query-some}
+use Rattle.line_answer.specs.LineLaws.{echo, query-some}
 use Rattle.compare_quotes.specs.declared.Comparison.{Comparison}
 use Rattle.compare_text.specs.CompareText.{comparisonText}
 use Rattle.compare_text.specs.Sizes.{SizedComparison}
 use Rattle.compare_line.specs.CompareLine.{comparedLine, compareLine}
-use Rattle.compare_line.specs.CompareLaws.{query-sized, torn-line, query-line, compare-bounded}
+use Rattle.compare_line.specs.CompareLaws.{query-sized, malformed-line, query-line, compare-bounded}
 use Rattle.compare_line.proofs.put_line.Statement.{statement}
 use Rattle.compare_line.proofs.put_line.Tie as tie
 
@@ -34,14 +34,14 @@ line s = s .args .line .now
 room : (s : tie.Start) → Room (s .args .buffer .now) (s .args .at) (compareLine (s .args .first) (s .args .second) (line s))
 room s = record { fits = omega (arith, s .pre .2, compare-bounded (s .args .first) (s .args .second) .most (line s)) }
 
--- ---- a torn line
+-- ---- a malformed line
 
-torn-read : (c : tie.After-enum-told) → readQuery (line (start (c .before .before))) ≡ torn
-torn-read c = sym (c .before .before .query-of .ensures) ∙ ap queryRead (c .enum-told .given .1)
+malformed-read : (c : tie.After-enum-told) → readQuery (line (start (c .before .before))) ≡ malformed
+malformed-read c = sym (c .before .before .query-of .ensures) ∙ ap queryRead (c .enum-told .given .1)
 
 refused : (c : tie.After-enum-told) → let s = start (c .before .before) in
-    compareLine (s .args .first) (s .args .second) (line s) ≡ refusalLine Torn
-refused c = let s = start (c .before .before) in torn-line (s .args .first) (s .args .second) (line s) (torn-read c)
+    compareLine (s .args .first) (s .args .second) (line s) ≡ refusalLine Malformed
+refused c = let s = start (c .before .before) in malformed-line (s .args .first) (s .args .second) (line s) (malformed-read c)
 
 -- ---- a query
 

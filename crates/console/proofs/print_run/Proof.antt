@@ -5,8 +5,8 @@ use native.Mathlib.Omega.{arith}
 use lib.ListN.{length}
 use lib.Seq.{length-take-le}
 use Rattle.lines.specs.LineLaws.{lines-within}
-use Rattle.desk.specs.Desk.{sheetLines}
-use Rattle.desk.specs.Sheets.{ReadWell, sheet-well}
+use Rattle.query_run.specs.QueryRun.{sheetLines}
+use Rattle.query_run.specs.Sheets.{ReadWell, sheet-well}
 use Rattle.console.proofs.print_run.Statement.{statement}
 use Rattle.console.proofs.print_run.Tie as tie
 

@@ -4,7 +4,7 @@ use Prim.Native.Nat.{_-_, _≤_, _<_}
 use native.Mathlib.Omega.{arith}
 use lib.ListN.{length}
 use lib.Seq.{length-take-le}
-use Rattle.desk.specs.Sheets.{ReadWell}
+use Rattle.query_run.specs.Sheets.{ReadWell}
 use Rattle.two_sheets.specs.TwoSheetLaws.{end-within, first-well, second-well}
 use Rattle.console_compare.proofs.print_run.Statement.{statement}
 use Rattle.console_compare.proofs.print_run.Tie as tie

@@ -14,7 +14,7 @@ returns : tie.Need-returns
 returns c =
     let y = c .before .before .before in
     let e : y .young-factors .result .ok ≡ false = not-true _ (c .if1 .taken) in
-    out-all (y .young-factors .ensures .steep (rw e tt))
+    out-all (y .young-factors .ensures .out-of-range (rw e tt))
 
 -- the ages to 90 are in range
 ok : (c : tie.Else1) → c .before .before .before .young-factors .result .ok ≡ true

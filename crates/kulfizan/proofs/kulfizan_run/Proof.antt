@@ -1,4 +1,4 @@
--- `kulfizan_run` meets its contract: what the desk answers, with its length told.
+-- `kulfizan_run` meets its contract: what the run answers, with its length told.
 use borrow.Author.Needs.{needs}
 use mathlib.Core.Path.{refl}
 use Rattle.kulfizan.specs.Run.{withEnds}

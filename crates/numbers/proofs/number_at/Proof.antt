@@ -1,12 +1,12 @@
 -- `number_at` meets its contract: past the end nothing stands, after a minus the number without its sign is negated and
--- 0 is torn, else it is taken as it is; it is below 10¹⁵, so nothing overflows.
+-- 0 is malformed, else it is taken as it is; it is below 10¹⁵, so nothing overflows.
 use mathlib.Core.Path.{sym}
 use Prim.Native.Nat.{_^_, _<_}
 use native.Mathlib.Omega.{arith}
 use borrow.Author.Needs.{needs}
 use lib.ListN.{getD}
 use Rattle.tokens.specs.Number.{mostDigits}
-use Rattle.tokens.proofs.NumberSteps.{number-past, minus-most, sign-torn, sign-none, sign-zero, sign-minus}
+use Rattle.tokens.proofs.NumberSteps.{number-past, minus-most, sign-malformed, sign-none, sign-zero, sign-minus}
 use Rattle.tokens.proofs.NumberSteps.{unsigned-small, positive-fits, minus-fits}
 use Rattle.numbers.proofs.number_at.Statement.{statement}
 use Rattle.numbers.proofs.number_at.Tie as tie
@@ -41,7 +41,7 @@ returns-2 : tie.Need-returns-2
 returns-2 c =
     let called = c .before .before in
     sym
-    (sign-torn _ _ (omega arith) (called .before .minus-at .ensures) (called .unsigned-at .ensures)
+    (sign-malformed _ _ (omega arith) (called .before .minus-at .ensures) (called .unsigned-at .ensures)
     (c .enum-told .given .1))
 
 cast-t9 : tie.Need-cast-t9

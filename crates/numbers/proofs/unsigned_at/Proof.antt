@@ -5,7 +5,7 @@ use mathlib.Core.Path.{sym}
 use mathlib.Core.Logic.{⊎-elim}
 use native.Mathlib.Omega.{arith}
 use borrow.Author.Tests.{ltb-true, ltb-false, eqb-true, eqb-false}
-use Rattle.tokens.proofs.NumberSteps.{count-within, torn-none, torn-long, torn-zero, taken-one, taken-more}
+use Rattle.tokens.proofs.NumberSteps.{count-within, malformed-none, malformed-long, malformed-zero, taken-one, taken-more}
 use Rattle.numbers.proofs.unsigned_at.Statement.{statement}
 use Rattle.numbers.proofs.unsigned_at.Tie as tie
 
@@ -15,7 +15,7 @@ digits-at-requires c κs = search needs
 returns : tie.Need-returns
 returns c =
     let read = c .before .before .digits-at .ensures in
-    sym (⊎-elim (λ w. torn-none read (w .taken)) (λ w. torn-long read (omega (arith, ltb-true))) (c .if1 .came))
+    sym (⊎-elim (λ w. malformed-none read (w .taken)) (λ w. malformed-long read (omega (arith, ltb-true))) (c .if1 .came))
 
 shared-slice-read-if4 : tie.Need-shared-slice-read-if4
 shared-slice-read-if4 c =
@@ -24,7 +24,7 @@ shared-slice-read-if4 c =
 returns-2 : tie.Need-returns-2
 returns-2 c =
     let read = c .before .before .before .before .before .before .before .before .digits-at .ensures in
-    sym (torn-zero read (omega arith) (eqb-true _ _ (c .if4 .taken)))
+    sym (malformed-zero read (omega arith) (eqb-true _ _ (c .if4 .taken)))
 
 add-t10 : tie.Need-add-t10
 add-t10 c =

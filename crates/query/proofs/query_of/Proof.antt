@@ -1,5 +1,5 @@
 -- `query_of` meets its contract: each part of the line is found at its place and leaves the others to be read, or the
--- line is torn.
+-- line is malformed.
 use borrow.Author.Needs.{needs}
 use mathlib.Core.Path.{_≡_, sym, _∙_}
 use Prim.Native.Nat.{ℕ, _+_}
@@ -8,12 +8,12 @@ use mathlib.Core.List.{List}
 use lib.ListN.{drop}
 use Rattle.tokens.specs.Text.{bytesOf}
 use Rattle.tokens.specs.TextLaws.{text-found, text-missing, text-room}
-use Rattle.tokens.specs.ReadLaws.{lacks, has, held, read-torn, read-taken}
+use Rattle.tokens.specs.ReadLaws.{lacks, has, held, read-malformed, read-taken}
 use Rattle.tokens.specs.Steps.{goes, stops}
 use Rattle.query.specs.declared.Query.{Query}
 use Rattle.query.specs.Query.{alone, readQuery}
 use Rattle.query.proofs.QuerySteps.{lineEnd, fromRate, fromSpan, fromYear, fromAge, fromWord}
-use Rattle.query.proofs.QuerySteps.{start-torn, start-taken, followed, at-end, kind-torn, kind-taken}
+use Rattle.query.proofs.QuerySteps.{start-malformed, start-taken, followed, at-end, kind-malformed, kind-taken}
 use Rattle.query.proofs.query_of.Statement.{statement}
 use Rattle.query.proofs.query_of.Tie as tie
 
@@ -126,7 +126,7 @@ text-at-requires c κs = search needs
 
 returns : tie.Need-returns
 unfolding bytesOf
-returns c = sym (start-torn _ (text-missing _ 0 (bytesOf "kind=") (lacks (c .before .text-at .ensures) (c .if1 .taken))))
+returns c = sym (start-malformed _ (text-missing _ 0 (bytesOf "kind=") (lacks (c .before .text-at .ensures) (c .if1 .taken))))
 
 kind-at-requires : tie.Need-kind-at-requires
 kind-at-requires c κs = search needs
@@ -140,7 +140,7 @@ enum-told c = search needs
 returns-2 : tie.Need-returns-2
 returns-2 c =
     let k = c .before .before in
-    sym (after-start (k .before) ∙ stops _ (kind-torn _ (k .kind-at .ensures) (c .enum-told .given .1)))
+    sym (after-start (k .before) ∙ stops _ (kind-malformed _ (k .kind-at .ensures) (c .enum-told .given .1)))
 
 slice-aggregate-field-at : tie.Need-slice-aggregate-field-at
 slice-aggregate-field-at c = search needs
@@ -158,7 +158,7 @@ returns-3 : tie.Need-returns-3
 unfolding bytesOf
 returns-3 c =
     let f = c .before .before in
-    sym (after-word (f .before .before) ∙ stops _ (read-torn _ (f .field-at .ensures) (c .enum-told2 .given .1)))
+    sym (after-word (f .before .before) ∙ stops _ (read-malformed _ (f .field-at .ensures) (c .enum-told2 .given .1)))
 
 slice-aggregate-field-at-2 : tie.Need-slice-aggregate-field-at-2
 slice-aggregate-field-at-2 c = search needs
@@ -176,7 +176,7 @@ returns-4 : tie.Need-returns-4
 unfolding bytesOf
 returns-4 c =
     let f = c .before .before in
-    sym (after-age (f .before .before) ∙ stops _ (read-torn _ (f .field-at2 .ensures) (c .enum-told3 .given .1)))
+    sym (after-age (f .before .before) ∙ stops _ (read-malformed _ (f .field-at2 .ensures) (c .enum-told3 .given .1)))
 
 slice-aggregate-field-at-3 : tie.Need-slice-aggregate-field-at-3
 slice-aggregate-field-at-3 c = search needs
@@ -194,7 +194,7 @@ returns-5 : tie.Need-returns-5
 unfolding bytesOf
 returns-5 c =
     let f = c .before .before in
-    sym (after-year (f .before .before) ∙ stops _ (read-torn _ (f .field-at3 .ensures) (c .enum-told4 .given .1)))
+    sym (after-year (f .before .before) ∙ stops _ (read-malformed _ (f .field-at3 .ensures) (c .enum-told4 .given .1)))
 
 rate-at-requires : tie.Need-rate-at-requires
 rate-at-requires c κs = search needs
@@ -208,7 +208,7 @@ enum-told-5 c = search needs
 returns-6 : tie.Need-returns-6
 returns-6 c =
     let k = c .before .before in
-    sym (after-span (k .before) ∙ stops _ (kind-torn _ (k .rate-at .ensures) (c .enum-told5 .given .1)))
+    sym (after-span (k .before) ∙ stops _ (kind-malformed _ (k .rate-at .ensures) (c .enum-told5 .given .1)))
 
 slice-aggregate-text-at-2 : tie.Need-slice-aggregate-text-at-2
 slice-aggregate-text-at-2 c = search needs

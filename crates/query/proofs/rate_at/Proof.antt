@@ -1,12 +1,12 @@
--- `rate_at` meets its contract: the kind takes no rate, or the rate is torn, or the kind has the rate that was read.
+-- `rate_at` meets its contract: the kind takes no rate, or the rate is malformed, or the kind has the rate that was read.
 use borrow.Author.Needs.{needs}
 use mathlib.Core.Path.{sym, ap, _∙_}
 use lib.ListN.{drop}
 use Rattle.tokens.specs.Text.{bytesOf, taken}
-use Rattle.tokens.specs.ReadLaws.{lacks, has, held, read-torn, read-taken}
+use Rattle.tokens.specs.ReadLaws.{lacks, has, held, read-malformed, read-taken}
 use Rattle.kinds.specs.declared.Kind.{Kind}
 use Rattle.kinds.specs.Kinds.{withRate}
-use Rattle.query.proofs.QuerySteps.{rate-none, rate-torn, rate-taken}
+use Rattle.query.proofs.QuerySteps.{rate-none, rate-malformed, rate-taken}
 use Rattle.query.proofs.rate_at.Statement.{statement}
 use Rattle.query.proofs.rate_at.Tie as tie
 
@@ -34,8 +34,8 @@ returns-2 c =
     let f = c .before .before in
     let t = f .before .before in
     sym
-    (rate-torn _ _ (has (t .before .takes-rate .ensures) (t .if1 .left))
-    (read-torn _ (f .field-at .ensures) (c .enum-told .given .1)))
+    (rate-malformed _ _ (has (t .before .takes-rate .ensures) (t .if1 .left))
+    (read-malformed _ (f .field-at .ensures) (c .enum-told .given .1)))
 
 with-rate-requires : tie.Need-with-rate-requires
 with-rate-requires c κs = search needs

@@ -3,7 +3,7 @@ use mathlib.Core.Path.{sym, _∙_}
 use borrow.Author.Needs.{needs}
 use borrow.Author.Tests.{not-true, not-false}
 use mir.Facts.{toZ-ofZ}
-use Rattle.quote.proofs.Steps.{refused-off-scale, met}
+use Rattle.quote.proofs.Steps.{refused-out-of-limits, met}
 use Rattle.quote.proofs.quote_of.Statement.{statement}
 use Rattle.quote.proofs.quote_of.Tie as tie
 
@@ -14,7 +14,7 @@ returns : tie.Need-returns
 returns c =
     let s = c .before .before in
     let e = sym (c .before .in-limits .ensures) ∙ not-true _ (c .if1 .taken) in
-    met (refused-off-scale (s .args .p) (s .args .kind) (s .args .age) (s .args .year) (s .args .span) e)
+    met (refused-out-of-limits (s .args .p) (s .args .kind) (s .args .age) (s .args .year) (s .args .span) e)
 
 quote-within-requires : tie.Need-quote-within-requires
 quote-within-requires c κs =

@@ -1,9 +1,9 @@
--- `write_from` meets its contract: torn where the numbers are no set's, else what the writer answers.
+-- `write_from` meets its contract: malformed where the numbers are no set's, else what the writer answers.
 use mathlib.Core.Path.{_≡_, sym, _∙_}
 use mathlib.Core.Bool.{true}
 use borrow.Author.Tests.{not-true, not-false}
 use Rattle.set_numbers.specs.SetNumbers.{areSet}
-use Rattle.set_numbers.specs.AnswerLaws.{as-many, write-torn, write-told}
+use Rattle.set_numbers.specs.AnswerLaws.{as-many, write-malformed, write-told}
 use borrow.Author.Needs.{needs}
 use Rattle.set_numbers.proofs.write_from.Statement.{statement}
 use Rattle.set_numbers.proofs.write_from.Tie as tie
@@ -22,7 +22,7 @@ returns : tie.Need-returns
 returns c =
     let t = c .before in
     let a = t .before .are-set in
-    write-torn _ _ _ (sym (a .ensures) ∙ not-true (a .result) (t .if1 .taken)) (c .refusal-number .ensures)
+    write-malformed _ _ _ (sym (a .ensures) ∙ not-true (a .result) (t .if1 .taken)) (c .refusal-number .ensures)
 
 set-of-requires : tie.Need-set-of-requires
 set-of-requires c κs = as-many _ (a-set c)

@@ -7,9 +7,9 @@ use native.Mathlib.Omega.{arith}
 use native.Mathlib.Numerals.{add-one}
 use lib.ListN.{drop}
 use Rattle.params.specs.Set.{ages}
-use Rattle.sheet_ages.specs.RunLaws.{Filled, fill-start, fill-next, fill-torn, fill-end}
+use Rattle.sheet_ages.specs.RunLaws.{Filled, fill-start, fill-next, fill-malformed, fill-end}
 use Rattle.tokens.specs.ReadLaws.{held}
-use Rattle.sheet_lines.specs.ResultLaws.{four-torn, four-taken}
+use Rattle.sheet_lines.specs.ResultLaws.{four-malformed, four-taken}
 use Rattle.sheet_ages.proofs.ages_at.Statement.{statement}
 use Rattle.sheet_ages.proofs.ages_at.Tie as tie
 
@@ -36,7 +36,7 @@ returns c =
     let called = c .before .before in
     let head = called .before .before in
     sym
-    (fill-torn (called .before .loop-test .taken) (four-torn _ (called .age-at .ensures) (c .enum-told .given .1))
+    (fill-malformed (called .before .loop-test .taken) (four-malformed _ (called .age-at .ensures) (c .enum-told .given .1))
     (head .loop .inv .1))
 
 mul-level : tie.Need-mul-level Inv-loop μ-loop

@@ -1,7 +1,7 @@
--- `four_at` meets its contract: the four lines one after another, each read or torn.
+-- `four_at` meets its contract: the four lines one after another, each read or malformed.
 use mathlib.Core.Path.{sym}
-use Rattle.sheet_lines.specs.FourLaws.{four-torn₀, four-torn₁, four-torn₂, four-torn₃, four-taken}
-use Rattle.tokens.specs.ReadLaws.{held, read-torn, read-taken}
+use Rattle.sheet_lines.specs.FourLaws.{four-malformed₀, four-malformed₁, four-malformed₂, four-malformed₃, four-taken}
+use Rattle.tokens.specs.ReadLaws.{held, read-malformed, read-taken}
 use borrow.Author.Needs.{needs}
 use Rattle.sheet_lines.proofs.four_at.Statement.{statement}
 use Rattle.sheet_lines.proofs.four_at.Tie as tie
@@ -18,7 +18,7 @@ enum-told c = search needs
 returns : tie.Need-returns
 returns c k₀ k₁ k₂ k₃ e₀ e₁ e₂ e₃ =
     let l₀ = c .before .before in
-    sym (four-torn₀ _ _ _ _ _ (read-torn _ (l₀ .line-at .ensures k₀ e₀) (c .enum-told .given .1)))
+    sym (four-malformed₀ _ _ _ _ _ (read-malformed _ (l₀ .line-at .ensures k₀ e₀) (c .enum-told .given .1)))
 
 line-at-requires-2 : tie.Need-line-at-requires-2
 line-at-requires-2 c κs = search needs
@@ -35,8 +35,8 @@ returns-2 c k₀ k₁ k₂ k₃ e₀ e₁ e₂ e₃ =
     let r₀ = l₁ .before .before in
     let l₀ = r₀ .before .before in
     sym
-    (four-torn₁ _ _ _ _ _ (read-taken _ (l₀ .line-at .ensures k₀ e₀) (r₀ .v0 .given .1))
-    (read-torn _ (l₁ .line-at2 .ensures k₁ e₁) (c .enum-told2 .given .1)))
+    (four-malformed₁ _ _ _ _ _ (read-taken _ (l₀ .line-at .ensures k₀ e₀) (r₀ .v0 .given .1))
+    (read-malformed _ (l₁ .line-at2 .ensures k₁ e₁) (c .enum-told2 .given .1)))
 
 line-at-requires-3 : tie.Need-line-at-requires-3
 line-at-requires-3 c κs = search needs
@@ -55,9 +55,9 @@ returns-3 c k₀ k₁ k₂ k₃ e₀ e₁ e₂ e₃ =
     let r₀ = l₁ .before .before in
     let l₀ = r₀ .before .before in
     sym
-    (four-torn₂ _ _ _ _ _ (read-taken _ (l₀ .line-at .ensures k₀ e₀) (r₀ .v0 .given .1))
+    (four-malformed₂ _ _ _ _ _ (read-taken _ (l₀ .line-at .ensures k₀ e₀) (r₀ .v0 .given .1))
     (read-taken _ (l₁ .line-at2 .ensures k₁ e₁) (r₁ .v1 .given .1))
-    (read-torn _ (l₂ .line-at3 .ensures k₂ e₂) (c .enum-told3 .given .1)))
+    (read-malformed _ (l₂ .line-at3 .ensures k₂ e₂) (c .enum-told3 .given .1)))
 
 line-at-requires-4 : tie.Need-line-at-requires-4
 line-at-requires-4 c κs = search needs
@@ -78,10 +78,10 @@ returns-4 c k₀ k₁ k₂ k₃ e₀ e₁ e₂ e₃ =
     let r₀ = l₁ .before .before in
     let l₀ = r₀ .before .before in
     sym
-    (four-torn₃ _ _ _ _ _ (read-taken _ (l₀ .line-at .ensures k₀ e₀) (r₀ .v0 .given .1))
+    (four-malformed₃ _ _ _ _ _ (read-taken _ (l₀ .line-at .ensures k₀ e₀) (r₀ .v0 .given .1))
     (read-taken _ (l₁ .line-at2 .ensures k₁ e₁) (r₁ .v1 .given .1))
     (read-taken _ (l₂ .line-at3 .ensures k₂ e₂) (r₂ .v2 .given .1))
-    (read-torn _ (l₃ .line-at4 .ensures k₃ e₃) (c .enum-told4 .given .1)))
+    (read-malformed _ (l₃ .line-at4 .ensures k₃ e₃) (c .enum-told4 .given .1)))
 
 returns-5 : tie.Need-returns-5
 returns-5 c k₀ k₁ k₂ k₃ e₀ e₁ e₂ e₃ =

@@ -1,4 +1,4 @@
--- `line_at` meets its contract: the key with its `=`, the number and the line feed, each found at its place or torn.
+-- `line_at` meets its contract: the key with its `=`, the number and the line feed, each found at its place or malformed.
 use mathlib.Core.Path.{sym, _∙_}
 use native.Mathlib.Omega.{arith}
 use Rattle.words.specs.Word.{byteBits}
@@ -7,7 +7,7 @@ use Rattle.words.specs.ShortText.{textOf}
 use Rattle.tokens.specs.Text.{bytesOf}
 use Rattle.tokens.specs.TextLaws.{text-room}
 use Rattle.tokens.specs.ReadLaws.{held, has, lacks}
-use Rattle.sheet_lines.proofs.LineSteps.{key-torn, no-number, feed-torn, line-taken}
+use Rattle.sheet_lines.proofs.LineSteps.{key-malformed, no-number, feed-malformed, line-taken}
 use borrow.Author.Needs.{needs}
 use Rattle.sheet_lines.proofs.line_at.Statement.{statement}
 use Rattle.sheet_lines.proofs.line_at.Tie as tie
@@ -16,7 +16,7 @@ short-at-requires : tie.Need-short-at-requires
 short-at-requires c κs = search needs
 
 returns : tie.Need-returns
-returns c key e = sym (key-torn _ _ _ e (lacks (c .before .short-at .ensures) (c .if1 .taken)))
+returns c key e = sym (key-malformed _ _ _ e (lacks (c .before .short-at .ensures) (c .if1 .taken)))
 
 add-number-at : tie.Need-add-number-at
 add-number-at c =
@@ -55,7 +55,7 @@ returns-3 c key e =
     let called = read .before .before in
     let headed = called .before .before in
     sym
-    (feed-torn _ _ _ e (has (headed .before .short-at .ensures) (headed .if1 .left))
+    (feed-malformed _ _ _ e (has (headed .before .short-at .ensures) (headed .if1 .left))
     (sym (called .number-at .ensures) ∙ read .v .given .1) (lacks (c .before .byte-at .ensures) (c .if2 .taken)))
 
 add-t9 : tie.Need-add-t9

@@ -1,10 +1,10 @@
--- `answer_into` meets its contract: torn where no kind was read, else the numbers of the answer.
+-- `answer_into` meets its contract: malformed where no kind was read, else the numbers of the answer.
 use borrow.Author.Needs.{needs}
 use mathlib.Core.Path.{ap}
 use mathlib.Core.List.{[]}
 use mir.Facts.{toZ-ofZ}
 use Rattle.query.specs.Code.{kindRead}
-use Rattle.sheet_quote.specs.AnswerLaws.{put-torn, put-taken}
+use Rattle.sheet_quote.specs.AnswerLaws.{put-malformed, put-taken}
 use Rattle.sheet_quote.proofs.answer_into.Statement.{statement}
 use Rattle.sheet_quote.proofs.answer_into.Tie as tie
 
@@ -19,7 +19,7 @@ refusal-number-requires c κs = search needs
 
 returns : tie.Need-returns
 returns c =
-    put-torn _ _ _ _ _ (ap (kindRead []) (c .before .enum-told .given .1)) (c .refusal-number .ensures)
+    put-malformed _ _ _ _ _ (ap (kindRead []) (c .before .enum-told .given .1)) (c .refusal-number .ensures)
 
 sheet-answer-requires : tie.Need-sheet-answer-requires
 sheet-answer-requires c κs = search needs

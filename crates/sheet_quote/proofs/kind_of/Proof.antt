@@ -1,11 +1,11 @@
--- `kind_of` meets its contract: torn where the kind takes a rate.
+-- `kind_of` meets its contract: malformed where the kind takes a rate.
 use borrow.Author.Needs.{needs}
 use mathlib.Core.Path.{_≡_, sym, _∙_}
 use lib.ListN.{drop}
 use Rattle.tokens.specs.Text.{taken}
 use Rattle.query.proofs.QuerySteps as steps
 use Rattle.sheet_quote.specs.SheetQuote.{wordKind}
-use Rattle.sheet_quote.specs.AnswerLaws.{kind-torn, rate-wanting, no-rate}
+use Rattle.sheet_quote.specs.AnswerLaws.{kind-malformed, rate-wanting, no-rate}
 use Rattle.sheet_quote.proofs.kind_of.Statement.{statement}
 use Rattle.sheet_quote.proofs.kind_of.Tie as tie
 
@@ -30,7 +30,7 @@ enum-told c = search needs
 returns : tie.Need-returns
 returns c =
     let k = c .before .before in
-    sym (kind-torn _ (steps.kind-torn _ (k .word-kind .ensures) (c .enum-told .given .1)))
+    sym (kind-malformed _ (steps.kind-malformed _ (k .word-kind .ensures) (c .enum-told .given .1)))
 
 takes-rate-requires : tie.Need-takes-rate-requires
 takes-rate-requires c κs = search needs

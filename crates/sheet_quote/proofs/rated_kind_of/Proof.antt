@@ -1,4 +1,4 @@
--- `rated_kind_of` meets its contract: torn where the kind takes no rate, else the kind with the rate.
+-- `rated_kind_of` meets its contract: malformed where the kind takes no rate, else the kind with the rate.
 use borrow.Author.Needs.{needs}
 use mathlib.Core.Path.{_≡_, sym, ap, _∙_}
 use lib.ListN.{drop}
@@ -9,7 +9,7 @@ use Rattle.kinds.specs.declared.Kind.{Kind}
 use Rattle.kinds.specs.Kinds.{withRate}
 use Rattle.query.proofs.QuerySteps as steps
 use Rattle.sheet_quote.specs.SheetQuote.{wordKind}
-use Rattle.sheet_quote.specs.AnswerLaws.{rated-kind-torn, rate-unasked, rate-given}
+use Rattle.sheet_quote.specs.AnswerLaws.{rated-kind-malformed, rate-unasked, rate-given}
 use Rattle.sheet_quote.proofs.rated_kind_of.Statement.{statement}
 use Rattle.sheet_quote.proofs.rated_kind_of.Tie as tie
 
@@ -34,7 +34,7 @@ enum-told c = search needs
 returns : tie.Need-returns
 returns c =
     let k = c .before .before in
-    sym (rated-kind-torn _ _ (steps.kind-torn _ (k .word-kind .ensures) (c .enum-told .given .1)))
+    sym (rated-kind-malformed _ _ (steps.kind-malformed _ (k .word-kind .ensures) (c .enum-told .given .1)))
 
 takes-rate-requires : tie.Need-takes-rate-requires
 takes-rate-requires c κs = search needs

@@ -6,8 +6,8 @@ use native.Mathlib.Omega.{arith}
 use lib.ListN.{drop}
 use Rattle.tokens.specs.Text.{taken}
 use Rattle.query.specs.Query.{onOffer, readWord}
-use Rattle.query.proofs.QuerySteps.{kind-torn, kind-taken}
-use Rattle.sheet_quote.specs.AnswerLaws.{word-torn, word-goes-on, word-ends}
+use Rattle.query.proofs.QuerySteps.{kind-malformed, kind-taken}
+use Rattle.sheet_quote.specs.AnswerLaws.{word-malformed, word-goes-on, word-ends}
 use Rattle.sheet_quote.proofs.word_kind.Statement.{statement}
 use Rattle.sheet_quote.proofs.word_kind.Tie as tie
 
@@ -35,7 +35,7 @@ enum-told c = search needs
 returns : tie.Need-returns
 returns c =
     let k = c .before .before in
-    sym (word-torn _ (kind-torn _ (k .kind-at .ensures) (c .enum-told .given .1)))
+    sym (word-malformed _ (kind-malformed _ (k .kind-at .ensures) (c .enum-told .given .1)))
 
 returns-2 : tie.Need-returns-2
 returns-2 c = let k = c .before in sym (word-goes-on _ (after k) (word-taken k) (omega (arith, c .if1 .taken)))

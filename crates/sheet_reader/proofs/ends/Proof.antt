@@ -1,4 +1,4 @@
--- `ends` meets its contract: torn lines, bytes after them, or neither.
+-- `ends` meets its contract: malformed lines, bytes after them, or neither.
 use borrow.Author.Tests.{not-true, not-false}
 use mathlib.Core.Path.{sym}
 use native.Mathlib.Omega.{arith}

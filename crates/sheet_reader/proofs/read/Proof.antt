@@ -6,15 +6,15 @@ use mathlib.Core.Bool.{true}
 use Rattle.tokens.specs.Text.{bytesOf}
 use Rattle.tokens.specs.Places.{textAt}
 use Rattle.sheet.specs.Sheet.{judged}
-use Rattle.sheet_reader.specs.SheetLaws.{too-long, not-too-long, sexText, head-none, head-m, head-f, head-torn}
+use Rattle.sheet_reader.specs.SheetLaws.{too-long, not-too-long, sexText, head-none, head-m, head-f, head-malformed}
 use Rattle.sheet_reader.proofs.read.Statement.{statement}
 use Rattle.sheet_reader.proofs.read.Tie as tie
 
-torn-requires : tie.Need-torn-requires
-torn-requires c κs = search needs
+malformed-requires : tie.Need-malformed-requires
+malformed-requires c κs = search needs
 
 returns : tie.Need-returns
-returns c = c .torn .ensures ∙ sym (too-long _ (c .before .if1 .taken))
+returns c = c .malformed .ensures ∙ sym (too-long _ (c .before .if1 .taken))
 
 slice-aggregate-text-at : tie.Need-slice-aggregate-text-at
 slice-aggregate-text-at c = search needs
@@ -22,15 +22,15 @@ slice-aggregate-text-at c = search needs
 text-at-requires : tie.Need-text-at-requires
 text-at-requires c κs = search needs
 
-torn-requires-2 : tie.Need-torn-requires-2
-torn-requires-2 c κs = search needs
+malformed-requires-2 : tie.Need-malformed-requires-2
+malformed-requires-2 c κs = search needs
 
 returns-2 : tie.Need-returns-2
 unfolding judged bytesOf
 returns-2 c =
     let t = c .before .before in
     let e = t .before .before in
-    c .torn2 .ensures
+    c .malformed2 .ensures
     ∙ sym
     (not-too-long _ (e .if1 .left)
     ∙ ap judged (head-none _ (sym (t .text-at .ensures) ∙ not-true _ (c .before .if2 .taken))))
@@ -83,8 +83,8 @@ returns-4 c =
     ∙ ap judged
     (head-f _ (begun e₂) (sym (m .text-at2 .ensures) ∙ e₃ .if3 .left) (sym (f .text-at3 .ensures) ∙ c .before .if4 .taken)))
 
-torn-requires-3 : tie.Need-torn-requires-3
-torn-requires-3 c κs = search needs
+malformed-requires-3 : tie.Need-malformed-requires-3
+malformed-requires-3 c κs = search needs
 
 returns-5 : tie.Need-returns-5
 unfolding judged bytesOf
@@ -94,21 +94,21 @@ returns-5 c =
     let m = e₃ .before in
     let e₂ = m .before .before in
     let e₁ = e₂ .before .before .before in
-    c .torn3 .ensures
+    c .malformed3 .ensures
     ∙ sym
     (not-too-long _ (e₁ .if1 .left)
     ∙ ap judged
-    (head-torn _ (begun e₂) (sym (m .text-at2 .ensures) ∙ e₃ .if3 .left) (sym (f .text-at3 .ensures) ∙ c .before .if4 .left)))
+    (head-malformed _ (begun e₂) (sym (m .text-at2 .ensures) ∙ e₃ .if3 .left) (sym (f .text-at3 .ensures) ∙ c .before .if4 .left)))
 
 pub read-spec : {M : Type 1} → statement M
 read-spec =
     tie.close
     (tie.spec
-    torn-requires
+    malformed-requires
     returns
     slice-aggregate-text-at
     text-at-requires
-    torn-requires-2
+    malformed-requires-2
     returns-2
     slice-aggregate-text-at-2
     text-at-requires-2
@@ -118,5 +118,5 @@ read-spec =
     text-at-requires-3
     judged-set-requires-2
     returns-4
-    torn-requires-3
+    malformed-requires-3
     returns-5)

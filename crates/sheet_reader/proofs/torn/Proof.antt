@@ -1,8 +1,8 @@
--- `torn` meets its contract: the blank set with refusal 1.
+-- `malformed` meets its contract: the blank set with refusal 1.
 use Rattle.sheet.specs.Sheet.{refused}
 use borrow.Author.Needs.{needs}
-use Rattle.sheet_reader.proofs.torn.Statement.{statement}
-use Rattle.sheet_reader.proofs.torn.Tie as tie
+use Rattle.sheet_reader.proofs.malformed.Statement.{statement}
+use Rattle.sheet_reader.proofs.malformed.Tie as tie
 
 blank-requires : tie.Need-blank-requires
 blank-requires c κs = search needs
@@ -11,5 +11,5 @@ returns : tie.Need-returns
 unfolding refused
 returns c = rw (c .blank .ensures)
 
-pub torn-spec : {M : Type 1} → statement M
-torn-spec = tie.close (tie.spec blank-requires returns)
+pub malformed-spec : {M : Type 1} → statement M
+malformed-spec = tie.close (tie.spec blank-requires returns)

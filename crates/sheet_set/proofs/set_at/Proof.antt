@@ -10,8 +10,8 @@ use Rattle.tokens.specs.Text.{bytesOf}
 use Rattle.tokens.specs.ReadLaws.{held}
 use Rattle.sheet.specs.Sheet.{headBytes, readLines}
 use Rattle.sheet_lines.specs.Lines.{fourRead}
-use Rattle.sheet_lines.specs.ResultLaws.{four-torn, four-taken}
-use Rattle.sheet_set.specs.SetLaws.{seriesKeys, series-torn, series-read}
+use Rattle.sheet_lines.specs.ResultLaws.{four-malformed, four-taken}
+use Rattle.sheet_set.specs.SetLaws.{seriesKeys, series-malformed, series-read}
 use borrow.Author.Needs.{needs}
 use Rattle.sheet_set.proofs.set_at.Statement.{statement}
 use Rattle.sheet_set.proofs.set_at.Tie as tie
@@ -49,7 +49,7 @@ four-at-requires c κs =
       holds-sized (c .two3 .ensures) (omega arith),
     )
 
--- the lines of the series were read or torn as their keys say
+-- the lines of the series were read or malformed as their keys say
 abbrev bytes : tie.After-four-at → List ℕ
 bytes c = c .before .before .before .before .before .before .before .before .args .bytes .now
 
@@ -73,7 +73,7 @@ blank-requires c κs = search needs
 
 returns : tie.Need-returns
 returns c =
-    sym (series-torn _ _ (four-torn _ (series (c .before .before .before)) (c .before .enum-told .given .1)))
+    sym (series-malformed _ _ (four-malformed _ (series (c .before .before .before)) (c .before .enum-told .given .1)))
 
 ages-at-requires : tie.Need-ages-at-requires
 ages-at-requires c κs = search needs

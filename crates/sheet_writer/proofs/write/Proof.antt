@@ -1,11 +1,11 @@
--- `write` meets its contract: off scale, else short, else the sheet.
+-- `write` meets its contract: out of limits, else short, else the sheet.
 use borrow.Author.Needs.{needs}
 use mathlib.Core.Path.{_≡_, sym, _∙_}
 use mathlib.Core.Bool.{true}
 use native.Mathlib.Omega.{arith}
 use borrow.Author.Tests.{not-true, not-false}
 use Rattle.params.specs.Limits.{inLimits}
-use Rattle.sheet_writer.specs.Answers.{off-scale, short, accepted}
+use Rattle.sheet_writer.specs.Answers.{out-of-limits, short, accepted}
 use Rattle.sheet_writer.proofs.write.Statement.{statement}
 use Rattle.sheet_writer.proofs.write.Tie as tie
 
@@ -20,7 +20,7 @@ returns : tie.Need-returns
 returns c =
     let s = c .before .before .before .args in
     let t = c .before .in-limits in
-    off-scale (s .p) (s .buffer .now) (sym (t .ensures) ∙ not-true (t .result) (c .if1 .taken))
+    out-of-limits (s .p) (s .buffer .now) (sym (t .ensures) ∙ not-true (t .result) (c .if1 .taken))
 
 sheet-len-requires : tie.Need-sheet-len-requires
 sheet-len-requires c κs = rw (in-limits c) tt

@@ -7,7 +7,7 @@ use lib.ListN.{length, take, drop}
 use lib.Seq.{length-take-le}
 use Rattle.lines.specs.Lines.{firstLines, afterLines}
 use Rattle.lines.specs.LineLaws.{lines-within}
-use Rattle.desk.specs.Desk.{sheetLines}
+use Rattle.query_run.specs.QueryRun.{sheetLines}
 use Rattle.two_sheets.specs.TwoSheetLaws.{sheetsEnd, end-within, rest-after, reads-first, reads-second, ends-both}
 use borrow.Author.Needs.{needs}
 use Rattle.two_sheets.proofs.read_two.Statement.{statement}

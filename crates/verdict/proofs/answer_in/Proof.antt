@@ -5,7 +5,7 @@ use Prim.Native.Nat.{_≤_}
 use native.Mathlib.Omega.{arith}
 use lib.ListN.{length}
 use lib.Seq.{length-take-le}
-use Rattle.verdict_desk.specs.RunLaws.{run-fits}
+use Rattle.verdict_run.specs.RunLaws.{run-fits}
 use Rattle.verdict.proofs.answer_in.Statement.{statement}
 use Rattle.verdict.proofs.answer_in.Tie as tie
 

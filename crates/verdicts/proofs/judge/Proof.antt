@@ -1,4 +1,4 @@
--- `judge` meets its contract: a set out of its limits is refused, then a torn column, any other is judged, and every answer is
+-- `judge` meets its contract: a set out of its limits is refused, then a malformed column, any other is judged, and every answer is
 -- honest.
 use mathlib.Core.Path.{_≡_, sym, _∙_}
 use mathlib.Core.Bool.{true}
@@ -7,7 +7,7 @@ use borrow.Author.Tests.{not-true, not-false}
 use mir.Facts.{toZ-ofZ}
 use Rattle.params.specs.Limits.{inLimits}
 use Rattle.verdicts.specs.Theorem.{refused-honest}
-use Rattle.verdicts.proofs.Steps.{off-scale, torn-column, answered}
+use Rattle.verdicts.proofs.Steps.{out-of-limits, malformed-column, answered}
 use Rattle.verdicts.proofs.judge.Statement.{statement}
 use Rattle.verdicts.proofs.judge.Tie as tie
 
@@ -18,7 +18,7 @@ returns : tie.Need-returns
 returns c =
     let s = c .before .before in
     let e = sym (c .before .in-limits .ensures) ∙ not-true _ (c .if1 .taken) in
-    (off-scale (s .args .p) (s .args .year) _ e, refused-honest)
+    (out-of-limits (s .args .p) (s .args .year) _ e, refused-honest)
 
 -- the set is in its limits
 limits : (c : tie.Else1) → inLimits (c .before .before .args .p) ≡ true
@@ -28,7 +28,7 @@ returns-2 : tie.Need-returns-2
 returns-2 c =
     let e = c .before in
     let s = e .before .before in
-    (torn-column (s .args .p) (s .args .year) (s .args .column) (rw (limits e) tt) (not-true _ (c .if2 .taken)), refused-honest)
+    (malformed-column (s .args .p) (s .args .year) (s .args .column) (rw (limits e) tt) (not-true _ (c .if2 .taken)), refused-honest)
 
 judge-within-requires : tie.Need-judge-within-requires
 judge-within-requires c κs = rw (limits (c .before)) tt

@@ -1,4 +1,4 @@
--- `judge_within` meets its contract: the table's refusal of the year, that of a steep cell, or the verdict by the factors of the
+-- `judge_within` meets its contract: the table's refusal of the year, that of a out of range cell, or the verdict by the factors of the
 -- year's cells.
 use mathlib.Core.Path.{_≡_, ap, sym, _∙_}
 use mathlib.Core.Bool.{true, false}

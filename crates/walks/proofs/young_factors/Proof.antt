@@ -124,7 +124,7 @@ returns c =
     let t = turn (k .before) in
     let f = first t in
     record {
-      steep = λ n. rw (path-is f) at (worked-out (f .before .before .args .t1) (path f) (young-turn t .0) (cell-read k ∙ c .enum-told .given .1));
+      out-of-range = λ n. rw (path-is f) at (worked-out (f .before .before .args .t1) (path f) (young-turn t .0) (cell-read k ∙ c .enum-told .given .1));
       worked = λ n. absurd n;
       next = λ n. absurd n;
       old = λ n. absurd n;
@@ -184,7 +184,7 @@ returns-2 c =
     let v = l .loop .inv in
     let d : l .loop .done ≡ n .young-count .result = omega (arith, c .loop-test .left, v .2) in
     record {
-      steep = λ b. absurd b;
+      out-of-range = λ b. absurd b;
       worked = λ b. rw (path-is f) at (v .0);
       next = λ b. rw (path-is f) at (v .1);
       old = λ b h. above (w .age) (w .count) (n .young-count .ensures) d h;

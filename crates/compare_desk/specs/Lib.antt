@@ -1,4 +1,0 @@
--- definitions
-pub mod CompareDesk
--- laws
-pub mod CompareDeskLaws

@@ -1,0 +1,4 @@
+-- definitions
+pub mod CompareRun
+-- laws
+pub mod CompareRunLaws

@@ -1,5 +1,0 @@
--- definitions
-pub mod Desk
--- laws
-pub mod Sheets
-pub mod Answers

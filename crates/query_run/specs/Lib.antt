@@ -1,0 +1,5 @@
+-- definitions
+pub mod QueryRun
+-- laws
+pub mod Sheets
+pub mod Answers

@@ -1,5 +1,0 @@
--- definitions
-pub mod VerdictDesk
--- laws
-pub mod YearLaws
-pub mod RunLaws

@@ -1,0 +1,5 @@
+-- definitions
+pub mod VerdictRun
+-- laws
+pub mod YearLaws
+pub mod RunLaws
