@@ -5,6 +5,7 @@ pub mod Same
 -- laws
 pub mod Steps
 pub mod Bounds
+pub mod Agree
 pub mod Holds
 pub mod Width
 pub mod Narrowing

@@ -5,5 +5,6 @@ pub mod Figure
 pub mod Rows
 -- laws
 pub mod ValueLaws
+pub mod OneValue
 pub mod FigureLaws
 pub mod Rounding

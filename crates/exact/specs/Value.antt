@@ -1,5 +1,5 @@
 -- The exact value as a thing of its own: a bracket for each order, whatever it is the value of. What it means that it is
--- at least or at most a fraction, that it rounds to a step, and that its brackets narrow.
+-- at least or at most a fraction, that it rounds to a step, and that its brackets agree and narrow.
 use Prim.Native.Nat.{ℕ, _+_, _-_, _*_, _≤_, _<_}
 use native.Mathlib.Nat.{mul-pos}
 use lib.Dec.{lit<}
@@ -51,3 +51,8 @@ pub record Narrows (v : Exact) : Type 0 where
   pub order : ℕ → ℕ
   pub counts : (M : ℕ) → leastOrder ≤ order M
   pub narrow : (M : ℕ) (h : 0 < M) (j : ℕ) → order M ≤ j → v j .most ≤/ v j .least +/ quotient/ (whole/ 1) M h
+
+-- Any two orders agree, of those that count: the lower end of the one is at most the upper end of the other, whichever is the
+-- greater order, so that neither bracket lies wholly beyond the other.
+pub record Agrees (v : Exact) : Type 0 where
+  pub agree : (i j : ℕ) → leastOrder ≤ i → leastOrder ≤ j → v i .least ≤/ v j .most

@@ -6,6 +6,7 @@ pub mod Code
 -- laws
 pub mod Steps
 pub mod Bounds
+pub mod Agree
 pub mod Holds
 pub mod Width
 pub mod Parts

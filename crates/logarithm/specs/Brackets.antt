@@ -8,7 +8,7 @@ use native.Mathlib.Omega.{arith}
 use Rattle.fraction.specs.Ratio.{Ratio, _≤/_, _</_, _+/_, whole/}
 use Rattle.fraction.specs.RatioLaws.{≤/-refl, ≤/-trans, ≤/-+/, +/-mono, +/-assoc}
 use Rattle.logarithm.specs.Exact.{logTerm, logSum, logRemainder, orderLogLower, orderLogUpper}
-use Rattle.logarithm.specs.Sums.{log-sum-rises}
+use Rattle.logarithm.specs.Sums.{log-sum-monotone, log-sum-rises}
 
 -- u^n/n + u^(n+1)/((n+1)(1−u)) ≤ u^n/(n(1−u)): P = p^n, Q = q^(n−1), m = q − p
 rest-algebra : (P Q p q m n : ℕ) → p + m ≡ q
@@ -54,3 +54,10 @@ log-brackets-agree u i j l =
   where
     within : (k : ℕ) → orderLogLower u k ≤/ orderLogUpper u k
     within k = unfold orderLogLower orderLogUpper in ≤/-+/ _ _
+
+-- and so it is at a lesser force
+pub log-agrees : {u v : Ratio} (i j : ℕ) → u ≤/ v → v </ whole/ 1 → orderLogLower u i ≤/ orderLogUpper v j
+log-agrees {u} {v} i j h l = ≤/-trans lower (log-brackets-agree v i j l)
+  where
+    lower : orderLogLower u i ≤/ orderLogLower v i
+    lower = unfold orderLogLower in log-sum-monotone i h

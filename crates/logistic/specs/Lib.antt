@@ -6,7 +6,9 @@ pub mod WidthFacts
 pub mod Code
 -- laws
 pub mod Positive
+pub mod Sizes
 pub mod LogisticHolds
+pub mod Agree
 pub mod RelativeWidth
 pub mod LogisticWidth
 pub mod Billionths

@@ -2,10 +2,9 @@
 -- those of the force overlap the order's. By the signs of the two ends: both by e^−G, both by E = e^G, or one of
 -- each, on either side of 1/2.
 use Prim.Native.Nat.{ℕ, suc, _+_, _*_, _≤_, _<_}
-use native.Mathlib.Nat.{mul-le-mul-left, mul-le-mul-right, le-of-mul-le-mul-right, mul-pos}
+use native.Mathlib.Nat.{mul-le-mul-left, mul-le-mul-right, le-of-mul-le-mul-right}
 use native.Mathlib.Omega.{arith}
 use lib.IntN.{ℤ, pos, negsuc}
-use Rattle.whole.specs.Split.{split, split-scale}
 use Rattle.whole.specs.SignedEnds.{SignedEnds}
 use Rattle.whole.specs.DivisionLaws.{floorℕ-encloses, ceilℕ-encloses}
 use Rattle.fraction.specs.Ratio.{Ratio, _≤/_, whole/}
@@ -20,6 +19,7 @@ use Rattle.expo.specs.Overlap.{inUnits, Overlap}
 use Rattle.expo.specs.Holds.{lower-holds, upper-holds}
 use Rattle.expo.specs.AtMostOne.{exp-lower-one}
 use Rattle.logistic.specs.Positive.{sum-positive}
+use Rattle.logistic.specs.Sizes.{both-above, both-below, apart}
 use Rattle.logistic.specs.Logistic.{overOneLower, overOneUpper, shareLower, shareUpper, logisticLower}
 use Rattle.logistic.specs.Logistic.{logisticUpper, logistic}
 use Rattle.logistic.specs.Units.{Interval, over, inUnitsℚ, SignedOverlap}
@@ -100,46 +100,9 @@ pub order-lower-one : (z : Ratio) (j : ℕ) → orderLower z j ≤/ whole/ 1
 order-lower-one z j = ≤/-trans (brackets-agree z j j) (upper-below-one z j)
 
 module _ (g : Grid) (s : Sound g) (d : ℕ) (p : 0 < d) where
-  -- from an order of fractions to that of their distances from 0
-  both-above : (n m : ℕ) → inUnitsℚ g s (pos n) ≤ℚ over d p (pos m) → inUnits g s n ≤/ absolute (over d p (pos m))
-  unfolding inUnitsℚ inUnits absolute
-  both-above n m h = record { cross = omega (split, h .cross) }
-
-  both-above′ : (n m : ℕ) → over d p (pos m) ≤ℚ inUnitsℚ g s (pos n) → absolute (over d p (pos m)) ≤/ inUnits g s n
-  unfolding inUnitsℚ inUnits absolute
-  both-above′ n m h = record { cross = omega (split, h .cross) }
-
-  both-below : (n m : ℕ) → inUnitsℚ g s (negsuc n) ≤ℚ over d p (negsuc m)
-      → absolute (over d p (negsuc m)) ≤/ inUnits g s (suc n)
-  unfolding inUnitsℚ inUnits absolute
-  both-below n m h =
-      record { cross = omega (split, split-scale (negsuc n) d, split-scale (negsuc m) (g .unit), h .cross) }
-
-  both-below′ : (n m : ℕ) → over d p (negsuc m) ≤ℚ inUnitsℚ g s (negsuc n)
-      → inUnits g s (suc n) ≤/ absolute (over d p (negsuc m))
-  unfolding inUnitsℚ inUnits absolute
-  both-below′ n m h =
-      record { cross = omega (split, split-scale (negsuc n) d, split-scale (negsuc m) (g .unit), h .cross) }
-
-  -- 0 is not at most a negative fraction
-  apart : (n m : ℕ) → inUnitsℚ g s (pos n) ≤ℚ over d p (negsuc m) → ⊥
-  unfolding inUnitsℚ
-  apart n m h =
-      omega (
-        split,
-        split-scale (negsuc m) (g .unit),
-        h .cross,
-        mul-pos {m = suc m} {n = g .unit} (omega arith)
-            (s .unit-positive),
-      )
-
-  apart′ : (n m : ℕ) → over d p (pos m) ≤ℚ inUnitsℚ g s (negsuc n) → ⊥
-  unfolding inUnitsℚ
-  apart′ n m h = omega (split, split-scale (negsuc n) d, h .cross, mul-pos {m = suc n} {n = d} (omega arith) p)
-
   lower-cases : (n a : ℤ) (j : ℕ) → inUnitsℚ g s n ≤ℚ over d p a
       → inUnits g s (logisticLower g n) ≤/ orderLogisticUpper (over d p a) j
-  unfolding logisticLower orderLogisticUpper
+  unfolding logisticLower orderLogisticUpper inUnitsℚ inUnits absolute
   lower-cases (pos n) (pos m) j h =
       over-lower g s (expUpper g n) _ (≤/-trans (lower-antitone j (both-above n m h)) (upper-holds g s n j))
   lower-cases (pos n) (negsuc m) j h = absurd (apart n m h)
@@ -152,14 +115,14 @@ module _ (g : Grid) (s : Sound g) (d : ℕ) (p : 0 < d) where
 
   upper-cases : (n a : ℤ) (j : ℕ) → over d p a ≤ℚ inUnitsℚ g s n
       → orderLogisticLower (over d p a) j ≤/ inUnits g s (logisticUpper g n)
-  unfolding logisticUpper orderLogisticLower
+  unfolding logisticUpper orderLogisticLower inUnitsℚ inUnits absolute
   upper-cases (pos n) (pos m) j h =
-      over-upper g s (expLower g n) _ (≤/-trans (lower-holds g s n j) (upper-antitone j (both-above′ n m h)))
-  upper-cases (negsuc n) (pos m) j h = absurd (apart′ n m h)
+      over-upper g s (expLower g n) _ (≤/-trans (lower-holds g s n j) (upper-antitone j (both-above m n h)))
+  upper-cases (negsuc n) (pos m) j h = absurd (apart m n h)
   upper-cases (pos n) (negsuc m) j h =
       half-upper g s (expLower g n) _ (exp-lower-one g s n) (order-lower-one (absolute (over d p (negsuc m))) j)
   upper-cases (negsuc n) (negsuc m) j h =
-      share-upper g s (expUpper g (suc n)) _ (≤/-trans (lower-antitone j (both-below′ n m h))
+      share-upper g s (expUpper g (suc n)) _ (≤/-trans (lower-antitone j (both-below m n h))
       (upper-holds g s (suc n) j))
 
 -- the force's ends overlap every order's interval of the force

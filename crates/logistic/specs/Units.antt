@@ -1,4 +1,4 @@
--- Signed ends in units as fractions, an order's interval, and what it means that the two overlap.
+-- Signed ends in units as fractions, an order's interval, and what it means that the two overlap, or two such intervals.
 use Prim.Native.Nat.{ℕ, _<_}
 use lib.IntN.{ℤ}
 use Rattle.whole.specs.SignedEnds.{SignedEnds}
@@ -24,6 +24,11 @@ inUnitsℚ g s n = record { num = n; den = g .unit; positive = s .unit-positive 
 pub record SignedOverlap (g : Grid) (s : Sound g) (ends : SignedEnds) (interval : Interval) : Type 0 where
   pub below : inUnitsℚ g s (ends .lower) ≤ℚ interval .most
   pub above : interval .least ≤ℚ inUnitsℚ g s (ends .upper)
+
+-- and so of two intervals
+pub record Meet (I J : Interval) : Type 0 where
+  pub below : I .least ≤ℚ J .most
+  pub above : J .least ≤ℚ I .most
 
 -- both ends of an interval lie within B of 0
 pub record Bounded (B : Ratio) (interval : Interval) : Type 0 where

@@ -9,3 +9,6 @@ pub mod Holds
 pub mod Width
 pub mod Billionths
 pub mod Narrowing
+pub mod Agree
+-- an example
+pub mod Rows

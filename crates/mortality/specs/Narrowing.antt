@@ -107,7 +107,7 @@ survival-most-one p x n j = upper-below-one (orderForce p x n j .least) j
 rest-algebra : (p q P Q : ℕ) → P ≡ p → Q ≡ 1 → p * 2 ≤ 1 * q → P * 1 ≤ 1 * (Q * (1 * max 1 (q - p)))
 rest-algebra p q P Q a b h = rw (a, b) (omega arith)
 
-half-one : {u : Ratio} → u ≤/ half → u </ whole/ 1
+pub half-one : {u : Ratio} → u ≤/ half → u </ whole/ 1
 unfolding half whole/
 half-one {u} h = record { cross = omega (arith, h .cross, u .positive) }
 
@@ -144,7 +144,7 @@ module _ (p : Params) (x n : ℕ) (r : Negated (logForce p x n) logForceWidth) w
       ≤/-trans (record { cross = omega (arith, r .least) })
       (z-overlap billionths billionths-sound billionths-fit p x n r .below)
 
-  young-half : (j : ℕ) → leastOrder ≤ j → orderYoungForce p x n j .most ≤/ half
+  pub young-half : (j : ℕ) → leastOrder ≤ j → orderYoungForce p x n j .most ≤/ half
   unfolding orderYoungForce
   young-half j l = order-force-half billionths billionths-sound (below highestForce) (billionths-fit .half) j z-large l
 
@@ -169,9 +169,10 @@ module _ (p : Params) (x n : ℕ) (r : Negated (logForce p x n) logForceWidth) w
       ≤/-trans a (+/-mono (+/-mono (≤/-refl (orderLogLower (u .least) j)) (times-times 2 1 e)) (≤/-refl e)) in
       added (exactM p x n) (orderLogLower (u .least) j) (orderLogUpper (u .most) j) (times 3 e) (more (orderLogLower (u .least) j) 2 e b)
 
-  young-ordered : (j : ℕ) → orderYoungForce p x n j .least ≤/ orderYoungForce p x n j .most
+  -- any two orders agree
+  pub young-agrees : (i j : ℕ) → orderYoungForce p x n i .least ≤/ orderYoungForce p x n j .most
   unfolding orderYoungForce
-  young-ordered j = brackets-agree (exactZ p x n) j j
+  young-agrees i j = brackets-agree (exactZ p x n) i j
 
   size-bound : (L : Ratio) → L ≤/ whole/ 1 → absolute (exactM p x n +ℚ signed L) ≤/ whole/ 31
   unfolding exactZ
@@ -184,7 +185,7 @@ module _ (p : Params) (x n : ℕ) (r : Negated (logForce p x n) logForceWidth) w
   fitted-bounded j l =
       let u = orderYoungForce p x n j in
       let m = young-half j l in
-      let k = ≤/-trans (young-ordered j) m in
+      let k = ≤/-trans (young-agrees j j) m in
       record {
         low = size-bound (orderLogLower (u .least) j) (≤/-trans (log-brackets-agree (u .least) j j (half-one k)) (log-one (u .least) j k));
         high = size-bound (orderLogUpper (u .most) j) (log-one (u .most) j m);

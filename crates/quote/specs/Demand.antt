@@ -10,7 +10,7 @@ use Rattle.params.specs.declared.Params.{Params}
 use Rattle.params.specs.Refusals.{refusalNumber}
 use Rattle.exact.specs.declared.Figure.{Figure}
 use Rattle.exact.specs.declared.Figure.the-variants.{Printed, Open}
-use Rattle.exact.specs.Value.{AtLeast, AtMost, RoundsTo, OneStep, Narrows}
+use Rattle.exact.specs.Value.{AtLeast, AtMost, RoundsTo, OneStep, Narrows, Agrees}
 use Rattle.exact.specs.Figure.{halfUp}
 use Rattle.kinds.specs.declared.Kind.{Kind}
 use Rattle.kinds.specs.Kinds.{OneKind, ruleOf, stepOf, widthOf}
@@ -57,13 +57,14 @@ abbrev pub RoundsAt : Params → Kind → ℤ → ℤ → ℤ → ℕ → Type 0
 RoundsAt p kind age year span n = RoundsTo billionths billionths-sound (step kind) n (exactQuery p kind age year span)
 
 -- of an accepted quote: the ends are the grid's; the exact value is at least the lower one and at most the upper one, which
--- lie no further apart than the kind allows; its brackets narrow past any whole fraction; and the figure is open exactly when
--- the two ends round half up to different steps
+-- lie no further apart than the kind allows; its brackets are those of one number, since any two agree and they narrow past any
+-- whole fraction; and the figure is open exactly when the two ends round half up to different steps
 pub record Kept (p : Params) (kind : Kind) (age year span : ℤ) (a : Answer) : Type 0 where
   pub of-grid : (lowerOf a ≡ queryEnds p kind age year span .lower) × (upperOf a ≡ queryEnds p kind age year span .upper)
   pub at-least : AtLeast (exactQuery p kind age year span) (inUnits billionths billionths-sound (lowerOf a))
   pub at-most : AtMost (exactQuery p kind age year span) (inUnits billionths billionths-sound (upperOf a))
   pub width : upperOf a ≤ lowerOf a + widthOf (ruleOf kind .fold) (natAbs age)
+  pub agrees : Agrees (exactQuery p kind age year span)
   pub narrows : Narrows (exactQuery p kind age year span)
   pub open-when : (figureShown a ≡ markedOpen) ↔ (halfUp (step kind) (lowerOf a) ≡ halfUp (step kind) (upperOf a) → ⊥)
 

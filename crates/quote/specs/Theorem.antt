@@ -29,6 +29,7 @@ use Rattle.paths.specs.Path.{pathOf}
 use Rattle.paths.specs.Answers.{AnsweredPath, path-length}
 use Rattle.paths.specs.Holds.{value-holds}
 use Rattle.paths.specs.Narrowing.{value-narrows}
+use Rattle.paths.specs.Agree.{value-agrees}
 use Rattle.paths.specs.Width.{death-limit, survival-limit, expectancy-limit, annuity-limit}
 use Rattle.kinds.specs.declared.Kind.{Kind}
 use Rattle.kinds.specs.declared.Fold.{Fold}
@@ -125,6 +126,7 @@ module _ {p : Params} {k : Kind} {age year span : ℤ} (h : Passed p k age year 
         at-least = overlap-at-least (λ j l. value-holds a j l f);
         at-most = overlap-at-most (λ j l. value-holds a j l f);
         width = query-width;
+        agrees = value-agrees a f;
         narrows = value-narrows a f;
         open-when = (λ e. o .0 (w .0 e), λ e. w .1 (o .1 e));
       }

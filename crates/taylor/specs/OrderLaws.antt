@@ -4,6 +4,7 @@ use Prim.Native.Nat.{ℕ, _+_, _*_, _≤_, _<_}
 use native.Mathlib.Nat.{le-mul-of-pos-right}
 use native.Mathlib.Omega.{arith}
 use Rattle.fraction.specs.Ratio.{Ratio, _≤/_, _</_, _+/_, whole/, quotient/}
+use Rattle.fraction.specs.RatioLaws.{≤/-trans}
 use Rattle.taylor.specs.Positive.{sum-at-least-one}
 use Rattle.taylor.specs.Order.{orderLower, orderUpper}
 use Rattle.taylor.specs.Sums.{sum-grows, sum-monotone}
@@ -37,6 +38,10 @@ pub upper-antitone : {z z' : Ratio} (j : ℕ) → z ≤/ z' → orderUpper z' j 
 unfolding orderUpper
 upper-antitone {z} {z'} j h =
     record { cross = omega (arith, sum-monotone (z .num) (z .den) (z' .num) (z' .den) j (h .cross)) }
+
+-- so every lower end is at most every upper end at a lesser z
+pub orders-agree : {z z' : Ratio} (i j : ℕ) → z ≤/ z' → orderLower z' i ≤/ orderUpper z j
+orders-agree {z} i j h = ≤/-trans (lower-antitone i h) (brackets-agree z i j)
 
 pub upper-below-one : (z : Ratio) (j : ℕ) → orderUpper z j ≤/ whole/ 1
 unfolding orderUpper whole/

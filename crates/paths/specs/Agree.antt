@@ -1,0 +1,39 @@
+-- The values along an answered path agree at any two orders that count.
+use mathlib.Core.List.{List, Forall₂}
+use Prim.Native.Nat.{ℕ, _≤_}
+use Rattle.fraction.specs.RatioLaws.{complement-reverse}
+use Rattle.fraction.specs.Bracket.{Bracket, NotAbove}
+use Rattle.taylor.specs.Order.{leastOrder}
+use Rattle.params.specs.declared.Params.{Params}
+use Rattle.exact.specs.Value.{Agrees}
+use Rattle.folds.specs.Each.{each-places}
+use Rattle.folds.specs.Agree.{survival-agrees, expectancy-agrees}
+use Rattle.annuity.specs.Agree.{annuity-agrees}
+use Rattle.mortality.specs.Agree as cell
+use Rattle.paths.specs.Path.{Place, orderFactors}
+use Rattle.paths.specs.Values.{Fold, death, survival, expectancy, annuity, orderDeathOf, orderFoldOver, exactValue}
+use Rattle.paths.specs.Answers.{AnsweredPath}
+
+-- 1 less two brackets, their ends exchanged
+death-of-agrees : {a b : Bracket} → NotAbove b a → NotAbove (orderDeathOf a) (orderDeathOf b)
+unfolding orderDeathOf
+death-of-agrees h = record { reaches = complement-reverse (h .reaches) }
+
+-- each fold over factors that agree
+fold-agrees : (f : Fold) {ps qs : List Bracket} → Forall₂ NotAbove ps qs → Forall₂ NotAbove qs ps
+    → NotAbove (orderFoldOver f ps) (orderFoldOver f qs)
+unfolding orderFoldOver
+fold-agrees death h k = death-of-agrees (survival-agrees k)
+fold-agrees survival h k = survival-agrees h
+fold-agrees expectancy h k = expectancy-agrees h
+fold-agrees (annuity rate) h k = annuity-agrees rate h
+
+module _ {p : Params} {path : List Place} (a : AnsweredPath p path) where
+  factors-agree : (i j : ℕ) → leastOrder ≤ i → leastOrder ≤ j
+      → Forall₂ NotAbove (orderFactors p path i) (orderFactors p path j)
+  unfolding orderFactors
+  factors-agree i j k l = each-places _ _ (λ c h. cell.survival-agrees h i j k l) a
+
+  pub value-agrees : (f : Fold) → Agrees (exactValue f p path)
+  unfolding exactValue
+  value-agrees f = record { agree = λ i j k l. fold-agrees f (factors-agree i j k l) (factors-agree j i l k) .reaches }
