@@ -2,3 +2,4 @@
 pub mod Lines
 -- laws
 pub mod LineLaws
+pub mod CutLaws

@@ -20,11 +20,11 @@ pub first-more : (b : ℕ) (bs : List ℕ) → eqb b lineFeed ≡ false → firs
 unfolding firstLine
 first-more b bs e = rw (e, firstLine)
 
-after-feed : (b : ℕ) (bs : List ℕ) → eqb b lineFeed ≡ true → afterLine (b ∷ bs) ≡ bs
+pub after-feed : (b : ℕ) (bs : List ℕ) → eqb b lineFeed ≡ true → afterLine (b ∷ bs) ≡ bs
 unfolding afterLine
 after-feed b bs e = rw (e, afterLine)
 
-after-more : (b : ℕ) (bs : List ℕ) → eqb b lineFeed ≡ false → afterLine (b ∷ bs) ≡ afterLine bs
+pub after-more : (b : ℕ) (bs : List ℕ) → eqb b lineFeed ≡ false → afterLine (b ∷ bs) ≡ afterLine bs
 unfolding afterLine
 after-more b bs e = rw (e, afterLine)
 

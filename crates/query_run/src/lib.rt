@@ -18,9 +18,6 @@ use sheet::Reading;
 use sheet::Written;
 use sheet_reader::MOST_BYTES;
 
-// The lines of a sheet.
-pub const SHEET_LINES: usize = 370;
-
 // The sheet of an input, and the place after it.
 pub struct Begun {
     pub sheet: Reading,
@@ -38,7 +35,8 @@ pub fn begin(input: &[u8]) -> Begun
     ensures { λ r. ⌜ (r .sheet ≡ inputSheet (now (input .entry)))
         × (r .next ≡ length (firstLines sheetLines (now (input .entry)))) ⌝ }
 {
-    let next = lines::lines_end(input, SHEET_LINES);
+    let first = sheet_reader::read_first(input);
+    let next = first.next;
     if MOST_BYTES < input.len() {
         let sheet = Reading {
             refusal: Refusal::Malformed,
@@ -46,7 +44,7 @@ pub fn begin(input: &[u8]) -> Begun
         };
         return Begun { sheet, next };
     }
-    let sheet = sheet_reader::read(&input[..next]);
+    let sheet = first.sheet;
     Begun { sheet, next }
 }
 

@@ -23,6 +23,10 @@ use Rattle.params.specs.Limits.{inLimits}
 abbrev pub mostBytes : ℕ
 mostBytes = 65536
 
+-- "A sheet is 370 lines"
+abbrev pub sheetLines : ℕ
+sheetLines = 370
+
 -- the bytes of the first two lines
 abbrev pub headBytes : ℕ
 headBytes = 19

@@ -165,7 +165,7 @@ at-end : {p : Params} (q : Params) (next rest : List ℕ)
 at-end q [] rest e = (refl, cc)
 at-end q (b ∷ more) rest e = malformed-not-taken e
 
-params-sheet : (sex : Sex) (vs : List ℤ) → length vs ≡ 368
+pub params-sheet : (sex : Sex) (vs : List ℤ) → length vs ≡ 368
     → sheetText (paramsOf sex vs) ≡ headText sex ++ linesText keys vs
 unfolding sheetText paramsOf
 params-sheet sex vs h = rw (values-params sex vs h)

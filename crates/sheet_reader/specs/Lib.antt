@@ -2,3 +2,4 @@
 pub mod Read
 -- laws
 pub mod SheetLaws
+pub mod FirstLaws

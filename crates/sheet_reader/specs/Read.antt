@@ -1,12 +1,18 @@
 -- The reading of a sheet in the steps of the code.
 use Prim.Native.Nat.{ℕ}
 use mathlib.Core.Bool.{Bool, cond, _&&_}
-use mathlib.Core.List.{[], _∷_}
+use mathlib.Core.List.{List, [], _∷_}
 use lib.Dec.{leb}
 use Rattle.tokens.specs.Text.{Parse, malformed, taken}
 use Rattle.params.specs.declared.Params.{Params}
 use Rattle.params.specs.declared.Refusal.{Refusal}
 use Rattle.params.specs.declared.Refusal.the-variants.{Accepted, Malformed, OutOfLimits}
+use Rattle.sheet.specs.Sheet.{readHead}
+use Rattle.sheet_set.specs.SetLines.{fromLines}
+
+-- the sheet at the front of some bytes: its set, and what follows its last line
+unfoldable pub setFront : List ℕ → Parse Params
+setFront bs = elim (readHead bs) [ malformed ↦ malformed | taken sex rest ↦ fromLines sex rest ]
 
 -- nothing follows
 unfoldable pub whole : Parse Params → Parse Params

@@ -25,7 +25,7 @@ use Rattle.sheet.specs.Sheet.{refused, judged, readSheet}
 use Rattle.sheet_ages.specs.declared.SetRead.{SetRead}
 use Rattle.sheet_ages.specs.Ages.{setRead}
 use Rattle.sheet_set.specs.SetLines.{fromLines}
-use Rattle.sheet_reader.specs.Read.{whole, atEnd, refusalOf}
+use Rattle.sheet_reader.specs.Read.{setFront, whole, atEnd, refusalOf}
 use Rattle.tokens.specs.Steps.{goes, stops}
 
 -- ---- its length
@@ -40,20 +40,34 @@ not-too-long bs h = rw (le-leb (length bs) mostBytes h)
 
 -- ---- its first two lines
 
--- they are read, and the set is what follows them
-head-then : (bs : List ℕ) (sex : Sex) (rest : List ℕ) → readHead bs ≡ taken sex rest
-    → readSet bs ≡ whole (fromLines sex rest)
-unfolding readSet fromLines whole
-head-then bs sex rest e = goes _ e ∙ go (readLines keys rest)
+-- the set of the whole bytes is the one at their front, where nothing follows it
+pub front-whole : (bs : List ℕ) → readSet bs ≡ whole (setFront bs)
+unfolding readSet setFront fromLines whole
+front-whole bs = go (readHead bs)
   where
-    go : (q : Parse (List ℤ))
+    lines : (sex : Sex) (q : Parse (List ℤ))
         → _≡_ {A = Parse Params}
         (elim q
         [ malformed ↦ malformed | taken vs next ↦ elim next [ [] ↦ taken (paramsOf sex vs) [] | b ∷ more ↦ malformed ] ])
         (whole (elim q [ malformed ↦ malformed | taken vs next ↦ taken (paramsOf sex vs) next ]))
+    lines sex malformed = refl
+    lines sex (taken vs []) = refl
+    lines sex (taken vs (b ∷ more)) = refl
+
+    go : (q : Parse Sex)
+        → _≡_ {A = Parse Params}
+        (elim q [
+          | malformed ↦ malformed
+          | taken sex rest ↦
+              elim (readLines keys rest)
+              [ malformed ↦ malformed | taken vs next ↦ elim next [ [] ↦ taken (paramsOf sex vs) [] | b ∷ more ↦ malformed ] ]
+        ])
+        (whole (elim q [
+          | malformed ↦ malformed
+          | taken sex rest ↦ elim (readLines keys rest) [ malformed ↦ malformed | taken vs next ↦ taken (paramsOf sex vs) next ]
+        ]))
     go malformed = refl
-    go (taken vs []) = refl
-    go (taken vs (b ∷ more)) = refl
+    go (taken sex rest) = lines sex (readLines keys rest)
 
 -- either sex's lines, or none
 module _ (bs : List ℕ) where
@@ -79,8 +93,8 @@ sexPlace = 17
 
 module _ (bs : List ℕ) where
   -- other first bytes are no sheet's
-  pub head-none : textAt bs 0 sexText ≡ false → readSet bs ≡ malformed
-  unfolding readSet readHead headText bytesOf
+  pub head-none : textAt bs 0 sexText ≡ false → setFront bs ≡ malformed
+  unfolding setFront readHead headText bytesOf
   head-none h =
       let e = text-missing bs 0 sexText h in
       stops _ (no-head bs (takeText-malformed sexText (bytesOf "M\n") bs e) (takeText-malformed sexText (bytesOf "F\n") bs e))
@@ -91,10 +105,10 @@ module _ (bs : List ℕ) where
     unfolding bytesOf
     then-sex line = takeText-then sexText line bs (text-found bs 0 sexText h)
 
-    pub head-m : textAt bs sexPlace (bytesOf "M\n") ≡ true → readSet bs ≡ whole (fromLines M (drop headBytes bs))
-    unfolding headText bytesOf
+    pub head-m : textAt bs sexPlace (bytesOf "M\n") ≡ true → setFront bs ≡ fromLines M (drop headBytes bs)
+    unfolding setFront headText bytesOf
     head-m m =
-        head-then bs M (drop headBytes bs)
+        goes _
         (m-head bs (then-sex (bytesOf "M\n") ∙ text-found bs sexPlace (bytesOf "M\n") m))
 
     module _ (m : textAt bs sexPlace (bytesOf "M\n") ≡ false) where
@@ -102,14 +116,14 @@ module _ (bs : List ℕ) where
       unfolding headText bytesOf
       not-m = then-sex (bytesOf "M\n") ∙ text-missing bs sexPlace (bytesOf "M\n") m
 
-      pub head-f : textAt bs sexPlace (bytesOf "F\n") ≡ true → readSet bs ≡ whole (fromLines F (drop headBytes bs))
-      unfolding headText bytesOf
+      pub head-f : textAt bs sexPlace (bytesOf "F\n") ≡ true → setFront bs ≡ fromLines F (drop headBytes bs)
+      unfolding setFront headText bytesOf
       head-f f =
-          head-then bs F (drop headBytes bs)
+          goes _
           (f-head bs not-m (then-sex (bytesOf "F\n") ∙ text-found bs sexPlace (bytesOf "F\n") f))
 
-      pub head-malformed : textAt bs sexPlace (bytesOf "F\n") ≡ false → readSet bs ≡ malformed
-      unfolding readSet headText bytesOf
+      pub head-malformed : textAt bs sexPlace (bytesOf "F\n") ≡ false → setFront bs ≡ malformed
+      unfolding setFront headText bytesOf
       head-malformed f = stops _ (no-head bs not-m (then-sex (bytesOf "F\n") ∙ text-missing bs sexPlace (bytesOf "F\n") f))
 
 -- ---- to the sheet's end
@@ -158,39 +172,33 @@ pub then-accepted : {w i : Bool} → w ≡ true → i ≡ true → refusalOf w i
 unfolding refusalOf
 then-accepted e f = rw (e, f)
 
--- what is decided on a set that the code read
-abbrev pub decided : List ℕ → SetRead → Refusal
-decided bytes r = refusalOf (atEnd (r .ok) (r .next) (length bytes)) (inLimits (r .set))
-
-module _ (p : Params) where
+-- a sheet that is or is not whole, with its set
+module _ (w : Bool) (p : Params) {f : Refusal} (d : f ≡ refusalOf w (inLimits p)) where
   -- a refusal is given with the blank set
-  gives-refusal : (w i : Bool) → inLimits p ≡ i → (refusalNumber (refusalOf w i) ≡ 0 → ⊥)
-      → judged (cond w (taken p []) malformed) ≡ refused (refusalOf w i)
-  unfolding judged refusalOf refusalNumber
-  gives-refusal true true e h = absurd (h refl)
-  gives-refusal true false e h = rw e
-  gives-refusal false i e h = refl
+  pub judged-refused : {s : Params} → s ≡ blank → (refusalNumber f ≡ 0 → ⊥)
+      → judged (cond w (taken p []) malformed) ≡ record { refusal = f; set = s }
+  unfolding judged refused refusalOf refusalNumber
+  judged-refused b h = rw (d, b) (go w (inLimits p) refl (λ k. h (ap refusalNumber d ∙ k)))
+    where
+      go : (v i : Bool) → inLimits p ≡ i → (refusalNumber (refusalOf v i) ≡ 0 → ⊥)
+          → judged (cond v (taken p []) malformed) ≡ refused (refusalOf v i)
+      go true true e h = absurd (h refl)
+      go true false e h = rw e
+      go false i e h = refl
 
   -- and where there is none, the set is the one that was read
-  gives-set : (w i : Bool) → inLimits p ≡ i → refusalNumber (refusalOf w i) ≡ 0
-      → judged (cond w (taken p []) malformed) ≡ record { refusal = refusalOf w i; set = p }
+  pub judged-accepted : refusalNumber f ≡ 0 → judged (cond w (taken p []) malformed) ≡ record { refusal = f; set = p }
   unfolding judged refusalOf refusalNumber
-  gives-set true true e h = rw e
-  gives-set true false e h = absurd (omega arith)
-  gives-set false i e h = absurd (omega arith)
+  judged-accepted h = rw d (go w (inLimits p) refl (ap refusalNumber (sym d) ∙ h))
+    where
+      go : (v i : Bool) → inLimits p ≡ i → refusalNumber (refusalOf v i) ≡ 0
+          → judged (cond v (taken p []) malformed) ≡ record { refusal = refusalOf v i; set = p }
+      go true true e h = rw e
+      go true false e h = absurd (omega arith)
+      go false i e h = absurd (omega arith)
 
-module _ (bytes : List ℕ) (r : SetRead) (q : Parse Params) (e : setRead bytes r ≡ q) where
-  -- so it is with the reading that the result stands for
-  read-whole : whole q ≡ cond (atEnd (r .ok) (r .next) (length bytes)) (taken (r .set) []) malformed
-  read-whole = ap whole (sym e) ∙ whole-set bytes r
-
-  pub set-refused : {f : Refusal} {s : Params} → f ≡ decided bytes r → s ≡ blank → (refusalNumber f ≡ 0 → ⊥)
-      → judged (whole q) ≡ record { refusal = f; set = s }
-  unfolding refused
-  set-refused d b h =
-      rw (d, b) (ap judged read-whole ∙ gives-refusal (r .set) _ _ refl (λ k. h (ap refusalNumber d ∙ k)))
-
-  pub set-accepted : {f : Refusal} → f ≡ decided bytes r → refusalNumber f ≡ 0
-      → judged (whole q) ≡ record { refusal = f; set = r .set }
-  set-accepted d h =
-      rw d (ap judged read-whole ∙ gives-set (r .set) _ _ refl (ap refusalNumber (sym d) ∙ h))
+-- what was read at the front, judged where nothing follows it, is the sheet that the bytes are
+pub read-judged : (bytes : List ℕ) (r : SetRead) → setRead bytes r ≡ setFront bytes → length bytes ≤ mostBytes
+    → judged (cond (atEnd (r .ok) (r .next) (length bytes)) (taken (r .set) []) malformed) ≡ readSheet bytes
+read-judged bytes r e h =
+    ap judged (sym (whole-set bytes r) ∙ ap whole e ∙ sym (front-whole bytes)) ∙ sym (not-too-long bytes h)

@@ -1,19 +1,34 @@
 // Reads a parameter sheet.
 ghost use mathlib.Core.Path.{_≡_};
-ghost use lib.ListN.{drop};
-ghost use Rattle.sheet.specs.Sheet.{headBytes, refused, judged, readSheet};
+ghost use mathlib.Core.Bool.{false, cond};
+ghost use mathlib.Core.List.{[]};
+ghost use lib.ListN.{length};
+ghost use Rattle.tokens.specs.Text.{malformed, taken};
+ghost use Rattle.lines.specs.Lines.{firstLines};
 ghost use Rattle.params.specs.declared.Refusal.the-variants.{Malformed};
-ghost use Rattle.sheet_set.specs.SetLines.{fromLines};
-ghost use Rattle.sheet_reader.specs.Read.{whole, atEnd, refusalOf};
+ghost use Rattle.sheet.specs.Sheet.{sheetLines, refused, judged, readSheet};
+ghost use Rattle.sheet_ages.specs.Ages.{setRead};
+ghost use Rattle.sheet_reader.specs.Read.{setFront, atEnd, refusalOf};
+use params::Params;
 use params::Refusal;
 use params::Sex;
 use sheet::Reading;
+use sheet_ages::SetRead;
 
 // The longest input that is read.
 pub const MOST_BYTES: usize = 65_536;
 
+// The lines of a sheet.
+pub const SHEET_LINES: usize = 370;
+
 // The place of the sex.
 const SEX: usize = 17;
+
+// The sheet that begins an input, and the place after it.
+pub struct First {
+    pub sheet: Reading,
+    pub next: usize,
+}
 
 // What is handed back for a malformed sheet.
 fn malformed() -> Reading
@@ -51,13 +66,10 @@ fn refusal_of(whole: bool, within: bool) -> Refusal
     Refusal::Accepted
 }
 
-// What the lines after the first two give.
-fn judged_set(bytes: &[u8], sex: Sex) -> Reading
-    ensures { λ r. ⌜ r ≡ judged (whole (fromLines sex (drop headBytes (now (bytes .entry))))) ⌝ }
+// A sheet that is or is not whole, with its set.
+fn judge(whole: bool, set: Params) -> Reading
+    ensures { λ r. ⌜ r ≡ judged (cond whole (taken set []) malformed) ⌝ }
 {
-    let got = sheet_set::set_at(bytes, sex);
-    let set = got.set;
-    let whole = ends(got.ok, got.next, bytes.len());
     let refusal = refusal_of(whole, limits::in_limits(set));
     if params::refusal_number(refusal) != 0 {
         let nothing = params::blank();
@@ -69,6 +81,33 @@ fn judged_set(bytes: &[u8], sex: Sex) -> Reading
     Reading { refusal, set }
 }
 
+// What is given where no sheet begins.
+fn none() -> SetRead
+    ensures { λ r. ⌜ r .ok ≡ false ⌝ }
+{
+    SetRead {
+        ok: false,
+        next: 0,
+        set: params::blank(),
+    }
+}
+
+// The sheet at the front of the bytes, and the place after it.
+fn front(bytes: &[u8]) -> SetRead
+    ensures { λ r. ⌜ setRead (now (bytes .entry)) r ≡ setFront (now (bytes .entry)) ⌝ }
+{
+    if !tokens::text_at(bytes, 0, b"table=AG2014\nsex=") {
+        return none();
+    }
+    if tokens::text_at(bytes, SEX, b"M\n") {
+        return sheet_set::set_at(bytes, Sex::M);
+    }
+    if tokens::text_at(bytes, SEX, b"F\n") {
+        return sheet_set::set_at(bytes, Sex::F);
+    }
+    none()
+}
+
 // The set that the bytes stand for, or the refusal, for any bytes.
 pub fn read(bytes: &[u8]) -> Reading
     ensures { λ r. ⌜ r ≡ readSheet (now (bytes .entry)) ⌝ }
@@ -76,14 +115,32 @@ pub fn read(bytes: &[u8]) -> Reading
     if MOST_BYTES < bytes.len() {
         return malformed();
     }
-    if !tokens::text_at(bytes, 0, b"table=AG2014\nsex=") {
-        return malformed();
+    let got = front(bytes);
+    let set = got.set;
+    judge(ends(got.ok, got.next, bytes.len()), set)
+}
+
+// The sheet that the first lines of the bytes are, and the place after them. It is read where it stands; only where there is
+// none are the lines counted.
+pub fn read_first(bytes: &[u8]) -> First
+    ensures { λ r. ⌜ (r .sheet ≡ readSheet (firstLines sheetLines (now (bytes .entry))))
+        × (r .next ≡ length (firstLines sheetLines (now (bytes .entry)))) ⌝ }
+{
+    let got = front(bytes);
+    let set = got.set;
+    let sheet = judge(got.ok, set);
+    if !got.ok {
+        let end = lines::lines_end(bytes, SHEET_LINES);
+        return First { sheet, next: end };
     }
-    if tokens::text_at(bytes, SEX, b"M\n") {
-        return judged_set(bytes, Sex::M);
+    if got.next < bytes.len() {
+        return First {
+            sheet,
+            next: got.next,
+        };
     }
-    if tokens::text_at(bytes, SEX, b"F\n") {
-        return judged_set(bytes, Sex::F);
+    First {
+        sheet,
+        next: bytes.len(),
     }
-    malformed()
 }

@@ -8,7 +8,7 @@ use lib.Seq.{drop-drop, take-all}
 use Rattle.sheet.specs.declared.Reading.{Reading}
 use Rattle.sheet.specs.Sheet.{readSheet}
 use Rattle.lines.specs.Lines.{firstLines, afterLines}
-use Rattle.lines.specs.LineLaws.{lines-take, lines-drop, lines-within}
+use Rattle.lines.specs.LineLaws.{lines-drop, lines-within}
 use Rattle.query_run.specs.QueryRun.{sheetLines}
 use Rattle.query_run.specs.Sheets.{ReadWell, read-well}
 use Rattle.two_sheets.specs.TwoSheets.{firstSheet, secondSheet, afterSheets}
@@ -48,24 +48,25 @@ second-well input = read-well (firstLines sheetLines (afterLines sheetLines inpu
 
 -- ---- as they are read
 
-module _ (input : List ℕ) {end : ℕ} (e : end ≡ length (firstLines sheetLines input)) where
-  pub reads-first : {r : Reading} → r ≡ readSheet (take end input) → r ≡ firstSheet input
-  unfolding firstSheet
-  reads-first f = f ∙ ap readSheet (ap (λ (n : ℕ). take n input) e ∙ lines-take sheetLines input)
+-- from where the first ends
+pub rest-after : (input : List ℕ) {end : ℕ} → end ≡ length (firstLines sheetLines input)
+    → take (length input - end) (drop end input) ≡ afterLines sheetLines input
+rest-after input {end} e =
+    take-all (length input - end) (drop end input) (omega (arith, length-drop end input))
+    ∙ ap (λ (n : ℕ). drop n input) e ∙ sym (lines-drop sheetLines input)
 
-  -- from where the first ends
-  pub rest-after : take (length input - end) (drop end input) ≡ afterLines sheetLines input
-  rest-after =
-      take-all (length input - end) (drop end input) (omega (arith, length-drop end input))
-      ∙ ap (λ (n : ℕ). drop n input) e ∙ sym (lines-drop sheetLines input)
+-- the first
+pub reads-first : (input : List ℕ) {r : Reading} → r ≡ readSheet (firstLines sheetLines input) → r ≡ firstSheet input
+unfolding firstSheet
+reads-first input f = f
 
-module _ (input : List ℕ) {rest : List ℕ} (e : rest ≡ afterLines sheetLines input) {len : ℕ}
-    (f : len ≡ length (firstLines sheetLines rest)) where
-  pub reads-second : {r : Reading} → r ≡ readSheet (take len rest) → r ≡ secondSheet input
+-- and the second, with the place after both
+module _ (input : List ℕ) {rest : List ℕ} (e : rest ≡ afterLines sheetLines input) where
+  pub reads-second : {r : Reading} → r ≡ readSheet (firstLines sheetLines rest) → r ≡ secondSheet input
   unfolding secondSheet
-  reads-second g =
-      g ∙ ap readSheet (ap (λ (n : ℕ). take n rest) f ∙ lines-take sheetLines rest ∙ ap (firstLines sheetLines) e)
+  reads-second f = f ∙ ap (λ (l : List ℕ). readSheet (firstLines sheetLines l)) e
 
-  pub ends-both : {end : ℕ} → end ≡ length (firstLines sheetLines input) → end + len ≡ sheetsEnd input
+  pub ends-both : {end len : ℕ} → end ≡ length (firstLines sheetLines input) → len ≡ length (firstLines sheetLines rest)
+      → end + len ≡ sheetsEnd input
   unfolding sheetsEnd
-  ends-both g = rw (g, f, e)
+  ends-both g f = rw (g, f, e)

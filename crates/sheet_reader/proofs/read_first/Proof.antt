@@ -1,0 +1,42 @@
+-- `read_first` meets its contract: the sheet at the front is the first lines', and ends where they end; where there is none
+-- they are counted.
+use borrow.Author.Needs.{needs}
+use borrow.Author.Tests.{not-false}
+use mathlib.Core.Path.{_≡_, _∙_}
+use Prim.Native.Nat.{_+_, _-_}
+use native.Mathlib.Omega.{arith}
+use lib.ListN.{length}
+use Rattle.lines.specs.Lines.{firstLines}
+use Rattle.sheet.specs.Sheet.{sheetLines, readSheet}
+use Rattle.sheet_reader.specs.FirstLaws.{first-judged, first-place}
+use Rattle.sheet_reader.proofs.read_first.Statement.{statement}
+use Rattle.sheet_reader.proofs.read_first.Tie as tie
+
+-- the sheet
+reads : (c : tie.After-judge) → let bytes = c .before .before .before .before .args .bytes .now in
+    c .judge .result ≡ readSheet (firstLines sheetLines bytes)
+reads c =
+    let f = c .before .before .front in
+    c .judge .ensures ∙ first-judged _ (f .result) (f .ensures)
+
+-- the place after it, and what is left of the bytes
+place : (c : tie.Else1) → let f = c .before .before .before .before in
+    let bytes = f .before .before .args .bytes .now in
+    length (firstLines sheetLines bytes) + (length bytes - f .front .result .next) ≡ length bytes
+place c =
+    let f = c .before .before .before .before .front in
+    first-place _ (f .result) (f .ensures) (not-false _ (c .if1 .left))
+
+returns : tie.Need-returns
+returns c = (reads (c .before .before .before), c .lines-end .ensures)
+
+returns-2 : tie.Need-returns-2
+returns-2 c = let e = c .before .before in (reads (e .before .before), omega (arith, place e))
+
+returns-3 : tie.Need-returns-3
+returns-3 c = let e = c .before .before in (reads (e .before .before), omega (arith, place e))
+
+pub read-first-spec : {M : Type 1} → statement M
+read-first-spec =
+    tie.close
+    (tie.spec (λ c κs. search needs) (λ c κs. search needs) (λ c κs. search needs) returns returns-2 returns-3)
