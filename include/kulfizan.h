@@ -1,5 +1,5 @@
 /* Kulfizan for C: the AG2014 table with the parameters of a sheet. A sheet read and written, a query of it answered, an
-   annuity of it priced, a published column checked by it, and the whole run of the desk. `make lib` writes libkulfizan.a and
+   annuity of it priced, a published column checked by it, and the whole run of an input. `make lib` writes libkulfizan.a and
    libkulfizan.so into target/lib.
 
    A set is 369 numbers: the sex (0 for M, 1 for F), a, theta, K, k, and then for ages 0 to 90 A, B, alpha, beta, in
@@ -20,8 +20,11 @@
 #define KULFIZAN_SET_LENGTH 369
 #define KULFIZAN_QUOTE_LENGTH 4
 
-/* The longest sheet. */
-#define KULFIZAN_LONGEST_SHEET 65536
+/* No sheet that is written, and none that is accepted, has more bytes. */
+#define KULFIZAN_LONGEST_SHEET 8483
+
+/* No longer input is read. */
+#define KULFIZAN_LONGEST_INPUT 65536
 
 /* The room that a run of n bytes of input wants. */
 #define KULFIZAN_RUN_ROOM(n) (5 * (size_t)(n) + 161)
@@ -85,7 +88,7 @@ uint8_t kulfizan_annuity(const uint8_t *sheet, size_t sheet_length, const uint8_
 uint8_t kulfizan_verdict(const uint8_t *sheet, size_t sheet_length, int64_t year, const uint8_t *column,
                          size_t column_length, uint64_t *verdict);
 
-/* Writes the whole run of the desk into the buffer, and its length; bytes after the output keep their values. The input is
+/* Writes the whole run of an input into the buffer, and its length; bytes after the output keep their values. The input is
    a sheet and then query lines, as the programs take it from standard input; with `ends` 0 the output is what the program
    `quotes` prints, with any other number what `ends` prints. A refused sheet and a refused query are lines of the output.
    Short where the buffer has fewer than KULFIZAN_RUN_ROOM(input_length) bytes, and no other refusal. */
