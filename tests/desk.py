@@ -111,13 +111,18 @@ def ends(data):
 
 # ---- two sheets
 
+def excess(lower, higher):
+    """By how many units the value between the higher ends exceeds that between the lower: at least, and at most."""
+    return f" least={higher[0] - lower[1]} most={higher[1] - lower[0]}"
+
+
 def values(first, second):
     """What two pairs of ends tell of the two values."""
     if first[1] < second[0]:
-        return " values=below"
+        return " values=below" + excess(first, second)
     if second[1] < first[0]:
-        return " values=above"
-    return f" values=near units={max(first[1] - second[0], second[1] - first[0])}"
+        return " values=above" + excess(second, first)
+    return f" values=near most={max(first[1] - second[0], second[1] - first[0])}"
 
 
 def compared(first, second, line):

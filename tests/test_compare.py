@@ -4,7 +4,8 @@ against the exact values to 80 digits.
 It runs the program on some thousand inputs: two sheets that are whole, torn or off scale, the first, the second or both; too
 few lines; torn queries; queries refused for one sheet or both; open figures on either side; ends that touch or lie one unit
 apart; inputs up to, at and past the longest, in pieces. Of each compared query of some hundred pairs of sheets, `below` and
-`above` must be true of the exact values, and `units=` no less than their difference. An argument is taken as the seed.
+`above` must be true of the exact values, and their difference at least `least=` and at most `most=`; `near`, at most `most=`.
+An argument is taken as the seed.
 """
 import collections
 import concurrent.futures
@@ -28,17 +29,20 @@ LEAST_INPUTS, LEAST_PAIRS, LEAST_TOLD = 500, 48, 400
 STEEP = sheets.text(dict(flat(), A=[0] * 91))
 LOWER = sheets.text(dict(flat(), A=[-2 * 10**9] * 91))
 OFF = with_value("k", b"%d" % (SIZES["k"] + 1))
-COMPARED = re.compile(rb"(kind=(\w+) .*) fig=([0-9.]+|open) fig=([0-9.]+|open) values=(below|above|near units=([0-9]+))")
-# Queries, their figures with the flat sheet and with every A at −2000000000, and the values in that order and exchanged.
+COMPARED = re.compile(
+    rb"(kind=(\w+) .*) fig=([0-9.]+|open) fig=([0-9.]+|open) values=(?:(below|above) least=([1-9][0-9]*)|(near)) most=([0-9]+)"
+)
+# Queries, their figures with the flat sheet and with every A at −2000000000, the values in that order, and by how much.
 APART = {
-    b"kind=q age=65 year=2020 span=0": (b" fig=0.30780", b" fig=0.12658", b" values=above", b" values=below"),
-    b"kind=coh age=119 year=2020 span=2": (b" fig=0.47914", b" fig=0.76287", b" values=below", b" values=above"),
-    b"kind=ecoh age=120 year=2064 span=0": (b" fig=2.7", b" fig=7.4", b" values=below", b" values=above"),
-    b"kind=acoh age=65 year=2020 span=0 rate=30000": (b" fig=3.0", b" fig=6.6", b" values=below", b" values=above"),
-    b"kind=aper age=119 year=2064 span=0 rate=0": (b" fig=3.2", b" fig=7.9", b" values=below", b" values=above"),
-    b"kind=eper age=120 year=2014 span=0": (b" fig=2.7", b" fig=7.4", b" values=below", b" values=above"),
-    b"kind=acoh age=120 year=2014 span=0 rate=0": (b" fig=3.2", b" fig=7.9", b" values=below", b" values=above"),
+    b"kind=q age=65 year=2020 span=0": (b" fig=0.30780", b" fig=0.12658", b"above", b" least=181222377 most=181222403"),
+    b"kind=coh age=119 year=2020 span=2": (b" fig=0.47914", b" fig=0.76287", b"below", b" least=283725976 most=283726142"),
+    b"kind=ecoh age=120 year=2064 span=0": (b" fig=2.7", b" fig=7.4", b"below", b" least=4651457989 most=4651462684"),
+    b"kind=acoh age=65 year=2020 span=0 rate=30000": (b" fig=3.0", b" fig=6.6", b"below", b" least=3529085938 most=3529087268"),
+    b"kind=aper age=119 year=2064 span=0 rate=0": (b" fig=3.2", b" fig=7.9", b"below", b" least=4651457992 most=4651462682"),
+    b"kind=eper age=120 year=2014 span=0": (b" fig=2.7", b" fig=7.4", b"below", b" least=4651458255 most=4651463471"),
+    b"kind=acoh age=120 year=2014 span=0 rate=0": (b" fig=3.2", b" fig=7.9", b"below", b" least=4651458255 most=4651463471"),
 }
+EXCHANGED = {b"below": b"above", b"above": b"below"}
 
 # Two sheets, the queries that are asked of both, and how many units lie between the ends, if searched.
 Pair = collections.namedtuple("Pair", "name first second queries gap")
@@ -54,13 +58,17 @@ def fixed_rows():
     """Two sheets, and what is printed after each query, whatever the second implementation says."""
     same = {query: end for query, end in FIXED.items() if end.startswith(b" no=")}
     ones = [query for query, end in FIXED.items() if end == b" fig=1.00000"]
-    same |= {query: FIXED[query] * 2 + b" values=near units=0" for query in ones}
+    same |= {query: FIXED[query] * 2 + b" values=near most=0" for query in ones}
     yield "flat twice", FLAT * 2, same
-    yield "flat, lower", FLAT + LOWER, {query: one + other + word for query, (one, other, word, _) in APART.items()}
-    yield "lower, flat", LOWER + FLAT, {query: other + one + word for query, (one, other, _, word) in APART.items()}
+    apart, exchanged = {}, {}
+    for query, (one, other, word, by) in APART.items():
+        apart[query] = one + other + b" values=" + word + by
+        exchanged[query] = other + one + b" values=" + EXCHANGED[word] + by
+    yield "flat, lower", FLAT + LOWER, apart
+    yield "lower, flat", LOWER + FLAT, exchanged
     steep = dict.fromkeys(APART, b" no=6") | {b"kind=q age=121 year=2020 span=0": b" no=3"}
     steep |= {RATED + b" rate=200001": b" no=8", b"kind=aper age=65 year=2020 span=1 rate=-1": b" no=5"}
-    steep[b"kind=per age=120 year=2014 span=0"] = b" fig=1.00000 fig=1.00000 values=near units=0"
+    steep[b"kind=per age=120 year=2014 span=0"] = b" fig=1.00000 fig=1.00000 values=near most=0"
     for name, data in (("flat, steep", FLAT + STEEP), ("steep, flat", STEEP + FLAT), ("steep twice", STEEP * 2)):
         yield name, data, steep
 
@@ -320,13 +328,17 @@ def pairs(draw, workers):
 
 # ---- comparing
 
-def false_words(kind, figures, told, units, one, other):
+def word_of(line):
+    return (line[5] or line[7]).decode()
+
+
+def false_words(kind, figures, word, least, most, one, other):
     """What a line says that is not true of the two exact values, which are in units."""
     for shown, value in zip(figures, (one, other)):
         if shown != OPEN and shown != desk.figure_text(rounded(value, kind), kind):
             yield f"the exact value {value:.20f} rounds to {desk.figure_text(rounded(value, kind), kind)}"
-    true = {"below": one + 1 <= other, "above": other + 1 <= one, "near": abs(one - other) <= units}
-    if not true[told]:
+    over = {"below": other - one, "above": one - other, "near": abs(one - other)}[word]
+    if not least <= over <= most:
         yield f"the exact values are {one:.20f} and {other:.20f}"
 
 
@@ -346,7 +358,7 @@ def told(pair):
         checks += 1
         exact = [one.value(*query) for one in given]
         figures = (got[3].decode(), got[4].decode())
-        for said in false_words(query[0], figures, got[5].decode().split()[0], int(got[6] or 0), *exact):
+        for said in false_words(query[0], figures, word_of(got), int(got[6] or 0), int(got[8]), *exact):
             wrong.append(f"{pair.name}: {line.decode()}: {said}")
     return [said for said in wrong if said], counts, checks
 
@@ -360,7 +372,7 @@ def tally(pair, want, counts):
         if not got:
             counts[line.rpartition(b" ")[2].decode() if line.startswith(b"kind=") else line.decode()] += 1
             continue
-        kind, what = got[2].decode(), got[5].decode().split()[0]
+        kind, what = got[2].decode(), word_of(got)
         counts[f"{kind} {what}"] += 1
         sides = got[3] == b"open", got[4] == b"open"
         if any(sides):

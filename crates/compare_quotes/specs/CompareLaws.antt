@@ -1,6 +1,6 @@
 -- The three cases of two pairs of ends, and what was compared of two answers.
 use mathlib.Core.Path.{_≡_, refl}
-use Prim.Native.Nat.{_-_, _≤_, _<_}
+use Prim.Native.Nat.{ℕ, _-_, _≤_, _<_}
 use native.Mathlib.Nat.{max-eq-left, max-eq-right}
 use native.Mathlib.Omega.{arith}
 use borrow.Author.Tests.{lt-ltb, le-ltb}
@@ -15,15 +15,20 @@ use Rattle.compare_quotes.specs.declared.Values.{Values}
 use Rattle.compare_quotes.specs.declared.Values.the-variants.{Below, Above, Near}
 use Rattle.compare_quotes.specs.declared.Pair.{Pair}
 use Rattle.compare_quotes.specs.declared.Comparison.the-variants.{Compared, NotCompared}
-use Rattle.compare_quotes.specs.Compare.{mostApart, valuesOf, quotedEnds, comparisonOf}
+use Rattle.compare_quotes.specs.Compare.{excess, mostApart, valuesOf, quotedEnds, comparisonOf}
 
 -- ---- two pairs of ends
 
-pub values-below : (a b : Ends) → a .upper < b .lower → valuesOf a b ≡ Below
+pub excess-is : (a b : Ends) {l m : ℕ} → l ≡ b .lower - a .upper → m ≡ b .upper - a .lower
+    → record { least = l; most = m } ≡ excess a b
+unfolding excess
+excess-is a b e f = rw (e, f)
+
+pub values-below : (a b : Ends) → a .upper < b .lower → valuesOf a b ≡ Below (excess a b)
 unfolding valuesOf
 values-below a b h = rw (lt-ltb (a .upper) (b .lower) h)
 
-pub values-above : (a b : Ends) → b .lower ≤ a .upper → b .upper < a .lower → valuesOf a b ≡ Above
+pub values-above : (a b : Ends) → b .lower ≤ a .upper → b .upper < a .lower → valuesOf a b ≡ Above (excess b a)
 unfolding valuesOf
 values-above a b h k = rw (le-ltb (a .upper) (b .lower) h, lt-ltb (b .upper) (a .lower) k)
 

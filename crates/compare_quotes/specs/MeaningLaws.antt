@@ -1,25 +1,27 @@
--- What the ends of two exact values tell of them: that the words are true, and that values so far apart differ.
+-- What the ends of two exact values tell of them: that the words and numbers are true, and that values so far apart differ.
 use Prim.Native.Nat.{ℕ, _+_, _-_, _*_, _≤_, _<_}
 use native.Mathlib.Nat.{mul-le-mul-right, le-max-left, le-max-right}
 use native.Mathlib.Decide.{decLt}
 use native.Mathlib.Omega.{arith}
 use Rattle.fraction.specs.Ratio.{Ratio, _≤/_, _</_, _+/_, whole/, quotient/}
-use Rattle.fraction.specs.RatioLaws.{≤/-refl, ≤/-trans, ≤/-</-trans, </-irrefl, +/-mono, ≤/-of-not-</, </-of-not-≤/}
+use Rattle.fraction.specs.RatioLaws.{≤/-refl, ≤/-trans, ≤/-of-not-</, </-of-not-≤/, not-≤/-of-</}
+use Rattle.fraction.specs.RatioLaws.{+/-mono, +/-comm, +/-assoc, +/-cancel}
 use Rattle.taylor.specs.Order.{leastOrder}
 use Rattle.expo.specs.Grid.{Grid, Ends}
 use Rattle.expo.specs.Facts.{Sound}
 use Rattle.expo.specs.Overlap.{inUnits}
 use Rattle.exact.specs.Value.{Exact, Narrows}
-use Rattle.exact.specs.ValueLaws.{at-least-weaken}
-use Rattle.compare_quotes.specs.Compare.{mostApart, valuesOf}
+use Rattle.exact.specs.ValueLaws.{at-least-weaken, at-most-weaken}
+use Rattle.compare_quotes.specs.declared.Excess.{Excess}
+use Rattle.compare_quotes.specs.Compare.{excess, mostApart, valuesOf}
 use Rattle.compare_quotes.specs.CompareLaws.{values-below, values-above, values-near}
-use Rattle.compare_quotes.specs.Meaning.{Held, Apart, Within, Means, Less}
+use Rattle.compare_quotes.specs.Meaning.{Held, AtLeastOver, AtMostOver, Exceeds, Within, Means, Less}
 
 -- ---- whole numbers of units
 
-units-mono : (g : Grid) (s : Sound g) {m n : ℕ} → m ≤ n → inUnits g s m ≤/ inUnits g s n
-unfolding inUnits
-units-mono g s h = record { cross = mul-le-mul-right (g .unit) h }
+units-over : (g : Grid) (s : Sound g) (u n : ℕ) {l : ℕ} → u + n ≤ l → inUnits g s u +/ inUnits g s n ≤/ inUnits g s l
+unfolding inUnits _+/_
+units-over g s u n h = record { cross = omega (arith, mul-le-mul-right (g .unit * g .unit) h) }
 
 units-within : (g : Grid) (s : Sound g) (l n : ℕ) {u : ℕ} → u ≤ l + n → inUnits g s u ≤/ inUnits g s l +/ inUnits g s n
 unfolding inUnits _+/_
@@ -28,20 +30,37 @@ units-within g s l n h = record { cross = omega (arith, mul-le-mul-right (g .uni
 -- ---- the three words
 
 module _ {g : Grid} {s : Sound g} where
-  ends-apart : {a b : Ends} {v v′ : Exact} → Held g s a v → Held g s b v′ → a .upper < b .lower → Apart g s v v′
-  ends-apart {a} h k l =
+  -- an order's lower end of the first is at most its upper end in units, n units under the second's lower one
+  ends-least : {a b : Ends} {v v′ : Exact} (n : ℕ) → Held g s a v → Held g s b v′ → a .upper + n ≤ b .lower
+      → AtLeastOver g s n v v′
+  ends-least {a} n h k l =
       record {
-        bound = a .upper;
-        first = h .at-most;
-        second = at-least-weaken (units-mono g s (omega arith)) (k .at-least);
+        over = λ j c.
+            at-least-weaken
+            (≤/-trans (+/-mono (≤/-of-not-</ (h .at-most .none-above j c)) (≤/-refl _)) (units-over g s (a .upper) n l))
+            (k .at-least);
       }
 
-  -- an order's lower end of the one is at most the upper end in units, and so at most n units above the other's lower one
-  above-by : {a b : Ends} {v v′ : Exact} (n : ℕ) → Held g s a v → Held g s b v′ → a .upper ≤ b .lower + n
-      → (j : ℕ) → leastOrder ≤ j → v j .least ≤/ v′ j .most +/ inUnits g s n
-  above-by {b = b} n h k l j c =
-      ≤/-trans (≤/-of-not-</ (h .at-most .none-above j c))
-      (≤/-trans (units-within g s (b .lower) n l) (+/-mono (≤/-of-not-</ (k .at-least .none-below j c)) (≤/-refl _)))
+  -- the second's upper end in units is at most n units above the first's lower one, and an order's upper end is not under it
+  ends-most : {a b : Ends} {v v′ : Exact} (n : ℕ) → Held g s a v → Held g s b v′ → b .upper ≤ a .lower + n
+      → AtMostOver g s n v v′
+  ends-most {a} n h k l =
+      record {
+        over = λ j c.
+            at-most-weaken
+            (≤/-trans (units-within g s (a .lower) n l) (+/-mono (≤/-of-not-</ (h .at-least .none-below j c)) (≤/-refl _)))
+            (k .at-most);
+      }
+
+  ends-exceed : {a b : Ends} {v v′ : Exact} → Held g s a v → Held g s b v′ → a .upper < b .lower
+      → Exceeds g s (excess a b) v v′
+  unfolding excess
+  ends-exceed h k l =
+      record {
+        some = omega arith;
+        at-least = ends-least _ h k (omega arith);
+        at-most = ends-most _ h k (omega arith);
+      }
 
   ends-within : {a b : Ends} {v v′ : Exact} → Held g s a v → Held g s b v′ → Within g s (mostApart a b) v v′
   unfolding mostApart
@@ -49,18 +68,18 @@ module _ {g : Grid} {s : Sound g} where
       let f = le-max-left (a .upper - b .lower) (b .upper - a .lower) in
       let t = le-max-right (a .upper - b .lower) (b .upper - a .lower) in
       record {
-        first-above = above-by _ h k (omega (arith, f));
-        second-above = above-by _ k h (omega (arith, t));
+        first = ends-most _ k h (omega (arith, f));
+        second = ends-most _ h k (omega (arith, t));
       }
 
-  -- the words are true of any two exact values between the ends
+  -- the words and numbers are true of any two exact values between the ends
   pub values-mean : (a b : Ends) {v v′ : Exact} → Held g s a v → Held g s b v′ → Means g s (valuesOf a b) v v′
   unfolding Means
   values-mean a b h k =
       elim (decLt (a .upper) (b .lower)) [
-        | yes l ↦ rw (values-below a b l) (ends-apart h k l)
+        | yes l ↦ rw (values-below a b l) (ends-exceed h k l)
         | no l ↦ elim (decLt (b .upper) (a .lower)) [
-          | yes m ↦ rw (values-above a b (omega arith) m) (ends-apart k h m)
+          | yes m ↦ rw (values-above a b (omega arith) m) (ends-exceed k h m)
           | no m ↦ rw (values-near a b (omega arith) (omega arith)) (ends-within h k)
         ]
       ]
@@ -77,27 +96,33 @@ finer-positive g = omega arith
 abbrev narrow : Grid → Ratio
 narrow g = quotient/ (whole/ 1) (finer g) (finer-positive g)
 
-room : (u c : ℕ) → 0 < u
-    → ((c * (1 * (2 * u + 1)) + 1 * u) * (1 * (2 * u + 1)) + 1 * (u * (1 * (2 * u + 1)))) * u
-    < (c + 1) * (u * (1 * (2 * u + 1)) * (1 * (2 * u + 1)))
-room u c p = omega arith
+room : (u n : ℕ) → 0 < n
+    → (1 * (1 * (2 * u + 1)) + 1 * (1 * (2 * u + 1))) * u < n * ((1 * (2 * u + 1)) * (1 * (2 * u + 1)))
+room u n h = omega (arith, mul-le-mul-right ((2 * u + 1) * (2 * u + 1)) h)
 
-unit-unfilled : (g : Grid) (s : Sound g) (c : ℕ) → inUnits g s c +/ narrow g +/ narrow g </ inUnits g s (c + 1)
+unit-unfilled : (g : Grid) (s : Sound g) (n : ℕ) → 0 < n → narrow g +/ narrow g </ inUnits g s n
 unfolding inUnits _+/_ quotient/ whole/
-unit-unfilled g s c = record { cross = room (g .unit) c (s .unit-positive) }
+unit-unfilled g s n h = record { cross = room (g .unit) n h }
 
-module _ {g : Grid} {s : Sound g} {v v′ : Exact} where
+-- what is added to one and the same fraction
+added : (u x y z : Ratio) → u +/ x ≤/ u +/ y +/ z → x ≤/ y +/ z
+added u x y z h =
+    +/-cancel u
+    (≤/-trans (+/-comm x u .below) (≤/-trans h (≤/-trans (+/-assoc u y z .below) (+/-comm u (y +/ z) .below))))
+
+module _ {g : Grid} {s : Sound g} {e : Excess} {v v′ : Exact} where
   -- of brackets so narrow the first is below the second, or a unit would be filled
-  narrow-less : Apart g s v v′ → (j : ℕ) → leastOrder ≤ j → v j .most ≤/ v j .least +/ narrow g
+  narrow-less : Exceeds g s e v v′ → (j : ℕ) → leastOrder ≤ j → v j .most ≤/ v j .least +/ narrow g
       → v′ j .most ≤/ v′ j .least +/ narrow g → v j .most </ v′ j .least
   narrow-less a j c w w′ =
       </-of-not-≤/
-      (λ h. let m = ≤/-trans w (+/-mono (≤/-of-not-</ (a .first .none-above j c)) (≤/-refl _)) in
-      let l = ≤/-trans (≤/-of-not-</ (a .second .none-below j c)) (≤/-trans w′ (+/-mono (≤/-trans h m) (≤/-refl _))) in
-      </-irrefl (≤/-</-trans l (unit-unfilled g s (a .bound))))
+      (λ h. let l = ≤/-trans w′ (+/-mono (≤/-trans h w) (≤/-refl _)) in
+      not-≤/-of-</ (unit-unfilled g s (e .least) (a .some))
+      (added (v j .least) (inUnits g s (e .least)) (narrow g) (narrow g)
+      (≤/-trans (≤/-of-not-</ (a .at-least .over j c .none-below j c)) l)))
 
-  pub apart-less : Apart g s v v′ → Narrows v → Narrows v′ → Less v v′
-  apart-less a w w′ =
+  pub exceeds-less : Exceeds g s e v v′ → Narrows v → Narrows v′ → Less v v′
+  exceeds-less a w w′ =
       record {
         order = w .order (finer g) + w′ .order (finer g);
         counts = omega (arith, w .counts (finer g));

@@ -8,22 +8,23 @@ use Rattle.path_quotes.specs.declared.Answer.the-variants.{Quoted, Refused}
 use Rattle.compare_quotes.specs.declared.Values.{Values}
 use Rattle.compare_quotes.specs.declared.Values.the-variants.{Below, Above, Near}
 use Rattle.compare_quotes.specs.declared.Comparison.the-variants.{Compared, NotCompared}
-use Rattle.compare_quotes.specs.Compare.{mostApart, valuesOf, quotedEnds, comparisonOf}
+use Rattle.compare_quotes.specs.Compare.{excess, mostApart, valuesOf, quotedEnds, comparisonOf}
 
 -- the ends l and u, and the ends l′ and u′, have the values r
 abbrev pub Row : ℕ → ℕ → ℕ → ℕ → Values → Type 0
 Row l u l′ u′ r = valuesOf (record { lower = l; upper = u }) (record { lower = l′; upper = u′ }) ≡ r
 
--- a unit between them, either way round; ends that touch; the same ends twice; ends within others; one value
-pub rows : Row 10 20 21 30 Below
-    × Row 21 30 10 20 Above
+-- a unit between them, either way round; far apart; ends that touch; the same ends twice; ends within others; one value
+pub rows : Row 10 20 21 30 (Below (record { least = 1; most = 20 }))
+    × Row 21 30 10 20 (Above (record { least = 1; most = 20 }))
+    × Row 10 20 1000 1003 (Below (record { least = 980; most = 993 }))
     × Row 10 20 20 30 (Near 20)
     × Row 20 30 10 20 (Near 20)
     × Row 10 20 10 20 (Near 10)
     × Row 10 20 12 15 (Near 8)
     × Row 15 15 15 15 (Near 0)
-unfolding mostApart valuesOf
-rows = (refl, refl, refl, refl, refl, refl, refl)
+unfolding excess mostApart valuesOf
+rows = (refl, refl, refl, refl, refl, refl, refl, refl)
 
 -- two quotes
 abbrev quoted : Answer
@@ -33,9 +34,10 @@ abbrev higher : Answer
 higher = Quoted (record { lower = 21; upper = 30; figure = Open })
 
 -- both quoted; the first refused, and both; the second refused
-pub answers : (comparisonOf quoted higher ≡ Compared (record { first = Printed 3; second = Open; values = Below }))
+pub answers : (comparisonOf quoted higher
+    ≡ Compared (record { first = Printed 3; second = Open; values = Below (record { least = 1; most = 20 }) }))
     × (comparisonOf (Refused LogForceOutOfRange) quoted ≡ NotCompared LogForceOutOfRange)
     × (comparisonOf (Refused LogForceOutOfRange) (Refused NoSuchAge) ≡ NotCompared LogForceOutOfRange)
     × (comparisonOf quoted (Refused NoSuchAge) ≡ NotCompared NoSuchAge)
-unfolding mostApart valuesOf quotedEnds comparisonOf
+unfolding excess mostApart valuesOf quotedEnds comparisonOf
 answers = (refl, refl, refl, refl)

@@ -13,13 +13,14 @@ use Rattle.path_quotes.specs.declared.Answer.{Answer}
 use Rattle.quote.specs.Quote.{exactQuery, answerOf}
 use Rattle.quote.specs.Demand.{shownOf, numberOf, step, Kept}
 use Rattle.quote.specs.Theorem.{same-figure, demand-met}
+use Rattle.compare_quotes.specs.declared.Excess.{Excess}
 use Rattle.compare_quotes.specs.declared.Values.the-variants.{Below, Above}
 use Rattle.compare_quotes.specs.declared.Pair.{Pair}
 use Rattle.compare_quotes.specs.declared.Comparison.the-variants.{Compared}
 use Rattle.compare_quotes.specs.Compare.{comparisonOf}
 use Rattle.compare_quotes.specs.Meaning.{Held, Means, Less}
 use Rattle.compare_quotes.specs.CompareLaws.{answerEnds, compared-both}
-use Rattle.compare_quotes.specs.MeaningLaws.{values-mean, apart-less}
+use Rattle.compare_quotes.specs.MeaningLaws.{values-mean, exceeds-less}
 
 -- an accepted answer is kept, and so its ends hold its exact value
 kept : (p : Params) (kind : Kind) (age year span : ℤ) → numberOf (answerOf p kind age year span) ≡ 0
@@ -52,20 +53,20 @@ module _ (p : Params) (kind : Kind) (age year span : ℤ) (p′ : Params) (kind�
     second-kept : Kept p′ kind′ age′ year′ span′ answer′
     second-kept = kept p′ kind′ age′ year′ span′ (compared-both answer answer′ e .second-quoted)
 
-    -- below, above and near are true of the exact values
+    -- below, above and near are true of the exact values, with their numbers
     pub compared-mean : Means billionths billionths-sound (x .values) value value′
     compared-mean =
         rw (compared-both answer answer′ e .values)
         (values-mean (answerEnds answer) (answerEnds answer′) (held first-kept) (held second-kept))
 
     -- and below and above are of two values that differ
-    pub below-less : x .values ≡ Below → Less value value′
+    pub below-less : {b : Excess} → x .values ≡ Below b → Less value value′
     unfolding Means
-    below-less q = apart-less (rw q at compared-mean) (first-kept .narrows) (second-kept .narrows)
+    below-less q = exceeds-less (rw q at compared-mean) (first-kept .narrows) (second-kept .narrows)
 
-    pub above-less : x .values ≡ Above → Less value′ value
+    pub above-less : {b : Excess} → x .values ≡ Above b → Less value′ value
     unfolding Means
-    above-less q = apart-less (rw q at compared-mean) (second-kept .narrows) (first-kept .narrows)
+    above-less q = exceeds-less (rw q at compared-mean) (second-kept .narrows) (first-kept .narrows)
 
 -- of one kind, figures that are printed and different have exact values that do not round to one step
 pub figures-differ : (kind kind′ : Kind) → OneKind kind kind′ → (p p′ : Params) (age year span age′ year′ span′ : ℤ) {x : Pair}

@@ -1,16 +1,23 @@
-// Two quotes side by side: their figures, and what their ends tell of their exact values. The first is below the second,
-// above it, or near, with the most that they can differ by.
+// Two quotes side by side: their figures, and what their ends tell of their exact values. The first is below the second or
+// above it, with the least and the most between them, or near, with the most that they can differ by.
 ghost use mathlib.Core.Path.{_≡_};
-ghost use Rattle.compare_quotes.specs.Compare.{quotedEnds, valuesOf, comparisonOf};
+ghost use Prim.Native.Nat.{_-_};
+ghost use Rattle.compare_quotes.specs.Compare.{excess, quotedEnds, valuesOf, comparisonOf};
 use exact::Figure;
 use params::Refusal;
 use path_quotes::Answer;
 use path_quotes::Quote;
 
-// The first value against the second: below, above, or near, with the most that they can differ by in units of 10^-9.
+// By how many units of 10^-9 the one value exceeds the other: at least, and at most.
+pub struct Excess {
+    pub least: u64,
+    pub most: u64,
+}
+
+// The first value against the second: below or above, by so much; or near, with the most that they can differ by in units.
 pub enum Values {
-    Below,
-    Above,
+    Below(Excess),
+    Above(Excess),
     Near(u64),
 }
 
@@ -27,15 +34,34 @@ pub enum Comparison {
     NotCompared(Refusal),
 }
 
+// The first number less the second, and 0 where the second is greater.
+fn less(a: u64, b: u64) -> u64
+    ensures { λ r. ⌜ r ≡ a - b ⌝ }
+{
+    if a < b {
+        return 0;
+    }
+    a - b
+}
+
+// By how much the second quote exceeds the first.
+fn excess_of(a: Quote, b: Quote) -> Excess
+    ensures { λ r. ⌜ r ≡ excess (quotedEnds a) (quotedEnds b) ⌝ }
+{
+    let least = less(b.lower, a.upper);
+    let most = less(b.upper, a.lower);
+    Excess { least, most }
+}
+
 // The values of two quotes.
 fn values_of(a: Quote, b: Quote) -> Values
     ensures { λ r. ⌜ r ≡ valuesOf (quotedEnds a) (quotedEnds b) ⌝ }
 {
     if a.upper < b.lower {
-        return Values::Below;
+        return Values::Below(excess_of(a, b));
     }
     if b.upper < a.lower {
-        return Values::Above;
+        return Values::Above(excess_of(b, a));
     }
     let over = a.upper - b.lower;
     let under = b.upper - a.lower;

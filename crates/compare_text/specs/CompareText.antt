@@ -1,21 +1,27 @@
--- What is printed after a query that two sheets answer: ` fig=` of the first, ` fig=` of the second, and ` values=below`,
--- ` values=above` or ` values=near` with ` units=` and the number; where either is refused, ` no=` and the refusal.
+-- What is printed after a query that two sheets answer: ` fig=` of the first, ` fig=` of the second, and ` values=below` or
+-- ` values=above` with ` least=` and ` most=` and their numbers, or ` values=near` with ` most=` and its number; where either
+-- is refused, ` no=` and the refusal.
 use mathlib.Core.List.{List, _++_}
 use Prim.Native.Nat.{ℕ}
 use Rattle.tokens.specs.Text.{bytesOf}
 use Rattle.tokens.specs.Number.{unsignedText}
 use Rattle.figure_text.specs.FigureText.{figureText}
 use Rattle.answer_text.specs.AnswerText.{refusalLine}
+use Rattle.compare_quotes.specs.declared.Excess.{Excess}
 use Rattle.compare_quotes.specs.declared.Values.{Values}
 use Rattle.compare_quotes.specs.declared.Values.the-variants.{Below, Above, Near}
 use Rattle.compare_quotes.specs.declared.Pair.{Pair}
 use Rattle.compare_quotes.specs.declared.Comparison.{Comparison}
 use Rattle.compare_quotes.specs.declared.Comparison.the-variants.{Compared, NotCompared}
 
+-- the least and the most units between two values
+unfoldable pub excessText : Excess → List ℕ
+excessText e = (bytesOf " least=" ++ unsignedText (e .least)) ++ (bytesOf " most=" ++ unsignedText (e .most))
+
 unfoldable pub valuesText : Values → List ℕ
-valuesText Below = bytesOf " values=below"
-valuesText Above = bytesOf " values=above"
-valuesText (Near n) = bytesOf " values=near units=" ++ unsignedText n
+valuesText (Below e) = bytesOf " values=below" ++ excessText e
+valuesText (Above e) = bytesOf " values=above" ++ excessText e
+valuesText (Near n) = bytesOf " values=near most=" ++ unsignedText n
 
 -- two figures with so many decimals, and the values
 unfoldable pub pairText : ℕ → Pair → List ℕ

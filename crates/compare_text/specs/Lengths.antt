@@ -7,22 +7,27 @@ use Rattle.tokens.specs.Number.{mostDigits}
 use Rattle.tokens.specs.DecimalLaws.{unsigned-length}
 use Rattle.figure_text.specs.FigureTextLaws.{figure-length}
 use Rattle.answer_text.specs.Lengths.{refusal-length}
+use Rattle.compare_quotes.specs.declared.Excess.{Excess}
 use Rattle.compare_quotes.specs.declared.Values.{Values}
 use Rattle.compare_quotes.specs.declared.Values.the-variants.{Below, Above, Near}
 use Rattle.compare_quotes.specs.declared.Pair.{Pair}
 use Rattle.compare_quotes.specs.declared.Comparison.{Comparison}
 use Rattle.compare_quotes.specs.declared.Comparison.the-variants.{Compared, NotCompared}
-use Rattle.compare_text.specs.CompareText.{valuesText, pairText, comparisonText}
+use Rattle.compare_text.specs.CompareText.{excessText, valuesText, pairText, comparisonText}
 
-values-length : (v : Values) → length (valuesText v) ≤ 19 + mostDigits
+excess-length : (e : Excess) → length (excessText e) ≤ 13 + (mostDigits + mostDigits)
+unfolding excessText bytesOf
+excess-length e = simp length-append (omega (arith, unsigned-length (e .least), unsigned-length (e .most)))
+
+values-length : (v : Values) → length (valuesText v) ≤ 26 + (mostDigits + mostDigits)
 unfolding valuesText bytesOf
-values-length Below = omega arith
-values-length Above = omega arith
+values-length (Below e) = omega (arith, excess-length e)
+values-length (Above e) = omega (arith, excess-length e)
 values-length (Near n) = omega (arith, unsigned-length n)
 
 -- the most bytes that follow a query, but for the decimals
 abbrev pub comparisonBytes : ℕ
-comparisonBytes = 77
+comparisonBytes = 99
 
 pair-length : (d : ℕ) (c : Pair) → length (pairText d c) ≤ comparisonBytes + 2 * d
 unfolding pairText bytesOf

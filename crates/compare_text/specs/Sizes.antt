@@ -8,20 +8,26 @@ use Rattle.path_quotes.specs.declared.Answer.{Answer}
 use Rattle.path_quotes.specs.declared.Answer.the-variants.{Quoted, Refused}
 use Rattle.figure_text.specs.FigureText.{Printable}
 use Rattle.answer_text.specs.Sizes.{SizedAnswer}
+use Rattle.compare_quotes.specs.declared.Excess.{Excess}
 use Rattle.compare_quotes.specs.declared.Values.{Values}
 use Rattle.compare_quotes.specs.declared.Values.the-variants.{Below, Above, Near}
 use Rattle.compare_quotes.specs.declared.Pair.{Pair}
 use Rattle.compare_quotes.specs.declared.Comparison.{Comparison}
 use Rattle.compare_quotes.specs.declared.Comparison.the-variants.{Compared, NotCompared}
-use Rattle.compare_quotes.specs.Compare.{mostApart, valuesOf, quotedEnds, comparisonOf}
+use Rattle.compare_quotes.specs.Compare.{excess, mostApart, valuesOf, quotedEnds, comparisonOf}
 use Rattle.compare_quotes.specs.CompareLaws.{values-below, values-above, values-near, apart-second, apart-first}
 
 -- ---- definitions
 
--- values whose units, where there are any, have at most 15 digits
+-- an excess whose units have at most 15 digits
+pub record SizedExcess (e : Excess) : Type 0 where
+  pub least : e .least < 10 ^ mostDigits
+  pub most : e .most < 10 ^ mostDigits
+
+-- values of which this holds
 unfoldable pub SizedValues : Values → Type 0
-SizedValues Below = Unit
-SizedValues Above = Unit
+SizedValues (Below e) = SizedExcess e
+SizedValues (Above e) = SizedExcess e
 SizedValues (Near n) = n < 10 ^ mostDigits
 
 -- two quotes compared whose numbers have at most 15 digits
@@ -37,7 +43,11 @@ SizedComparison (NotCompared r) = Unit
 
 -- ---- laws
 
--- the units are a difference of two ends, and so no greater than an end
+-- units are a difference of two ends, and so no greater than an end
+excess-small : (a b : Ends) → b .lower < 10 ^ mostDigits → b .upper < 10 ^ mostDigits → SizedExcess (excess a b)
+unfolding excess
+excess-small a b h k = record { least = omega arith; most = omega arith }
+
 apart-small : (a b : Ends) → a .upper < 10 ^ mostDigits → b .upper < 10 ^ mostDigits → mostApart a b < 10 ^ mostDigits
 apart-small a b h k =
     elim (decLt (b .upper - a .lower) (a .upper - b .lower)) [
@@ -45,14 +55,15 @@ apart-small a b h k =
       | no l ↦ omega (arith, apart-second a b (omega arith))
     ]
 
-values-sized : (a b : Ends) → a .upper < 10 ^ mostDigits → b .upper < 10 ^ mostDigits → SizedValues (valuesOf a b)
+values-sized : (a b : Ends) → a .lower < 10 ^ mostDigits → a .upper < 10 ^ mostDigits → b .lower < 10 ^ mostDigits
+    → b .upper < 10 ^ mostDigits → SizedValues (valuesOf a b)
 unfolding SizedValues
-values-sized a b h k =
+values-sized a b h h′ k k′ =
     elim (decLt (a .upper) (b .lower)) [
-      | yes l ↦ rw (values-below a b l) tt
+      | yes l ↦ rw (values-below a b l) (excess-small a b k k′)
       | no l ↦ elim (decLt (b .upper) (a .lower)) [
-        | yes m ↦ rw (values-above a b (omega arith) m) tt
-        | no m ↦ rw (values-near a b (omega arith) (omega arith)) (apart-small a b h k)
+        | yes m ↦ rw (values-above a b (omega arith) m) (excess-small b a h h′)
+        | no m ↦ rw (values-near a b (omega arith) (omega arith)) (apart-small a b h′ k′)
       ]
     ]
 
@@ -65,5 +76,5 @@ comparison-sized (Quoted q) (Quoted q′) s t =
     record {
       first = s .figure;
       second = t .figure;
-      values = values-sized (quotedEnds q) (quotedEnds q′) (s .upper) (t .upper);
+      values = values-sized (quotedEnds q) (quotedEnds q′) (s .lower) (s .upper) (t .lower) (t .upper);
     }

@@ -3,9 +3,10 @@ ghost use mathlib.Core.List.{_++_};
 ghost use Rattle.tokens.specs.Text.{bytesOf};
 ghost use Rattle.printing.specs.Put.{Room, Put};
 ghost use Rattle.figure_text.specs.FigureText.{figureText, Printable};
-ghost use Rattle.compare_text.specs.CompareText.{valuesText, pairText, comparisonText};
-ghost use Rattle.compare_text.specs.Sizes.{SizedValues, SizedPair, SizedComparison};
+ghost use Rattle.compare_text.specs.CompareText.{excessText, valuesText, pairText, comparisonText};
+ghost use Rattle.compare_text.specs.Sizes.{SizedExcess, SizedValues, SizedPair, SizedComparison};
 use compare_quotes::Comparison;
+use compare_quotes::Excess;
 use compare_quotes::Pair;
 use compare_quotes::Values;
 use exact::Figure;
@@ -19,15 +20,25 @@ fn put_shown(buffer: &mut [u8], at: usize, decimals: usize, figure: Figure) -> u
     figure_text::put_figure(buffer, place, decimals, figure)
 }
 
+// Writes a word, ` least=` and ` most=` with their numbers; the place after them.
+fn put_excess(buffer: &mut [u8], at: usize, word: &[u8], excess: Excess) -> usize
+    requires { ⌜ SizedExcess excess × Room (now buffer) at (now word ++ excessText excess) ⌝ }
+    ensures { λ r. ⌜ Put (now (buffer .entry)) at (now (word .entry) ++ excessText excess) (now (buffer .exit)) r ⌝ }
+{
+    let place = printing::put_text(buffer, at, word);
+    let end = answer_text::put_field(buffer, place, b" least=", excess.least);
+    answer_text::put_field(buffer, end, b" most=", excess.most)
+}
+
 // Writes what is told of the values; the place after it.
 fn put_values(buffer: &mut [u8], at: usize, values: Values) -> usize
     requires { ⌜ SizedValues values × Room (now buffer) at (valuesText values) ⌝ }
     ensures { λ r. ⌜ Put (now (buffer .entry)) at (valuesText values) (now (buffer .exit)) r ⌝ }
 {
     match values {
-        Values::Below => printing::put_text(buffer, at, b" values=below"),
-        Values::Above => printing::put_text(buffer, at, b" values=above"),
-        Values::Near(units) => answer_text::put_field(buffer, at, b" values=near units=", units),
+        Values::Below(excess) => put_excess(buffer, at, b" values=below", excess),
+        Values::Above(excess) => put_excess(buffer, at, b" values=above", excess),
+        Values::Near(most) => answer_text::put_field(buffer, at, b" values=near most=", most),
     }
 }
 

@@ -1,9 +1,10 @@
 -- `values_of` meets its contract: its tests are the definition's.
+use borrow.Author.Needs.{needs}
 use mathlib.Core.Path.{ap, sym, _∙_}
 use Prim.Native.Nat.{_≤_}
 use native.Mathlib.Omega.{arith}
 use Rattle.expo.specs.Grid.{Ends}
-use Rattle.compare_quotes.specs.declared.Values.the-variants.{Near}
+use Rattle.compare_quotes.specs.declared.Values.the-variants.{Below, Above, Near}
 use Rattle.compare_quotes.specs.Compare.{quotedEnds}
 use Rattle.compare_quotes.specs.CompareLaws.{values-below, values-above, values-near, apart-first, apart-second}
 use Rattle.compare_quotes.proofs.values_of.Statement.{statement}
@@ -29,16 +30,27 @@ not-above : (c : tie.Else2) → let s = passed (c .before .before .before) in fi
 unfolding quotedEnds
 not-above c = omega (arith, c .if2 .left)
 
+excess-of-requires : tie.Need-excess-of-requires
+excess-of-requires c κs = search needs
+
+excess-of-requires-2 : tie.Need-excess-of-requires-2
+excess-of-requires-2 c κs = search needs
+
 returns : tie.Need-returns
 unfolding quotedEnds
-returns c = let s = c .before .before .before in sym (values-below (first s) (second s) (omega (arith, c .if1 .taken)))
+returns c =
+    let t = c .before in
+    let s = t .before .before .before in
+    ap Below (c .excess-of .ensures) ∙ sym (values-below (first s) (second s) (omega (arith, t .if1 .taken)))
 
 returns-2 : tie.Need-returns-2
 unfolding quotedEnds
 returns-2 c =
-    let e = c .before .before .before in
+    let t = c .before in
+    let e = t .before .before .before in
     let s = passed e in
-    sym (values-above (first s) (second s) (not-below e) (omega (arith, c .if2 .taken)))
+    ap Above (c .excess-of2 .ensures)
+    ∙ sym (values-above (first s) (second s) (not-below e) (omega (arith, t .if2 .taken)))
 
 returns-3 : tie.Need-returns-3
 unfolding quotedEnds
@@ -61,4 +73,5 @@ returns-4 c =
     ∙ ap Near (apart-first (first s) (second s) (omega (arith, c .if3 .left))))
 
 pub values-of-spec : {M : Type 1} → statement M
-values-of-spec = tie.close (tie.spec returns returns-2 returns-3 returns-4)
+values-of-spec =
+    tie.close (tie.spec excess-of-requires returns excess-of-requires-2 returns-2 returns-3 returns-4)

@@ -1,0 +1,21 @@
+-- `excess_of` meets its contract: the two differences of ends.
+use borrow.Author.Needs.{needs}
+use Rattle.compare_quotes.specs.Compare.{quotedEnds}
+use Rattle.compare_quotes.specs.CompareLaws.{excess-is}
+use Rattle.compare_quotes.proofs.excess_of.Statement.{statement}
+use Rattle.compare_quotes.proofs.excess_of.Tie as tie
+
+less-requires : tie.Need-less-requires
+less-requires c κs = search needs
+
+less-requires-2 : tie.Need-less-requires-2
+less-requires-2 c κs = search needs
+
+returns : tie.Need-returns
+unfolding quotedEnds
+returns c =
+    let s = c .before .before .args in
+    excess-is (quotedEnds (s .a)) (quotedEnds (s .b)) (c .before .less .ensures) (c .less2 .ensures)
+
+pub excess-of-spec : {M : Type 1} → statement M
+excess-of-spec = tie.close (tie.spec less-requires less-requires-2 returns)
