@@ -1,27 +1,33 @@
 -- `in_range` meets its contract: the test of the lower end, and then that of the upper one.
 use borrow.Author.Needs.{needs}
+use mathlib.Core.Path.{_≡_, ap, sym, _∙_}
+use mathlib.Core.Bool.{Bool, _&&_}
+use lib.IntN.{ℤ}
+use lib.Signed.{leZ}
 use mir.Facts.{toZ-ofZ}
+use Rattle.whole.specs.Bound.{bits}
+use Rattle.signed_ends.specs.Code.{endsOf}
 use Rattle.signed_ends.proofs.Signed.{EndsFit}
-use Rattle.series.specs.Series.{inRange}
+use Rattle.series.specs.Series.{lowestForce, highestForce, inRange}
 use Rattle.series.proofs.in_range.Statement.{statement}
 use Rattle.series.proofs.in_range.Tie as tie
 
 ends-fit : (s : tie.Start) → EndsFit (s .args .m)
 ends-fit s = record { lower = search needs; upper = search needs }
 
-returns : tie.Need-returns
+-- the range, by the test of the lower end as the code has it
+tested : (s : tie.Start) {b : Bool} → leZ lowestForce (bits (s .args .m .lower)) ≡ b
+    → inRange (endsOf (s .args .m)) ≡ b && leZ (s .args .m .upper) highestForce
 unfolding inRange
+tested s e = rw (← e, toZ-ofZ (ends-fit s .lower))
+
+returns : tie.Need-returns
 returns c =
-    let f = ends-fit (c .before .before .before .before .before) in
-    let t = rw (toZ-ofZ (f .lower)) at (c .before .before .if1 .taken) in
-    rw (toZ-ofZ (f .upper), t)
+    let s = c .before .before .before .before .before in
+    ap (λ (z : ℤ). leZ z highestForce) (toZ-ofZ (ends-fit s .upper)) ∙ sym (tested s (c .before .before .if1 .taken))
 
 returns-2 : tie.Need-returns-2
-unfolding inRange
-returns-2 c =
-    let f = ends-fit (c .before .before .before) in
-    let t = rw (toZ-ofZ (f .lower)) at (c .if1 .left) in
-    rw (toZ-ofZ (f .lower), t)
+returns-2 c = c .if1 .left ∙ sym (tested (c .before .before .before) (c .if1 .left))
 
 pub in-range-spec : {M : Type 1} → statement M
 in-range-spec = tie.close (tie.spec returns returns-2)
