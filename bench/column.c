@@ -1,33 +1,55 @@
-/* Times a whole column, 121 ages in one year, worked by the proved library, by the same grid in C and by Arb, in turns in one
-   run, on one set. The library's ends are compared with the C's first, and Arb's middles must lie between them. */
+/* Times a whole column judged, q at 121 ages in one year, by kulfizan_verdict and by the same grid in C, beside its values by
+   Arb, in turns in one run, on one set. The library's ends are compared with the C's first, and Arb's middles must lie between
+   them; the verdicts on each year's column, and on the same with one entry changed, must be the same. The library reads the
+   sheet and the column in each call: as many calls with a year before the first, which read both too and are then refused, are
+   timed in the same turns and taken off. */
+#include <inttypes.h>
 #include <stdio.h>
 #include <string.h>
 
 #include "column.h"
+#include "kulfizan.h"
 #include "timing.h"
 
-/* The proved library: the ends of q at ages 0 to 120 in `count` years from year `first` on, over and over into `out`. */
-unsigned char columns_of(const uint8_t *sheet, size_t length, uint64_t first, uint64_t count, uint64_t *out, size_t room);
-
-enum { TURNS = 40, YEARS = 51 };
+enum { TURNS = 200, YEARS = 51, LONGEST_ENTRY = 20, CHANGED_AGE = 65 };
 
 #define COLUMN_ROW(by) NAMED(column, by),
 static column_in_c *const in_c[] = {EACH_COMPILER(COLUMN_ROW)};
 static const int compilers = sizeof in_c / sizeof in_c[0];
 
+/* A published column: its steps by age, and its text. */
+typedef struct {
+    uint64_t entries[COLUMN];
+    char text[COLUMN * LONGEST_ENTRY];
+    size_t length;
+} column;
+
 static params set;
 static char sheet[65536];
 static size_t length;
+static column columns[YEARS + 1];
 static uint64_t ours[2 * COLUMN], theirs[2 * COLUMN];
 static double middles[COLUMN];
 
+/* The verdict by the library, or -1 and the refusal's number under it. */
+static int judged(int year, const column *c) {
+    uint64_t verdict = 0;
+    int no = kulfizan_verdict((const uint8_t *)sheet, length, year, (const uint8_t *)c->text, c->length, &verdict);
+    return no == KULFIZAN_ACCEPTED ? (int)verdict : -1 - no;
+}
+
 static void by_library(int which) {
     (void)which;
-    columns_of((const uint8_t *)sheet, length, 1, YEARS, ours, 2 * COLUMN);
+    for (int n = 1; n <= YEARS; n++) judged(START + n, columns + n);
+}
+
+static void by_reading(int which) {
+    (void)which;
+    for (int n = 1; n <= YEARS; n++) judged(START, columns + n);
 }
 
 static void by_c(int which) {
-    for (unsigned n = 1; n <= YEARS; n++) in_c[which](&set, n, theirs);
+    for (unsigned n = 1; n <= YEARS; n++) in_c[which](&set, n, columns[n].entries, theirs);
 }
 
 static void by_arb(int which) {
@@ -35,22 +57,61 @@ static void by_arb(int which) {
     for (unsigned n = 1; n <= YEARS; n++) column_by_arb(&set, n, middles);
 }
 
+static void put_text(column *c) {
+    char *at = c->text;
+    for (int x = 0; x < COLUMN; x++)
+        at += sprintf(at, "age=%d q=%" PRIu64 ".%05" PRIu64 "\n", x, c->entries[x] / 100000, c->entries[x] % 100000);
+    c->length = (size_t)(at - c->text);
+}
+
+/* The ends of a year by the library, and its column: each figure or, where it is open, the lower end's rounding; returns whether
+   all are printed, or -1 where one is refused. */
+static int work_column(int year, column *c) {
+    int printed = 1;
+    for (int x = 0; x < COLUMN; x++) {
+        uint64_t quote[KULFIZAN_QUOTE_LENGTH] = {0};
+        if (kulfizan_quote((const uint8_t *)sheet, length, (const uint8_t *)"q", 1, x, year, 0, quote, KULFIZAN_QUOTE_LENGTH) !=
+            KULFIZAN_ACCEPTED)
+            return -1;
+        memcpy(ours + 2 * x, quote, 2 * sizeof *quote);
+        c->entries[x] = half_up(quote[0]);
+        if (!quote[2]) printed = 0;
+    }
+    put_text(c);
+    return printed;
+}
+
+/* Whether a column has the same verdict by all. */
+static int same_verdict(unsigned n, const column *c, int verdict) {
+    if (judged(START + (int)n, c) != verdict) return 0;
+    for (int i = 0; i < compilers; i++)
+        if (in_c[i](&set, n, c->entries, theirs) != verdict || memcmp(ours, theirs, sizeof ours) != 0) return 0;
+    return 1;
+}
+
 /* Whether the column of year n is the same by all. */
 static int agree(unsigned n) {
-    if (columns_of((const uint8_t *)sheet, length, n, 1, ours, 2 * COLUMN) != 0) return 0;
+    static column other;
+    int printed = work_column(START + (int)n, columns + n);
+    if (printed < 0 || !same_verdict(n, columns + n, printed ? KULFIZAN_RIGHT : KULFIZAN_OPEN)) return 0;
+    if (judged(START, columns + n) != -1 - KULFIZAN_NO_SUCH_YEAR) return 0;
+    other = columns[n];
+    other.entries[CHANGED_AGE] ^= 1;
+    put_text(&other);
+    if (printed && !same_verdict(n, &other, KULFIZAN_WRONG)) return 0;
     column_by_arb(&set, n, middles);
-    for (int i = 0; i < compilers; i++) {
-        if (!in_c[i](&set, n, theirs)) return 0;
-        if (memcmp(ours, theirs, sizeof ours) != 0) return 0;
-    }
     for (int x = 0; x < COLUMN; x++)
         if (!between(ours + 2 * x, middles[x])) return 0;
     return 1;
 }
 
-int main(void) {
 #define COLUMN_RUNNER(by) {"grid in C, " #by, by_c, 0, 0},
-    runner all[] = {{"proved library", by_library, 0, 0}, {"Arb at 64 bits", by_arb, 0, 0}, EACH_COMPILER(COLUMN_RUNNER)};
+enum { LIBRARY, ARB, FIRST_C };
+static runner all[] = {{"proved library", by_library, 0, 0}, {"Arb at 64 bits", by_arb, 0, 0},
+    EACH_COMPILER(COLUMN_RUNNER) {"reading taken off", by_reading, 0, 0}};
+static const int runners = sizeof all / sizeof all[0];
+
+int main(void) {
     realistic(&set);
     length = sheet_of(&set, sheet);
     for (unsigned n = 1; n <= YEARS; n++)
@@ -58,10 +119,11 @@ int main(void) {
             printf("the columns of %u differ\n", START + n);
             return 1;
         }
-    for (int i = 0; i < compilers; i++) all[2 + i].which = i;
-    take_turns(all, 2 + compilers, TURNS);
-    for (int i = 0; i < 2 + compilers; i++) printf("%-16s %8.2f us a column\n", all[i].name, 1e6 * all[i].best / YEARS);
+    for (int i = 0; i < compilers; i++) all[FIRST_C + i].which = i;
+    take_turns(all, runners, TURNS);
+    all[LIBRARY].best -= all[runners - 1].best;
+    for (int i = 0; i < runners; i++) printf("%-17s %8.2f us a column\n", all[i].name, 1e6 * all[i].best / YEARS);
     printf("library / faster C %.2f (at most 1.20, goal 1.00); Arb / library %.2f (at least 4.00)\n",
-        all[0].best / fastest(all + 2, compilers), all[1].best / all[0].best);
+        all[LIBRARY].best / fastest(all + FIRST_C, compilers), all[ARB].best / all[LIBRARY].best);
     return 0;
 }
