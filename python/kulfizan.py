@@ -4,18 +4,20 @@ It calls the proved library through the standard `ctypes`. The library is the fi
 KULFIZAN_LIBRARY names, else libkulfizan.so beside this file, else the one that `make lib` writes into target/lib.
 
 A set is a list of 369 whole numbers: the sex (0 for M, 1 for F), a, theta, K, k, and then for ages 0 to 90 A, B, alpha and
-beta, in the sheet's order and its units. A refused call raises `Refused`, which has the refusal's number. A number that does
-not fit 64 bits raises OverflowError.
+beta, in the sheet's order and its units. A refused call raises `Refused`, which has the refusal's number: also
+where a number is past 64 bits, since out of the table is out of the table, however far.
 """
 import array
 import collections
 import ctypes
+import operator
 import os
 import pathlib
 
 SET_LENGTH = 369
 QUOTE_LENGTH = 4
 LONGEST_SHEET = 65_536
+LEAST, GREATEST = -(2**63), 2**63 - 1
 
 REFUSALS = {
     1: "torn: the sheet, the kind's word or the list of numbers breaks its form",
@@ -80,8 +82,10 @@ def accepted(number):
 
 
 def signed(values):
-    """Numbers of 64 bits for a call, or OverflowError; never of no place, so that the pointer is none to nothing."""
-    checked = array.array("q", values)
+    """Numbers of 64 bits for a call, of at least one place, so that the pointer is never one to nothing. A number past 64 bits
+    goes in as the nearest that fits: both ends of 64 bits are outside every age, year, span and rate of the table and past
+    every parameter's size, so that the refusal is the same."""
+    checked = array.array("q", (max(LEAST, min(GREATEST, operator.index(value))) for value in values))
     return (ctypes.c_int64 * max(1, len(checked)))(*checked), len(checked)
 
 

@@ -189,6 +189,22 @@ def raised(call, *given):
     return None
 
 
+def far_refusals(module, sheet, values):
+    """Each number of a call past 64 bits on either side: the refusal is that of any number out of the table or past its size.
+    Cut off to 64 bits, most would be good numbers."""
+    for far in (GREATEST + 1, LEAST - 1, 2**64 + 65, 2**64 + 2020, 2**64, -(2**64), 2**64 + 30_000, 10**30, -(10**30)):
+        yield 3, module.quote, sheet, "q", far, 2020
+        yield 4, module.quote, sheet, "q", 65, far
+        yield 5, module.quote, sheet, "coh", 65, 2020, far
+        yield 5, module.quote, sheet, "ecoh", 65, 2020, far
+        yield 8, module.quote, sheet, "acoh", 65, 2020, 0, far
+        yield 3, module.quote, sheet, "aper", far, far, far, far
+        yield TORN, module.quote, sheet, "ecoh", 65, 2020, 0, far
+        yield TORN, module.write, [far] + values[1:]
+        yield TORN, module.write, values + [far]
+        yield from ((2, module.write, values[:i] + [far] + values[i + 1 :]) for i in (1, 2, 3, 4, 5, 6, 7, 8, 368))
+
+
 def compare_module(count, draw, module):
     params = sheets.realistic(draw)
     sheet, values = sheets.text(params), ["MF".index(params["sex"]), *numbers_of(params)]
@@ -220,10 +236,9 @@ def compare_module(count, draw, module):
         (TORN, module.quote, sheet, "acoh", 65, 2020), (TORN, module.quote, sheet, "ecoh", 65, 2020, 0, 0),
         (TORN, module.quote, off_scale, "q", 121, 2020, 0, -1), (5, module.quote, sheet, "acoh", 65, 2020, 1, -1),
         (8, module.quote, steep, "aper", 65, 2020, 0, 200_001), (6, module.quote, steep, "aper", 65, 2020, 0, 200_000),
-        ("OverflowError", module.quote, sheet, "acoh", 65, 2020, 0, GREATEST + 1),
-        ("TypeError", module.quote, sheet, "acoh", 65, 2020, 0, 0.03),
-        ("OverflowError", module.quote, sheet, "q", GREATEST + 1, 2020), ("TypeError", module.quote, sheet, "q", 65.5, 2020),
-        ("OverflowError", module.write, [0, LEAST - 1] + values[2:]),
+        ("TypeError", module.quote, sheet, "acoh", 65, 2020, 0, 0.03), ("TypeError", module.quote, sheet, "q", 65.5, 2020),
+        ("TypeError", module.quote, sheet, "q", 1e30, 2020), ("TypeError", module.quote, sheet, "q", "65", 2020),
+        *far_refusals(module, sheet, values),
     ]
     for wanted, call, *rest in refusals:
         got = raised(call, *rest)
