@@ -6,11 +6,10 @@ use mathlib.Core.List.{List, [], _∷_}
 use Prim.Native.Nat.{ℕ, suc}
 use lib.Dec.{eqb}
 use lib.IntN.{ℤ, pos, negsuc}
-use lib.ListN.{length, drop}
+use lib.ListN.{length}
 use Rattle.whole.specs.Table.{every, listed}
 use Rattle.tokens.specs.Text.{bytesOf, Parse, malformed, taken, takeText}
-use Rattle.tokens.specs.Number.{valueFrom}
-use Rattle.tokens.specs.Unsigned.{leading}
+use Rattle.tokens.specs.Unsigned.{readDigits}
 use Rattle.tokens.specs.Steps.{andThen}
 use Rattle.lines.specs.Lines.{lines}
 use Rattle.weights.specs.Weights.{lastClosed}
@@ -30,10 +29,6 @@ wholes = 1
 
 abbrev pub decimals : ℕ
 decimals = 5
-
--- the number that n digits at the front stand for, after those of v; a digit more is not read
-unfoldable pub readDigits : ℕ → ℕ → List ℕ → Parse ℕ
-readDigits v n bs = cond (eqb (length (leading n bs)) n) (taken (valueFrom v (leading n bs)) (drop n bs)) malformed
 
 -- "q as one digit, a point and five digits": its steps of 0.00001, which are its digits without the point
 unfoldable pub readQ : List ℕ → Parse ℕ

@@ -14,7 +14,7 @@ use Rattle.whole.specs.Table.{listed, listed-length, listed-at}
 use Rattle.whole.specs.Clash.{clash}
 use Rattle.tokens.specs.Text.{malformed, taken}
 use Rattle.tokens.specs.Steps.{goes}
-use Rattle.sheet.specs.NumberTrip.{malformed-not-taken}
+use Rattle.tokens.specs.NumberTrip.{malformed-not-taken}
 use Rattle.sheet.specs.SheetTrip.{then-taken}
 use Rattle.lines.specs.Lines.{lines}
 use Rattle.table_tests.specs.TableTests.{ageInTable}

@@ -6,12 +6,12 @@ use Rattle.whole.specs.Table.{listed}
 use Rattle.tokens.specs.Text.{bytesOf, malformed, taken, takeText}
 use Rattle.tokens.specs.Number.{isDigit, digits, afterDigits, valueFrom, noLeadingZero, wellFormed}
 use Rattle.tokens.specs.Number.{readUnsigned, negated, positive, readNumber, decimal, unsignedText}
-use Rattle.tokens.specs.Unsigned.{leading}
+use Rattle.tokens.specs.Unsigned.{leading, readDigits}
 use Rattle.lines.specs.Lines.{ahead, lines}
 use Rattle.weights.specs.Weights.{lastClosed}
 use Rattle.table_tests.specs.TableTests.{ageInTable}
 use Rattle.query.specs.Query.{readField, alone}
-use Rattle.column_text.specs.Column.{columnLines, readDigits, readQ, readEntry, readEntries, entriesOf, isAge, ofAge}
+use Rattle.column_text.specs.Column.{columnLines, readQ, readEntry, readEntries, entriesOf, isAge, ofAge}
 use Rattle.column_text.specs.Column.{allInTable, counts, oneOfEach, eachOnce, stepsOf, byAge, columnOf}
 
 lineText : ℕ → List ℕ

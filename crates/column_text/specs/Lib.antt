@@ -7,6 +7,7 @@ pub mod Rows
 pub mod ColumnRows
 -- laws
 pub mod QLaws
+pub mod QText
 pub mod StepLaws
 pub mod WalkLaws
 pub mod ColumnLaws

@@ -6,40 +6,21 @@ use Prim.Native.Nat.{ℕ, zero, suc, _+_, _-_, _*_, _^_, _≤_, _<_}
 use native.Mathlib.Nat.{pow-suc, mul-le-mul-right}
 use native.Mathlib.Numerals.{add-one}
 use native.Mathlib.Omega.{arith}
-use lib.Dec.{eqb·zero-suc, eqb·suc-suc}
 use lib.ListN.{length, getD, drop, drop-of-length-le}
-use lib.Seq.{drop-cons, take-nil}
+use lib.Seq.{drop-cons}
 use Rattle.tokens.specs.Text.{bytesOf, malformed, taken, takeText}
-use Rattle.tokens.specs.Number.{zeroDigit, isDigit, digits, valueFrom}
-use Rattle.tokens.specs.Unsigned.{leading}
-use Rattle.tokens.specs.DigitLaws.{digit-bounds, digits-more, digits-end}
-use Rattle.sheet.specs.NumberTrip.{malformed-not-taken}
+use Rattle.tokens.specs.Number.{zeroDigit, isDigit}
+use Rattle.tokens.specs.Unsigned.{readDigits}
+use Rattle.tokens.specs.DigitLaws.{digit-bounds}
+use Rattle.tokens.specs.FixedLaws.{read-all, read-past, read-other, read-digit}
+use Rattle.tokens.specs.NumberTrip.{malformed-not-taken}
 use Rattle.sheet.specs.SheetTrip.{then-taken}
 use Rattle.query.specs.Query.{readField}
 use Rattle.query.specs.QueryLaws.{alone-taken}
 use Rattle.column_text.specs.declared.Entry.{Entry}
-use Rattle.column_text.specs.Column.{wholes, decimals, readDigits, readQ, readEntry}
+use Rattle.column_text.specs.Column.{wholes, decimals, readQ, readEntry}
 
 -- ---- in a list
-
-pub read-all : (v : ℕ) (bs : List ℕ) → readDigits v 0 bs ≡ taken v bs
-unfolding readDigits leading valueFrom
-read-all v bs = refl
-
--- a digit is missing: at the end, and at another byte
-read-past : (v n : ℕ) → readDigits v (suc n) [] ≡ malformed
-unfolding readDigits leading digits
-read-past v n = rw (take-nil (suc n), eqb·zero-suc n)
-
-read-other : (v n b : ℕ) (bs : List ℕ) → isDigit b ≡ false → readDigits v (suc n) (b ∷ bs) ≡ malformed
-unfolding readDigits leading
-read-other v n b bs e = rw (digits-end b bs e, take-nil (suc n), eqb·zero-suc n)
-
--- one digit, and n more
-read-digit : (v n b : ℕ) (bs : List ℕ) → isDigit b ≡ true
-    → readDigits v (suc n) (b ∷ bs) ≡ readDigits (v * 10 + (b - zeroDigit)) n bs
-unfolding readDigits leading valueFrom
-read-digit v n b bs e = rw (digits-more b bs e, eqb·suc-suc (length (leading n bs)) n)
 
 -- n digits after those of v stand for less than (v + 1)·10ⁿ
 grown : (v d p w : ℕ) → d ≤ 9 → w < suc (v * 10 + d) * p → w < suc v * (p * 10)

@@ -2,7 +2,8 @@
 ghost use mathlib.Core.Path.{_≡_};
 ghost use Prim.Native.Nat.{_≤_, _<_};
 ghost use lib.ListN.{drop};
-ghost use Rattle.column_text.specs.Column.{decimals, readDigits, readQ, readEntry, columnOf};
+ghost use Rattle.tokens.specs.Unsigned.{readDigits};
+ghost use Rattle.column_text.specs.Column.{decimals, readQ, readEntry, columnOf};
 ghost use Rattle.column_text.specs.Table.{withEntry, withLine, tableSteps};
 ghost use Rattle.column_text.specs.QLaws.{mostSteps};
 ghost use Rattle.column_text.specs.Code.{unsignedRead, entryRead, listRead, columnRead};

@@ -6,7 +6,7 @@ use Prim.Native.Nat.{ℕ}
 use lib.IntN.{ℤ}
 use Rattle.whole.specs.Table.{listed}
 use Rattle.tokens.specs.Text.{Parse, malformed, taken}
-use Rattle.sheet.specs.NumberTrip.{malformed-not-taken}
+use Rattle.tokens.specs.NumberTrip.{malformed-not-taken}
 use Rattle.sheet.specs.SheetTrip.{then-taken}
 use Rattle.params.specs.declared.Params.{Params}
 use Rattle.column_text.specs.declared.Entry.{Entry}

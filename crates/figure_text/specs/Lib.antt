@@ -1,6 +1,8 @@
 -- definitions
 pub mod FigureText
+pub mod Reading
 -- examples
 pub mod Rows
 -- laws
 pub mod FigureTextLaws
+pub mod ReadingLaws

@@ -14,7 +14,7 @@ use Rattle.tokens.specs.Number.{mostDigits, isDigit, numberText}
 use Rattle.tokens.specs.TextLaws.{takeText-split, takeText-whole}
 use Rattle.tokens.specs.DecimalLaws.{number-length}
 use Rattle.tokens.specs.Steps.{andThen, goes}
-use Rattle.sheet.specs.NumberTrip.{noDigitFirst, malformed-not-taken, number-reads, number-read}
+use Rattle.tokens.specs.NumberTrip.{noDigitFirst, malformed-not-taken, number-reads, number-read}
 use Rattle.sheet.specs.SheetTrip.{then-taken}
 use Rattle.kinds.specs.declared.Kind.{Kind}
 use Rattle.kinds.specs.declared.Kind.the-variants.{Death, CohortSurvival, PeriodSurvival, CohortExpectancy, PeriodExpectancy}

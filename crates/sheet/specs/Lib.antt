@@ -1,4 +1,3 @@
 pub mod Sheet
-pub mod NumberTrip
 pub mod SetTrip
 pub mod SheetTrip

@@ -30,7 +30,7 @@ use Rattle.sheet.specs.Sheet.{mostBytes, headBytes, forAges, ageKeys, ke
 use Rattle.sheet.specs.Sheet.{sheetText, readLine, readLines, readHead, paramsOf, readSet}
 use Rattle.sheet.specs.Sheet.{refused, judged, readSheet}
 use Rattle.params.specs.LimitsLaws.{in-limits-age, in-limits-series}
-use Rattle.sheet.specs.NumberTrip.{malformed-not-taken, number-reads, number-read}
+use Rattle.tokens.specs.NumberTrip.{malformed-not-taken, number-reads, number-read}
 use Rattle.sheet.specs.SetTrip.{keys-length, values-length, values-params, params-values}
 use Rattle.sheet.specs.SetTrip.{params-whole}
 

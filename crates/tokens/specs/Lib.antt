@@ -13,3 +13,5 @@ pub mod DecimalLaws
 pub mod NumberLaws
 pub mod ReadLaws
 pub mod RunLaws
+pub mod NumberTrip
+pub mod FixedLaws

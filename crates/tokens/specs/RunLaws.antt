@@ -74,7 +74,7 @@ module _ (cs : List ℕ) where
 -- ---- their number
 
 -- one part after the other
-value-on : (n : ℕ) (bs cs : List ℕ) → valueFrom n (bs ++ cs) ≡ valueFrom (valueFrom n bs) cs
+pub value-on : (n : ℕ) (bs cs : List ℕ) → valueFrom n (bs ++ cs) ≡ valueFrom (valueFrom n bs) cs
 unfolding valueFrom
 value-on n [] cs = refl
 value-on n (b ∷ bs) cs = value-on (n * 10 + (b - zeroDigit)) bs cs

@@ -7,8 +7,9 @@ use mathlib.Core.Logic.{⊎-elim}
 use native.Mathlib.Omega.{arith}
 use lib.ListN.{drop}
 use Rattle.tokens.specs.DigitLaws.{digit-between, digit-below, digit-above}
-use Rattle.column_text.specs.Column.{readDigits}
-use Rattle.column_text.specs.QLaws.{read-all, place-past, place-other, place-digit}
+use Rattle.tokens.specs.Unsigned.{readDigits}
+use Rattle.tokens.specs.FixedLaws.{read-all}
+use Rattle.column_text.specs.QLaws.{place-past, place-other, place-digit}
 use Rattle.column_text.proofs.DigitSteps.{Room, room-start, room-bound, room-next}
 use Rattle.column_text.proofs.digits_at.Statement.{statement}
 use Rattle.column_text.proofs.digits_at.Tie as tie

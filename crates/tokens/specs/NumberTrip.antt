@@ -14,14 +14,15 @@ use lib.Ieee.Fits.{and-i, and-l}
 use lib.IntN.{ℤ, pos, negsuc, natAbs}
 use lib.ListN.{length}
 use Rattle.whole.specs.Clash.{clash}
 use Rattle.tokens.specs.Text.{Parse, malformed, taken}
 use Rattle.tokens.specs.Number.{zeroDigit, minusSign, isDigit, digits, afterDigits, valueFrom, value}
 use Rattle.tokens.specs.Number.{noLeadingZero, wellFormed, readUnsigned, negated, positive, readNumber}
 use Rattle.tokens.specs.Number.{decimal, unsignedText, numberText}
 use Rattle.tokens.specs.DigitLaws.{digit-between, digit-bounds, digits-more, digits-end, after-more, after-end}
 use Rattle.tokens.specs.DigitLaws.{digits-split, well-bounds}
 use Rattle.tokens.specs.DecimalLaws.{decimal-last, decimal-more, by-size, unsigned-length}
 use Rattle.tokens.specs.NumberLaws.{digits-taken}
+use Rattle.tokens.specs.RunLaws.{value-on}
 
 -- the bytes do not begin with a digit
 abbrev pub noDigitFirst : List ℕ → Bool
@@ -29,7 +30,7 @@ noDigitFirst [] = true
 noDigitFirst (b ∷ bs) = not (isDigit b)
 
 -- each byte is a digit
-abbrev AllDigits : List ℕ → Type 0
+abbrev pub AllDigits : List ℕ → Type 0
 AllDigits [] = Unit
 AllDigits (d ∷ ds) = (isDigit d ≡ true) × AllDigits ds
 
@@ -59,16 +60,9 @@ front (b ∷ bs) = go (isDigit b) refl (front bs)
     go true e f = rw (digits-more b bs e, after-more b bs e) (record { all = (e, f .all); ends = f .ends })
     go false e f = rw (digits-end b bs e, after-end b bs e) (record { all = tt; ends = rw e tt })
 
--- ---- the number that digits stand for
-
-valueFrom-append : (n : ℕ) (ds es : List ℕ) → valueFrom n (ds ++ es) ≡ valueFrom (valueFrom n ds) es
-unfolding valueFrom
-valueFrom-append n [] es = refl
-valueFrom-append n (d ∷ ds) es = valueFrom-append (n * 10 + (d - zeroDigit)) ds es
-
 -- ---- decimal digits
 
-all-append : (ds es : List ℕ) → AllDigits ds → AllDigits es → AllDigits (ds ++ es)
+pub all-append : (ds es : List ℕ) → AllDigits ds → AllDigits es → AllDigits (ds ++ es)
 all-append [] es a b = b
 all-append (d ∷ ds) es a b = (a .0, all-append ds es (a .1) b)
 
@@ -89,7 +83,7 @@ unfolding decimal valueFrom
 decimal-value zero n h = omega arith
 decimal-value (suc m) n h = by-size n
     (λ k. rw (decimal-last m n k) (omega arith))
-    (λ k. rw (decimal-more m n k, valueFrom-append, decimal-value m (n / 10) (tenth m n h))
+    (λ k. rw (decimal-more m n k, value-on, decimal-value m (n / 10) (tenth m n h))
     (omega (arith, div-add-mod' n 10)))
 
 -- the first digit is not 0
@@ -169,7 +163,7 @@ value-decimal m (d ∷ e ∷ ds) a t h =
 pub malformed-not-taken : {A X : Type 0} {a : A} {rest : List ℕ} → malformed ≡ taken a rest → X
 malformed-not-taken e = clash cc
 
-unsigned-reads : (n : ℕ) (rest : List ℕ) → n < 10 ^ 15 → T (noDigitFirst rest)
+pub unsigned-reads : (n : ℕ) (rest : List ℕ) → n < 10 ^ 15 → T (noDigitFirst rest)
     → readUnsigned (unsignedText n ++ rest) ≡ taken n rest
 unfolding readUnsigned unsignedText wellFormed
 unsigned-reads n rest h t =
