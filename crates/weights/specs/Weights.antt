@@ -1,6 +1,6 @@
 -- "The weight of age y at age x is 10 + (y − 85)(x − 85), in 110ths": y from 80 to 90, x from 91 to 120.
 use Prim.Native.Nat.{ℕ, suc, _+_, _-_}
-use mathlib.Core.List.{List}
+use mathlib.Core.List.{List, [], _∷_, map}
 use lib.IntN.{ℤ, pos, _+ℤ_, _-ℤ_, _*ℤ_}
 use Rattle.whole.specs.Table.{listed}
 
@@ -35,3 +35,24 @@ weightRow x = listed (weight x) 0 fitted
 -- of all fitted ages at the ages 91 to 120
 unfoldable pub weightTable : List (List ℤ)
 weightTable = listed weightRow firstClosed closed
+
+-- ---- a table of rows against "the rule and row total"
+
+-- a row with its total beside it
+pub record Totalled : Type 0 where
+  pub row : List ℤ
+  pub total : ℤ
+
+unfoldable pub rowTotal : List ℤ → ℤ
+rowTotal [] = pos 0
+rowTotal (w ∷ ws) = w +ℤ rowTotal ws
+
+unfoldable pub beside : List ℤ → Totalled
+beside row = record { row = row; total = rowTotal row }
+
+unfoldable pub totalled : List (List ℤ) → List Totalled
+totalled rows = map beside rows
+
+-- at each of the ages 91 to 120 the rule's row, and "Each age's eleven weights total 110"
+unfoldable pub ruled : List Totalled
+ruled = listed (λ x. record { row = weightRow x; total = pos weightUnit }) firstClosed closed

@@ -1,6 +1,6 @@
 // The weights of the closure: of the fitted ages 80 to 90 at the ages 91 to 120.
 ghost use mathlib.Core.Path.{_≡_};
-ghost use Rattle.weights.specs.Weights.{weightTable};
+ghost use Rattle.weights.specs.Weights.{totalled, ruled};
 
 // Ages 80 to 90 are fitted, and ages 91 to 120 are closed.
 pub const FIRST_FITTED: usize = 80;
@@ -50,7 +50,7 @@ const WEIGHTS: [[i64; 11]; 30] = [
 
 // The whole table, for a loop over ages to take once.
 pub fn table() -> [[i64; 11]; 30]
-    ensures { λ r. ⌜ r ≡ weightTable ⌝ }
+    ensures { λ r. ⌜ totalled r ≡ ruled ⌝ }
 {
     WEIGHTS
 }

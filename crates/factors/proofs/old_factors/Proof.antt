@@ -5,7 +5,6 @@ use mathlib.Core.List.{List, []}
 use Prim.Native.Nat.{ℕ, _+_, _-_, _≤_, _<_, min}
 use native.Mathlib.Omega.{arith}
 use borrow.Author.Needs.{needs}
-use lib.IntN.{ℤ}
 use lib.ListN.{getD, set}
 use Rattle.whole.specs.Bound.{back}
 use Rattle.expo.specs.declared.Ends as code
@@ -80,9 +79,7 @@ closed : (t : tie.In-loop Inv-loop μ-loop) → (firstClosed ≤ closing t) × (
 closed t = (omega (arith, t .before .loop .inv .above), omega arith)
 
 row-is : (t : tie.In-loop Inv-loop μ-loop) → getD (tabled (t .before) .table .result) (closing t - firstClosed) [] ≡ weightRow (closing t)
-row-is t =
-    ap (λ (rows : List (List ℤ)). getD rows (closing t - firstClosed) []) (tabled (t .before) .table .ensures)
-    ∙ table-row (closed t .0) (closed t .1)
+row-is t = table-row (tabled (t .before) .table .result) (tabled (t .before) .table .ensures) (closed t .0) (closed t .1)
 
 -- the path, had it begun in year n
 abbrev from : tie.At-loop Inv-loop μ-loop → ℕ → Path

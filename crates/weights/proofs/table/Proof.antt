@@ -1,12 +1,13 @@
--- `table` meets its contract: one test, which the checker computes over the whole table, shows that it is the rule's.
+-- `table` meets its contract: one test, which the checker computes over the whole table, shows that its rows are the rule's and
+-- that each totals 110.
 use mathlib.Core.Path.{refl}
 use Rattle.whole.specs.Table.{listed}
-use Rattle.weights.specs.Weights.{weight, weightRow, weightTable}
+use Rattle.weights.specs.Weights.{weight, weightRow, rowTotal, beside, totalled, ruled}
 use Rattle.weights.proofs.table.Statement.{statement}
 use Rattle.weights.proofs.table.Tie as tie
 
 returns : tie.Need-returns
-unfolding listed weight weightRow weightTable
+unfolding listed weight weightRow rowTotal beside totalled ruled
 returns c = refl
 
 pub table-spec : {M : Type 1} → statement M
