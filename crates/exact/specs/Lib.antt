@@ -1,7 +1,7 @@
 -- definitions
 pub mod Value
 pub mod Figure
--- the papers' examples
+-- examples
 pub mod Rows
 -- laws
 pub mod ValueLaws

@@ -1,4 +1,4 @@
--- The figures of the papers' edges, and of some more, by computing the definition.
+-- The figures of some ends, by computing the definition. The papers' own rows are those of the crate `edges`.
 use mathlib.Core.Path.{_≡_, refl}
 use Prim.Native.Nat.{ℕ}
 use Rattle.exact.specs.declared.Figure.{Figure}
@@ -9,15 +9,12 @@ use Rattle.exact.specs.Figure.{probabilityStep, expectancyStep, halfUp, 
 abbrev pub Row : ℕ → ℕ → ℕ → Figure → Type 0
 Row step l u f = figureOf step (record { lower = l; upper = u }) ≡ f
 
--- 0.00002, from the first unit that rounds to it to the last; both sides of a half-edge; a half step is rounded up;
--- 0.00000; 1.00000
-pub probabilities : Row probabilityStep 15000 24999 (Printed 2)
-    × Row probabilityStep 14999 15000 Open
-    × Row probabilityStep 5000 5000 (Printed 1)
+-- a half step is rounded up; 0.00000; 1.00000
+pub probabilities : Row probabilityStep 5000 5000 (Printed 1)
     × Row probabilityStep 0 4999 (Printed 0)
     × Row probabilityStep 1000000000 1000000000 (Printed 100000)
 unfolding halfUp figureOf
-probabilities = (refl, refl, refl, refl, refl)
+probabilities = (refl, refl, refl)
 
 -- 1.2, and both sides of its lower half-edge
 pub expectancies : Row expectancyStep 1150000000 1249999999 (Printed 12)

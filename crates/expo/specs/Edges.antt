@@ -1,4 +1,5 @@
--- The table of the exponential's edges on the grid of 10^-9: at each z the two ends, by computing the definition.
+-- Edges of the exponential on the grid of 10^-9: at each z the two ends, by computing the definition. The papers' own are rows of
+-- the crate `edges`.
 use mathlib.Core.Path.{_≡_, refl}
 use Prim.Native.Nat.{ℕ}
 use Rattle.whole.specs.Division.{ceilDivℕ}
@@ -11,14 +12,8 @@ use Rattle.expo.specs.Billionths.{billionths, wholeParts}
 abbrev pub Row : ℕ → ℕ → ℕ → Type 0
 Row z l u = expBetween billionths (record { lower = z; upper = z }) ≡ record { lower = l; upper = u }
 
--- z = 0, exactly 1; one unit before the first half step, and the half step; z = 1; one unit before the cut-off; the cut-off,
--- z = 21
-pub edges : Row 0 1000000000 1000000000
-    × Row 499999999 606530653 606530665
-    × Row 500000000 606530659 606530660
-    × Row 1000000000 367879441 367879442
-    × Row 20999999999 0 2
-    × Row 21000000000 0 1
+-- one unit before the first half step, and the half step; one unit before the cut-off
+pub edges : Row 499999999 606530653 606530665 × Row 500000000 606530659 606530660 × Row 20999999999 0 2
 unfolding nextLower nextUpper termLower termUpper total evens odds sumLower sumUpper
     constantLower constantUpper expLower expUpper expBetween wholeParts double ceilDivℕ
-edges = (refl, refl, refl, refl, refl, refl)
+edges = (refl, refl, refl)

@@ -3,4 +3,3 @@ pub mod Set
 pub mod Limits
 pub mod LimitsLaws
 pub mod RefusalLaws
-pub mod Rows

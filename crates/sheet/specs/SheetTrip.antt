@@ -256,6 +256,13 @@ written-reads-back p w t =
     let h = le-leb (length (sheetText p)) mostBytes (omega (arith, sheet-length p)) in
     rw (h, set-reads p w (in-limits-small p t), is-true (inLimits p) t)
 
+-- and that of a set past a limit, its numbers as long as a sheet's, is refused
+pub written-out-of-limits : (p : Params) → Whole p → AllSmall (values p) → inLimits p ≡ false
+    → readSheet (sheetText p) ≡ refused OutOfLimits
+unfolding readSheet judged
+written-out-of-limits p w s e =
+    let h = le-leb (length (sheetText p)) mostBytes (omega (arith, sheet-length p)) in rw (h, set-reads p w s, e)
+
 -- a refused reading is not an accepted one
 refused-not-accepted : {X : Type 0} (r : Refusal) {p : Params} → 0 < refusalNumber r
     → refused r ≡ record { refusal = Accepted; set = p } → X

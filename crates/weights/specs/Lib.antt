@@ -3,5 +3,3 @@ pub mod Weights
 pub mod Totals
 -- laws
 pub mod WeightLaws
--- rows
-pub mod Rows

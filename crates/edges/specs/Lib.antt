@@ -1,0 +1,4 @@
+-- the table
+pub mod Edges
+-- that it holds
+pub mod EdgeLaws

@@ -1,0 +1,1 @@
+// The starred edges of the request as one proved table: see specs/.
