@@ -1,19 +1,37 @@
 -- What two figures of one kind say of their exact values (paper 01, "Demand 3 is one claim over any two accepted quotes of
 -- one kind").
 use mathlib.Core.Path.{_≡_}
+use mathlib.Core.Logic.{_↔_}
+use mathlib.Core.Bool.{Bool}
 use Prim.Native.Nat.{ℕ}
+use lib.Dec.{eqb}
 use lib.IntN.{ℤ}
 use Rattle.expo.specs.Billionths.{billionths}
 use Rattle.expo.specs.BillionthsFacts.{billionths-sound}
 use Rattle.params.specs.declared.Params.{Params}
 use Rattle.exact.specs.Value.{OneStep}
 use Rattle.kinds.specs.declared.Kind.{Kind}
+use Rattle.kinds.specs.declared.Kind.the-variants as kind
+use Rattle.kinds.specs.Kinds.{OneKind}
 use Rattle.quote.specs.Quote.{exactQuery, answerOf}
 use Rattle.quote.specs.Demand.{Shown, printed, markedOpen, noFigure, figureShown, step}
 use Rattle.two_quotes.specs.declared.Same.{Same}
-use Rattle.two_quotes.specs.declared.Same.the-variants.{NotPrinted, Equal, Different}
+use Rattle.two_quotes.specs.declared.Same.the-variants.{OtherKind, NotPrinted, Equal, Different}
 use Rattle.two_quotes.specs.declared.Steps.{Steps}
 use Rattle.two_quotes.specs.declared.Steps.the-variants.{None, At}
+
+-- a number for each kind, whatever the rate, and kinds compared by it
+unfoldable pub kindNumber : Kind → ℕ
+kindNumber kind.Death = 0
+kindNumber kind.CohortSurvival = 1
+kindNumber kind.PeriodSurvival = 2
+kindNumber kind.CohortExpectancy = 3
+kindNumber kind.PeriodExpectancy = 4
+kindNumber (kind.CohortAnnuity rate) = 5
+kindNumber (kind.PeriodAnnuity rate) = 6
+
+unfoldable pub oneKind : Kind → Kind → Bool
+oneKind k k′ = eqb (kindNumber k) (kindNumber k′)
 
 -- the steps of a figure that is printed
 unfoldable pub stepsShown : Shown → Steps
@@ -26,10 +44,11 @@ abbrev pub OneStepOf : Params → Kind → ℤ → ℤ → ℤ → Params → Ki
 OneStepOf p kind age year span p′ kind′ age′ year′ span′ =
     OneStep billionths billionths-sound (step kind) (exactQuery p kind age year span) (exactQuery p′ kind′ age′ year′ span′)
 
--- equal figures have exact values that round to one step, and different figures have not; and where neither is said, one of
--- the two is not printed
+-- other kinds are told exactly where the two are not one kind, rates aside; of one kind, equal figures have exact values that
+-- round to one step, and different figures have not; and where none of these is said, one of the two is not printed
 pub record Settled (p : Params) (kind : Kind) (age year span : ℤ) (p′ : Params) (kind′ : Kind) (age′ year′ span′ : ℤ) (r : Same)
     : Type 0 where
+  pub other-kind : (r ≡ OtherKind) ↔ (OneKind kind kind′ → ⊥)
   pub equal : r ≡ Equal → OneStepOf p kind age year span p′ kind′ age′ year′ span′
   pub different : r ≡ Different → OneStepOf p kind age year span p′ kind′ age′ year′ span′ → ⊥
   pub not-printed : r ≡ NotPrinted → (n n′ : ℕ) → figureShown (answerOf p kind age year span) ≡ printed n

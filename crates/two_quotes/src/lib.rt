@@ -1,16 +1,17 @@
-// Two quotes of one kind, whichever their sets, ages, years, spans and rates: whether their figures are equal, and so whether
-// their exact values round to one step. Proved from the contract of `quote_of` alone.
+// Two quotes, whichever their sets, kinds, ages, years, spans and rates: whether they are of one kind and, if so, whether their
+// figures are equal, and so whether their exact values round to one step. Proved from the contract of `quote_of` alone.
 ghost use mathlib.Core.Path.{_≡_};
 ghost use Rattle.kinds.specs.Kinds.{OneKind};
 ghost use Rattle.quote.specs.Demand.{shownOf, figureShown};
-ghost use Rattle.two_quotes.specs.Claim.{stepsShown, Settled};
+ghost use Rattle.two_quotes.specs.Claim.{kindNumber, oneKind, stepsShown, Settled};
 use exact::Figure;
 use kinds::Kind;
 use params::Params;
 use path_quotes::Answer;
 
-// Two figures compared, where both are printed.
+// Two figures compared, where they are of one kind and both are printed.
 pub enum Same {
+    OtherKind,
     NotPrinted,
     Equal,
     Different,
@@ -20,6 +21,28 @@ pub enum Same {
 enum Steps {
     None,
     At(u64),
+}
+
+// A number for each kind, whatever the rate.
+fn kind_number(kind: Kind) -> u64
+    ensures { λ r. ⌜ r ≡ kindNumber kind ⌝ }
+{
+    match kind {
+        Kind::Death => 0,
+        Kind::CohortSurvival => 1,
+        Kind::PeriodSurvival => 2,
+        Kind::CohortExpectancy => 3,
+        Kind::PeriodExpectancy => 4,
+        Kind::CohortAnnuity(_) => 5,
+        Kind::PeriodAnnuity(_) => 6,
+    }
+}
+
+// Whether two kinds are one, rates aside.
+pub fn one_kind(kind: Kind, kind2: Kind) -> bool
+    ensures { λ r. ⌜ r ≡ oneKind kind kind2 ⌝ }
+{
+    kind_number(kind) == kind_number(kind2)
 }
 
 // The steps of a figure.
@@ -44,7 +67,7 @@ fn steps_of(answer: Answer) -> Steps
 }
 
 // Compares the figures of two quotes of one kind.
-pub fn same_figures(
+fn same_printed(
     p: Params,
     kind: Kind,
     age: i64,
@@ -71,4 +94,25 @@ pub fn same_figures(
         return Same::Equal;
     }
     Same::Different
+}
+
+// Compares the figures of any two quotes.
+pub fn same_figures(
+    p: Params,
+    kind: Kind,
+    age: i64,
+    year: i64,
+    span: i64,
+    p2: Params,
+    kind2: Kind,
+    age2: i64,
+    year2: i64,
+    span2: i64,
+) -> Same
+    ensures { λ r. ⌜ Settled p kind age year span p2 kind2 age2 year2 span2 r ⌝ }
+{
+    if one_kind(kind, kind2) {
+        return same_printed(p, kind, age, year, span, p2, kind2, age2, year2, span2);
+    }
+    Same::OtherKind
 }

@@ -1,101 +1,31 @@
--- `same_figures` meets its contract, from what `quote_of` ensures of the two answers.
-use mathlib.Core.Path.{_≡_, sym, _∙_}
+-- `same_figures` meets its contract: of one kind the figures are compared, and else the kinds are told to be others.
 use borrow.Author.Needs.{needs}
+use mathlib.Core.Path.{sym, _∙_}
 use mir.Facts.{toZ-ofZ}
-use Rattle.quote.specs.Demand.{figureShown}
-use Rattle.two_quotes.specs.Claim.{stepsShown}
-use Rattle.two_quotes.specs.ClaimLaws.{Promised, first-not-printed, second-not-printed, equal-printed, different-printed}
+use Rattle.two_quotes.specs.ClaimLaws.{kinds-one, not-one-kind}
 use Rattle.two_quotes.proofs.same_figures.Statement.{statement}
 use Rattle.two_quotes.proofs.same_figures.Tie as tie
 
--- what is promised of the two answers
-first : (c : tie.After-quote-of) → let s = c .before in
-    Promised (s .args .p) (s .args .kind) (s .args .age) (s .args .year) (s .args .span) (c .quote-of .result)
-first c =
-    let f = c .before .fits in
-    rw (toZ-ofZ (f .age), toZ-ofZ (f .year), toZ-ofZ (f .span)) at (c .quote-of .ensures)
+one-kind-requires : tie.Need-one-kind-requires
+one-kind-requires c κs = search needs
 
-second : (c : tie.After-quote-of2) → let s = c .before .before .before in
-    Promised (s .args .p2) (s .args .kind2) (s .args .age2) (s .args .year2) (s .args .span2) (c .quote-of2 .result)
-second c =
-    let f = c .before .before .before .fits in
-    rw (toZ-ofZ (f .age2), toZ-ofZ (f .year2), toZ-ofZ (f .span2)) at (c .quote-of2 .ensures)
-
--- the first answer, and its steps
-abbrev asked : tie.After-steps-of2 → tie.After-quote-of
-asked c = c .before .before .before
-
-first-steps : (c : tie.After-steps-of2) → c .before .before .steps-of .result ≡ stepsShown (figureShown (asked c .quote-of .result))
-first-steps c = c .before .before .steps-of .ensures
-
--- both answers were had before the first figure was seen to be printed, and that before the second
-abbrev told : tie.After-known-told → tie.After-steps-of2
-told c = c .before .before .before
-
-abbrev both : tie.After-known-told2 → tie.After-known-told
-both c = c .before .before .before
-
-quote-of-requires : tie.Need-quote-of-requires
-quote-of-requires c κs = search needs
-
-steps-of-requires : tie.Need-steps-of-requires
-steps-of-requires c κs = search needs
-
-quote-of-requires-2 : tie.Need-quote-of-requires-2
-quote-of-requires-2 c κs = search needs
-
-steps-of-requires-2 : tie.Need-steps-of-requires-2
-steps-of-requires-2 c κs = search needs
-
-enum-known-first : tie.Need-enum-known-first
-enum-known-first c = search needs
-
-enum-told : tie.Need-enum-told
-enum-told c = search needs
+same-printed-requires : tie.Need-same-printed-requires
+same-printed-requires c κs = kinds-one _ _ (sym (c .before .one-kind .ensures) ∙ c .if1 .taken)
 
 returns : tie.Need-returns
 returns c =
-    let t = c .before .before in
-    first-not-printed (first (asked t)) (second (t .before)) (sym (first-steps t) ∙ c .enum-told .given .1)
-
-enum-known-second : tie.Need-enum-known-second
-enum-known-second c = search needs
-
-enum-told-2 : tie.Need-enum-told-2
-enum-told-2 c = search needs
+    let f = c .before .before .before .fits in
+    rw (
+      toZ-ofZ (f .age),
+      toZ-ofZ (f .year),
+      toZ-ofZ (f .span),
+      toZ-ofZ (f .age2),
+      toZ-ofZ (f .year2),
+      toZ-ofZ (f .span2),
+    ) at (c .same-printed .ensures)
 
 returns-2 : tie.Need-returns-2
-returns-2 c =
-    let t = told (c .before .before) in
-    second-not-printed (first (asked t)) (second (t .before)) (sym (t .steps-of2 .ensures) ∙ c .enum-told2 .given .1)
-
-returns-3 : tie.Need-returns-3
-returns-3 c =
-    let k = c .before in
-    let t = told (both k) in
-    equal-printed (first (asked t)) (second (t .before)) (asked t .before .pre) (sym (first-steps t) ∙ both k .before .first .given .1)
-    (sym (t .steps-of2 .ensures) ∙ k .before .second .given .1) (c .if1 .taken)
-
-returns-4 : tie.Need-returns-4
-returns-4 c =
-    let k = c .before in
-    let t = told (both k) in
-    different-printed (first (asked t)) (second (t .before)) (asked t .before .pre) (sym (first-steps t) ∙ both k .before .first .given .1)
-    (sym (t .steps-of2 .ensures) ∙ k .before .second .given .1) (c .if1 .left)
+returns-2 c = not-one-kind (sym (c .before .one-kind .ensures) ∙ c .if1 .left)
 
 pub same-figures-spec : {M : Type 1} → statement M
-same-figures-spec =
-    tie.close
-    (tie.spec
-    quote-of-requires
-    steps-of-requires
-    quote-of-requires-2
-    steps-of-requires-2
-    enum-known-first
-    enum-told
-    returns
-    enum-known-second
-    enum-told-2
-    returns-2
-    returns-3
-    returns-4)
+same-figures-spec = tie.close (tie.spec one-kind-requires same-printed-requires returns returns-2)
