@@ -486,7 +486,8 @@ def in_pieces(draw, everything):
 def closes_early(name, data, count, ignored):
     """A reader that takes some bytes of the output and closes: the program ends, whether it gets the signal or the error."""
     process = subprocess.Popen(
-        [programs.path(name)], stdin=subprocess.PIPE, stdout=subprocess.PIPE, bufsize=0, restore_signals=not ignored
+        [programs.path(name)], stdin=subprocess.PIPE, stdout=subprocess.PIPE, stderr=subprocess.DEVNULL, bufsize=0,
+        restore_signals=not ignored,
     )
     got = b""
     if count == 0:
@@ -517,7 +518,9 @@ def outcome(process, feeder, what, right):
 def full_device(name, data):
     """An output that takes no byte: the program ends."""
     with open("/dev/full", "wb") as full:
-        process = subprocess.Popen([programs.path(name)], stdin=subprocess.PIPE, stdout=full, bufsize=0)
+        process = subprocess.Popen(
+            [programs.path(name)], stdin=subprocess.PIPE, stdout=full, stderr=subprocess.DEVNULL, bufsize=0
+        )
     feeder = threading.Thread(target=feed, args=(process, data, [len(data)], 0))
     feeder.start()
     return outcome(process, feeder, f"{name}, a full device", True)

@@ -5,7 +5,7 @@ use Prim.Native.Nat.{ℕ, _+_, _*_, _≤_, _<_}
 use native.Mathlib.Omega.{arith}
 use lib.ListN.{length, length-append}
 use Rattle.tokens.specs.Text.{Parse, malformed, taken}
-use Rattle.pieces.specs.Pieces.{Bounded}
+use Rattle.answers.specs.Answers.{Bounded}
 use Rattle.params.specs.declared.Params.{Params}
 use Rattle.params.specs.declared.Refusal.the-variants.{Malformed}
 use Rattle.kinds.specs.Kinds.{ruleOf, decimalsOf}

@@ -12,7 +12,7 @@ use Rattle.params.specs.Refusals.{refusalNumber}
 use Rattle.sheet.specs.declared.Reading.{Reading}
 use Rattle.sheet.specs.Sheet.{mostBytes}
 use Rattle.lines.specs.Lines.{lines}
-use Rattle.pieces.specs.Pieces.{answersTo}
+use Rattle.answers.specs.Answers.{answersTo}
 use Rattle.answer_text.specs.AnswerText.{refusalLine}
 use Rattle.compare_line.specs.CompareLine.{compareLine}
 use Rattle.two_sheets.specs.TwoSheets.{firstSheet, secondSheet, afterSheets}

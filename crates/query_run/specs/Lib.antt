@@ -2,4 +2,4 @@
 pub mod QueryRun
 -- laws
 pub mod Sheets
-pub mod Answers
+pub mod RunLaws

@@ -3,13 +3,13 @@ use mathlib.Core.Bool.{Bool, cond}
 use mathlib.Core.List.{List}
 use Prim.Native.Nat.{ℕ, _+_, _*_}
 use lib.Dec.{eqb, leb}
-use lib.ListN.{length, drop}
+use lib.ListN.{length}
 use Rattle.params.specs.declared.Refusal.the-variants.{Malformed}
 use Rattle.params.specs.Refusals.{refusalNumber}
 use Rattle.sheet.specs.declared.Reading.{Reading}
 use Rattle.sheet.specs.Sheet.{mostBytes, refused, readSheet}
 use Rattle.lines.specs.Lines.{firstLines, afterLines, lines}
-use Rattle.pieces.specs.Pieces.{answersTo}
+use Rattle.answers.specs.Answers.{answersTo}
 use Rattle.answer_text.specs.AnswerText.{refusalLine}
 use Rattle.line_answer.specs.Line.{lineAnswer, mostLine}
 
@@ -25,10 +25,6 @@ inputSheet input = cond (leb (length input) mostBytes) (readSheet (firstLines sh
 unfoldable pub outputOf : Bool → Reading → List ℕ → List ℕ
 outputOf ends sheet rest =
     cond (eqb (refusalNumber (sheet .refusal)) 0) (answersTo (lineAnswer ends (sheet .set)) (lines rest)) (refusalLine (sheet .refusal))
-
--- the same, of the bytes from a place on
-abbrev pub outputFrom : Bool → Reading → List ℕ → ℕ → List ℕ
-outputFrom ends sheet input at = outputOf ends sheet (drop at input)
 
 -- the whole run: every line after the sheet is a query, also what follows the last line feed
 unfoldable pub runOf : Bool → List ℕ → List ℕ

@@ -4,8 +4,8 @@ use mathlib.Core.Bool.{Bool, true, false, cond}
 use mathlib.Core.List.{List}
 use Prim.Native.Nat.{ℕ, _-_, _≤_}
 use native.Mathlib.Omega.{arith}
-use borrow.Author.Tests.{eq-eqb, ne-eqb, leb-true}
-use lib.Dec.{eqb, leb}
+use borrow.Author.Tests.{eq-eqb, ne-eqb}
+use lib.Dec.{eqb}
 use lib.IntN.{ℤ}
 use lib.ListN.{length, take, drop, length-drop}
 use lib.Seq.{take-all}
@@ -13,12 +13,10 @@ use Rattle.tokens.specs.Text.{Parse, malformed, taken}
 use Rattle.params.specs.declared.Refusal.the-variants.{Malformed}
 use Rattle.params.specs.Refusals.{refusalNumber}
 use Rattle.sheet.specs.declared.Reading.{Reading}
-use Rattle.sheet.specs.declared.Written.{Written}
 use Rattle.lines.specs.Lines.{firstLines}
 use Rattle.lines.specs.LineLaws.{lines-drop}
 use Rattle.answer_text.specs.AnswerText.{refusalLine}
 use Rattle.answer_text.specs.Lengths.{refusal-length}
-use Rattle.line_answer.specs.Into.{textAnswer}
 use Rattle.query_run.specs.QueryRun.{sheetLines, inputSheet}
 use Rattle.column_verdicts.specs.ColumnVerdict.{columnVerdict}
 use Rattle.verdict_text.specs.VerdictText.{verdictLine, mostVerdict}
@@ -72,12 +70,3 @@ run-most input = go (inputYear input) refl
     go : (q : Parse ℤ) → inputYear input ≡ q → length (verdictRun input) ≤ mostVerdict
     go malformed e = rw (run-malformed input e) (omega (arith, refusal-length Malformed))
     go (taken year column) e = rw (run-by input e refl) (by-most (inputSheet input) year column)
-
--- what a call says that it wrote is within the buffer
-pub run-fits : (input : List ℕ) (room : ℕ) {r : Written} → r ≡ textAnswer mostVerdict (verdictRun input) room → r .len ≤ room
-unfolding textAnswer
-run-fits input room {r} e = go (leb mostVerdict room) refl (ap (λ (w : Written). w .len) e)
-  where
-    go : (b : Bool) → leb mostVerdict room ≡ b → r .len ≡ cond b (length (verdictRun input)) 0 → r .len ≤ room
-    go true l f = omega (arith, f, leb-true mostVerdict room l, run-most input)
-    go false l f = omega (arith, f)

@@ -28,8 +28,8 @@ fn year_at(bytes: &[u8], at: usize) -> NumberRead
     NumberRead::Number(year, after + 1)
 }
 
-// Writes the one line of an input; the place after it.
-fn put_run(input: &[u8], out: &mut [u8]) -> usize
+// Writes the one line of an input into a buffer that has room for any; the place after it.
+pub fn put_run(input: &[u8], out: &mut [u8]) -> usize
     requires { ⌜ mostVerdict ≤ length (now out) ⌝ }
     ensures { λ r. ⌜ Put (now (out .entry)) 0 (verdictRun (now (input .entry))) (now (out .exit)) r ⌝ }
 {

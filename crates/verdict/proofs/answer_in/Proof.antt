@@ -1,59 +1,48 @@
--- `answer_in` is safe: the line that is printed stands within the buffer.
+-- `answer_in` is safe: what is printed stands within the buffer.
 use borrow.Author.Needs.{needs}
-use mathlib.Core.Path.{sym}
+use mathlib.Core.Path.{sym, subst}
 use Prim.Native.Nat.{_≤_}
-use native.Mathlib.Omega.{arith}
 use lib.ListN.{length}
 use lib.Seq.{length-take-le}
-use Rattle.verdict_run.specs.RunLaws.{run-fits}
+use Rattle.answers.specs.AnswerLaws.{front-within}
+use Rattle.streams.specs.Streams.{ReadIn}
 use Rattle.verdict.proofs.answer_in.Statement.{statement}
 use Rattle.verdict.proofs.answer_in.Tie as tie
 
--- the buffer has the line
-has-line : (c : tie.After-run) → c .run .result .len ≤ length (c .run .last .1 .0)
-has-line c = omega (arith, c .run .kept .1 .0, run-fits _ _ (c .run .ensures .0))
+abbrev read : tie.After-len → tie.After-read-all
+read c = c .before .before .before .before
 
-read-full-requires : tie.Need-read-full-requires
-read-full-requires c κs = search needs
+-- what was read stands within the bytes
+within : (c : tie.After-len) → c .len .given .0 .0 ≤ length (read c .read-all .last .0)
+within c = subst (ReadIn _) (c .len .given .1) (read c .read-all .ensures)
 
-slice-reshare-prefix-run : tie.Need-slice-reshare-prefix-run
-slice-reshare-prefix-run c = search needs
+slice-reshare-prefix-put-run : tie.Need-slice-reshare-prefix-put-run
+slice-reshare-prefix-put-run c = within (c .before)
 
-slice-aggregate-run : tie.Need-slice-aggregate-run
-slice-aggregate-run c = search needs
-
-run-requires : tie.Need-run-requires
-run-requires c κs = search needs
+slice-aggregate-put-run : tie.Need-slice-aggregate-put-run
+slice-aggregate-put-run c = sym (length-take-le _ _ (within (c .before .before)))
 
 slice-reshare-prefix-write-all : tie.Need-slice-reshare-prefix-write-all
-slice-reshare-prefix-write-all c = has-line (c .before .before)
+slice-reshare-prefix-write-all c = front-within (c .before .before .put-run .ensures)
 
 slice-aggregate-write-all : tie.Need-slice-aggregate-write-all
-slice-aggregate-write-all c = sym (length-take-le _ _ (has-line (c .before .before .before)))
-
-write-all-requires : tie.Need-write-all-requires
-write-all-requires c κs = search needs
-
-same-length : tie.Need-same-length
-same-length c = search needs
-
-same-length-2 : tie.Need-same-length-2
-same-length-2 c = search needs
-
-returns : tie.Need-returns
-returns c = search needs
+slice-aggregate-write-all c = sym (length-take-le _ _ (front-within (c .before .before .before .put-run .ensures)))
 
 pub answer-in-spec : {M : Type 1} → statement M
 answer-in-spec =
     tie.close
     (tie.spec
-    read-full-requires
-    slice-reshare-prefix-run
-    slice-aggregate-run
-    run-requires
+    (λ c κs. search needs)
+    (λ c. search needs)
+    (λ c. search needs)
+    (λ c. search needs)
+    (λ c. search needs)
+    slice-reshare-prefix-put-run
+    slice-aggregate-put-run
+    (λ c κs. search needs)
     slice-reshare-prefix-write-all
     slice-aggregate-write-all
-    write-all-requires
-    same-length
-    same-length-2
-    returns)
+    (λ c κs. search needs)
+    (λ c. search needs)
+    (λ c. search needs)
+    (λ c. search needs))

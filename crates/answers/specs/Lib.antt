@@ -1,0 +1,4 @@
+-- definitions
+pub mod Answers
+-- laws
+pub mod AnswerLaws

@@ -1,4 +1,0 @@
--- definitions
-pub mod Pieces
--- laws
-pub mod PieceLaws
