@@ -99,9 +99,11 @@ returns-3 c =
 put-answers-requires : tie.Need-put-answers-requires
 put-answers-requires c κs =
     let e = c .before .before .before in
-    let w = tried (both e) in (
-      subst ReadWell (sym (sheets w .0)) (first-well (input w)) (first-accepted (both e)),
-      subst ReadWell (sym (sheets w .1)) (second-well (input w)) (second-accepted e),
+    let w = tried (both e) in
+    let first = subst ReadWell (sym (sheets w .0)) (first-well (input w)) (first-accepted (both e)) in
+    let second = subst ReadWell (sym (sheets w .1)) (second-well (input w)) (second-accepted e) in (
+      search (first, second),
+      search (first, second),
       omega (arith, w .read-two .ensures .2, end-within (input w)),
       start w .pre,
     )
