@@ -7,17 +7,14 @@ use lib.ListN.{length}
 use Rattle.params.specs.declared.Refusal.the-variants.{Malformed}
 use Rattle.params.specs.Refusals.{refusalNumber}
 use Rattle.sheet.specs.declared.Reading.{Reading}
-use Rattle.sheet.specs.Sheet.{mostBytes, refused, readSheet}
+use Rattle.sheet.specs.Sheet.{mostBytes, refused, readSheet, sheetLines}
 use Rattle.lines.specs.Lines.{firstLines, afterLines, lines}
 use Rattle.answers.specs.Answers.{answersTo}
 use Rattle.answer_text.specs.AnswerText.{refusalLine}
 use Rattle.line_answer.specs.Line.{lineAnswer, mostLine}
 
--- "The sheet is the first 370 lines; fewer are a torn sheet": a reading of fewer is malformed
-abbrev pub sheetLines : ℕ
-sheetLines = 370
-
--- the sheet of an input, and "input past 65,536 bytes" as a malformed one
+-- "The sheet is the first 370 lines; fewer are a torn sheet": a reading of fewer is malformed, and so is "input past 65,536
+-- bytes"
 unfoldable pub inputSheet : List ℕ → Reading
 inputSheet input = cond (leb (length input) mostBytes) (readSheet (firstLines sheetLines input)) (refused Malformed)
 

@@ -14,7 +14,8 @@ use Rattle.answer_text.specs.AnswerText.{refusalLine}
 use Rattle.line_answer.specs.Line.{lineAnswer, mostLine}
 use Rattle.line_answer.specs.LineLaws.{answer-most, answer-fivefold}
 use Rattle.answers.specs.Answers.{answersFrom, Bounded}
-use Rattle.query_run.specs.QueryRun.{sheetLines, inputSheet, outputOf, runOf}
+use Rattle.sheet.specs.Sheet.{sheetLines}
+use Rattle.query_run.specs.QueryRun.{inputSheet, outputOf, runOf}
 
 pub answers-bounded : (ends : Bool) (p : Params) → Bounded mostLine (lineAnswer ends p)
 answers-bounded ends p = record { most = answer-most ends p; fivefold = answer-fivefold ends p }

@@ -12,9 +12,9 @@ use Rattle.params.specs.declared.Refusal.the-variants.{Accepted, Malformed, Out
 use Rattle.params.specs.Refusals.{refusalNumber}
 use Rattle.params.specs.Limits.{inLimits}
 use Rattle.sheet.specs.declared.Reading.{Reading}
-use Rattle.sheet.specs.Sheet.{mostBytes, refused, readSet, judged, readSheet}
+use Rattle.sheet.specs.Sheet.{mostBytes, refused, readSet, judged, readSheet, sheetLines}
 use Rattle.lines.specs.Lines.{firstLines}
-use Rattle.query_run.specs.QueryRun.{sheetLines, inputSheet}
+use Rattle.query_run.specs.QueryRun.{inputSheet}
 
 -- ---- definition
 

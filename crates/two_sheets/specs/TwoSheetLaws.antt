@@ -6,10 +6,9 @@ use native.Mathlib.Omega.{arith}
 use lib.ListN.{length, take, drop, length-drop}
 use lib.Seq.{drop-drop, take-all}
 use Rattle.sheet.specs.declared.Reading.{Reading}
-use Rattle.sheet.specs.Sheet.{readSheet}
+use Rattle.sheet.specs.Sheet.{readSheet, sheetLines}
 use Rattle.lines.specs.Lines.{firstLines, afterLines}
 use Rattle.lines.specs.LineLaws.{lines-drop, lines-within}
-use Rattle.query_run.specs.QueryRun.{sheetLines}
 use Rattle.query_run.specs.Sheets.{ReadWell, read-well}
 use Rattle.two_sheets.specs.TwoSheets.{firstSheet, secondSheet, afterSheets}
 

@@ -2,9 +2,8 @@
 use mathlib.Core.List.{List}
 use Prim.Native.Nat.{ℕ}
 use Rattle.sheet.specs.declared.Reading.{Reading}
-use Rattle.sheet.specs.Sheet.{readSheet}
+use Rattle.sheet.specs.Sheet.{readSheet, sheetLines}
 use Rattle.lines.specs.Lines.{firstLines, afterLines}
-use Rattle.query_run.specs.QueryRun.{sheetLines}
 
 unfoldable pub firstSheet : List ℕ → Reading
 firstSheet input = readSheet (firstLines sheetLines input)

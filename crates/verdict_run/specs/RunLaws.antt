@@ -17,7 +17,8 @@ use Rattle.lines.specs.Lines.{firstLines}
 use Rattle.lines.specs.LineLaws.{lines-drop}
 use Rattle.answer_text.specs.AnswerText.{refusalLine}
 use Rattle.answer_text.specs.Lengths.{refusal-length}
-use Rattle.query_run.specs.QueryRun.{sheetLines, inputSheet}
+use Rattle.sheet.specs.Sheet.{sheetLines}
+use Rattle.query_run.specs.QueryRun.{inputSheet}
 use Rattle.column_verdicts.specs.ColumnVerdict.{columnVerdict}
 use Rattle.verdict_text.specs.VerdictText.{verdictLine, mostVerdict}
 use Rattle.verdict_text.specs.Lengths.{line-most}

@@ -9,10 +9,10 @@ use Rattle.tokens.specs.Text.{bytesOf, Parse, malformed, taken}
 use Rattle.params.specs.declared.Refusal.the-variants.{Malformed}
 use Rattle.params.specs.Refusals.{refusalNumber}
 use Rattle.sheet.specs.declared.Reading.{Reading}
-use Rattle.sheet.specs.Sheet.{readLine}
+use Rattle.sheet.specs.Sheet.{readLine, sheetLines}
 use Rattle.lines.specs.Lines.{afterLines}
 use Rattle.answer_text.specs.AnswerText.{refusalLine}
-use Rattle.query_run.specs.QueryRun.{sheetLines, inputSheet}
+use Rattle.query_run.specs.QueryRun.{inputSheet}
 use Rattle.column_verdicts.specs.ColumnVerdict.{columnVerdict}
 use Rattle.verdict_text.specs.VerdictText.{verdictLine}
 

@@ -10,9 +10,9 @@ use Rattle.params.specs.declared.Params.{Params}
 use Rattle.params.specs.declared.Refusal.the-variants.{Malformed}
 use Rattle.params.specs.Set.{blank}
 use Rattle.sheet.specs.declared.Reading.{Reading}
-use Rattle.sheet.specs.Sheet.{mostBytes, refused, readSheet}
+use Rattle.sheet.specs.Sheet.{mostBytes, refused, readSheet, sheetLines}
 use Rattle.lines.specs.Lines.{firstLines}
-use Rattle.query_run.specs.QueryRun.{sheetLines, inputSheet}
+use Rattle.query_run.specs.QueryRun.{inputSheet}
 use Rattle.query_run.proofs.begin.Statement.{statement}
 use Rattle.query_run.proofs.begin.Tie as tie
 

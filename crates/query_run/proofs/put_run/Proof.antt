@@ -6,10 +6,10 @@ use Rattle.printing.specs.PutLaws.{put-as}
 use Rattle.params.specs.Refusals.{refusalNumber}
 use Rattle.lines.specs.LineLaws.{lines-within}
 use Rattle.answer_text.specs.Lengths.{refusal-length}
-use Rattle.query_run.specs.QueryRun.{sheetLines}
 use Rattle.query_run.specs.Sheets.{ReadWell, sheet-well}
 use Rattle.query_run.specs.RunLaws.{run-refused, run-answered}
 use Rattle.query_run.proofs.put_run.Statement.{statement}
+use Rattle.sheet.specs.Sheet.{sheetLines}
 use Rattle.query_run.proofs.put_run.Tie as tie
 
 -- ---- the place before, seen from the test

@@ -5,8 +5,8 @@ use Prim.Native.Nat.{ℕ, _+_, _-_, _≤_}
 use native.Mathlib.Omega.{arith}
 use lib.ListN.{length, take, drop}
 use Rattle.lines.specs.Lines.{afterLines}
+use Rattle.sheet.specs.Sheet.{sheetLines}
 use Rattle.lines.specs.LineLaws.{lines-within}
-use Rattle.query_run.specs.QueryRun.{sheetLines}
 use Rattle.two_sheets.specs.TwoSheetLaws.{sheetsEnd, end-within, rest-after, reads-first, reads-second, ends-both}
 use borrow.Author.Needs.{needs}
 use Rattle.two_sheets.proofs.read_two.Statement.{statement}
