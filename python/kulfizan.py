@@ -16,7 +16,7 @@ import pathlib
 
 SET_LENGTH = 369
 QUOTE_LENGTH = 4
-LONGEST_SHEET = 65_536
+LONGEST_SHEET = 8_483
 LEAST, GREATEST = -(2**63), 2**63 - 1
 
 REFUSALS = {
@@ -133,6 +133,6 @@ def verdict(sheet, year, column):
 
 
 def run(data, ends=False):
-    """The whole run of the desk: a sheet and then query lines, as bytes, to what the program `quotes` prints, or `ends`."""
+    """The whole run of an input: a sheet and then query lines, as bytes, to what the program `quotes` prints, or `ends`."""
     data = bytes(data)
     return written(LIBRARY.kulfizan_run, data, len(data), bool(ends), room=5 * len(data) + 161)

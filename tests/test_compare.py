@@ -1,4 +1,4 @@
-"""The whole run of `compare`, byte for byte, against the second implementation in desk.py; and what it says of two values,
+"""The whole run of `compare`, byte for byte, against the second implementation in whole_run.py; and what it says of two values,
 against the exact values to 80 digits.
 
 It runs the program on some thousand inputs: two sheets that are whole, torn or off scale, the first, the second or both; too
@@ -14,7 +14,7 @@ import random
 import re
 import sys
 
-import desk
+import whole_run
 import programs
 import sheets
 from grid import HIGHEST, flat
@@ -134,7 +134,7 @@ def line_feeds(ready):
 def cut_sheets(draw, ready):
     """The first lines of two sheets and then queries or none; a line doubled, left out, exchanged; sheets in other places."""
     (first, lines), (second, _) = ready[2], ready[1]
-    parts, count = desk.lines_in(first + second), desk.SHEET_LINES
+    parts, count = whole_run.lines_in(first + second), whole_run.SHEET_LINES
     close = [*range(3), *range(count - 3, count + 4), *range(2 * count - 4, 2 * count + 1)]
     for at in close + draw.sample(range(2 * count), 50):
         yield Input(f"{at} lines of two sheets", b"".join(parts[:at]))
@@ -335,8 +335,8 @@ def word_of(line):
 def false_words(kind, figures, word, least, most, one, other):
     """What a line says that is not true of the two exact values, which are in units."""
     for shown, value in zip(figures, (one, other)):
-        if shown != OPEN and shown != desk.figure_text(rounded(value, kind), kind):
-            yield f"the exact value {value:.20f} rounds to {desk.figure_text(rounded(value, kind), kind)}"
+        if shown != OPEN and shown != whole_run.figure_text(rounded(value, kind), kind):
+            yield f"the exact value {value:.20f} rounds to {whole_run.figure_text(rounded(value, kind), kind)}"
     over = {"below": other - one, "above": one - other, "near": abs(one - other)}[word]
     if not least <= over <= most:
         yield f"the exact values are {one:.20f} and {other:.20f}"
@@ -347,10 +347,10 @@ def told(pair):
     lines were held against the exact values."""
     data = text_of(pair)
     status, out = programs.run("compare", data)
-    want = desk.compare(data)
+    want = whole_run.compare(data)
     wrong, counts, checks = [complaint(pair.name, "compare", want, status, out)], collections.Counter(), 0
     tally(pair, want, counts)
-    given = [desk.desk_of(sheet).quotes for sheet in (pair.first, pair.second)]
+    given = [whole_run.sheet_of(sheet).quotes for sheet in (pair.first, pair.second)]
     for query, line in zip(pair.queries, out.splitlines()):
         got = COMPARED.fullmatch(line)
         if not got or any(one.refusal(*query) for one in given):
@@ -425,11 +425,11 @@ def other_ends(everything):
 def run_jobs(draw, everything, counts):
     """The whole runs, against the second implementation or against fixed lines: jobs to be called."""
     for one in everything:
-        want = desk.compare(one.data)
+        want = whole_run.compare(one.data)
         tally(None, want, counts)
         yield compared, "compare", one, want
     for one, want in fixed_runs():
-        yield complaint, one.name, "desk.py", want, 0, desk.compare(one.data)
+        yield complaint, one.name, "whole_run.py", want, 0, whole_run.compare(one.data)
     yield from in_pieces(draw, everything)
     yield from other_ends(everything)
 

@@ -18,7 +18,7 @@ from decimal import Decimal
 
 import programs
 import sheets
-from desk import figure_text
+from whole_run import figure_text
 from grid import HIGHEST, LOWEST, RATE, START, UNIT, down, flat, kappas, log_force, up
 from quotes import ANNUITIES, CLOSURE, COHORT, EXPECTANCIES, FIRST_YEAR, KINDS, LAST_CELL, LAST_FITTED, LAST_YEAR, MOST_RATE
 from quotes import OLDEST, OPEN, RATE_UNIT, STEEP, SURVIVALS, TENTHS, UNRATED, GridCells, Quotes, figure, grid_ends, path

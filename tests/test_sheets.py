@@ -13,8 +13,8 @@ import re
 import sys
 import time
 
-import face
-from face import GREATEST, LEAST, SET_LENGTH
+import c_interface
+from c_interface import GREATEST, LEAST, SET_LENGTH
 from grid import flat
 from reader import ACCEPTED, KEYS, LIMITS, LONGEST, OFF_SCALE, SHORT, SIZES, TORN, YEARS
 from reader import Set, in_limits, lines_of, numbers_of, read, sheet_of, text, write
@@ -385,7 +385,7 @@ def compare_reading(count, library, name, data, places, meant=None):
     if not no and places < SET_LENGTH:
         no = SHORT
     after = before if no else numbers_in(which) + before[SET_LENGTH:]
-    got = face.read(library, data, before)
+    got = c_interface.read(library, data, before)
     count.take(got == (no, after), f"{name}, {places} places: read as {got[0]} and not {no}, or other numbers")
 
 
@@ -409,29 +409,29 @@ def compare_fenced(count, library, fence, name, data, behind):
     no, which = read(data)
     before = list(range(SET_LENGTH))
     after = before if no else numbers_in(which)
-    values = face.held("q", before)
+    values = c_interface.held("q", before)
     address = ctypes.c_char_p(fence.put(data + behind))
-    got = library.kulfizan_read(address, len(data), values, SET_LENGTH), face.kept(values, before)
+    got = library.kulfizan_read(address, len(data), values, SET_LENGTH), c_interface.kept(values, before)
     count.take(got == (no, after), f"{name}: read as {got[0]} and not {no}, or other numbers")
 
 
 def compare_writing(count, library, name, which, room):
     no, length, buffer = write(which, FILL * room)
-    got = face.write(library, numbers_in(which), FILL * room, UNTOLD)
+    got = c_interface.write(library, numbers_in(which), FILL * room, UNTOLD)
     good = got == (no, UNTOLD if no else length, buffer)
     count.take(good, f"{name}, room {room}: written as {got[:2]} and not {no, length}, or other bytes")
 
 
 def compare_none(count, library, name, numbers):
     for room in (0, LARGEST_ROOM):
-        got = face.write(library, numbers, FILL * room, UNTOLD)
+        got = c_interface.write(library, numbers, FILL * room, UNTOLD)
         count.take(got == (TORN, UNTOLD, FILL * room), f"{name}, room {room}: written as {got[:2]}")
 
 
 def main():
     seed = int(sys.argv[1]) if len(sys.argv) > 1 else time.time_ns() % 10**9
     print(f"seed {seed}")
-    count, draw, module = face.Count(), random.Random(seed), face.built()
+    count, draw, module = c_interface.Count(), random.Random(seed), c_interface.built()
     count.take(module is not None, "the library is not built")
     if module:
         for name, data in sheets(draw):

@@ -1,7 +1,7 @@
 """What the programs do with their streams: outputs several times as long as the longest input, slow pipes, and reads and writes
 that fail, are interrupted or move few bytes.
 
-Every output is held against the second implementation in desk.py, byte for byte, and so is what stands on standard error:
+Every output is held against the second implementation in whole_run.py, byte for byte, and so is what stands on standard error:
 nothing after a whole run, and one line where a read or a write failed. `faults.c` is preloaded to make single calls fail.
 """
 import errno
@@ -15,7 +15,7 @@ import tempfile
 import threading
 import time
 
-import desk
+import whole_run
 import programs
 import sheets
 from grid import flat
@@ -81,7 +81,7 @@ def long_runs():
     for name in ("quotes", "ends", "compare"):
         for make, size in itertools.product((line_feeds, mixed), (LONGEST - 1, LONGEST)):
             data = make(name, size)
-            want, queries = desk.PROGRAMS[name](data), len(desk.lines_in(data)) - len(desk.lines_in(head_of(name)))
+            want, queries = whole_run.PROGRAMS[name](data), len(whole_run.lines_in(data)) - len(whole_run.lines_in(head_of(name)))
             what, lines = f"{name}, {make.__name__}, {size} bytes", want.count(b"\n")
             yield complaint(what, want, run(name, input=data), None)
             yield None if len(want) > 3 * LONGEST else f"{what}: the output has {len(want)} bytes only"
@@ -99,7 +99,7 @@ def trickle(end, data, size, pause):
 
 
 def slow_pipes():
-    for name, size in itertools.product(desk.PROGRAMS, (1, 3, 700)):
+    for name, size in itertools.product(whole_run.PROGRAMS, (1, 3, 700)):
         data = short_run(name)
         out, end = os.pipe()
         feeder = threading.Thread(target=trickle, args=(end, data, size, 0.0001 if size < 10 else 0.01))
@@ -107,13 +107,13 @@ def slow_pipes():
         done = run(name, stdin=out)
         os.close(out)
         feeder.join()
-        yield complaint(f"{name}, {size} bytes at a time", desk.PROGRAMS[name](data), done, None)
+        yield complaint(f"{name}, {size} bytes at a time", whole_run.PROGRAMS[name](data), done, None)
 
 
 # ---- streams that fail
 
 def failing():
-    for name in desk.PROGRAMS:
+    for name in whole_run.PROGRAMS:
         data = short_run(name)
         with open("/dev/full", "wb") as full:
             yield complaint(f"{name}, a full device", b"", run(name, input=data, stdout=full), (WRITE, errno.ENOSPC))
@@ -133,7 +133,7 @@ def heads():
         data = head_of(name) + QUERIES[0] + line_feeds(name, LONGEST)[len(head_of(name)) + len(QUERIES[0]) :]
         done = subprocess.run(["sh", "-c", '"$0" | head -n 1', programs.path(name)], input=data, check=False, timeout=PATIENCE,
                               stdout=subprocess.PIPE, stderr=subprocess.PIPE)
-        first = desk.PROGRAMS[name](data).partition(b"\n")[0] + b"\n"
+        first = whole_run.PROGRAMS[name](data).partition(b"\n")[0] + b"\n"
         yield complaint(f"{name}, into head", first, done, None)
 
 
@@ -172,9 +172,9 @@ WRITE_FAULTS = {
 
 
 def faulty(library):
-    for name in desk.PROGRAMS:
+    for name in whole_run.PROGRAMS:
         data = short_run(name)
-        want = desk.PROGRAMS[name](data)
+        want = whole_run.PROGRAMS[name](data)
         for faults, error in READ_FAULTS.items():
             env = os.environ | {"LD_PRELOAD": str(library), "READ_FAULTS": faults}
             told = (READ, error) if error else None
@@ -190,7 +190,7 @@ def faulty(library):
 
 
 def main():
-    gone = programs.missing(*desk.PROGRAMS)
+    gone = programs.missing(*whole_run.PROGRAMS)
     if gone:
         print(gone)
         return 1

@@ -1,5 +1,5 @@
 """The verdict on a published column: the program `verdict`, byte for byte, and the library's call, from C and from Python,
-against the second implementation in columns.py and desk.py; and what is said of a column, against the exact values to 80
+against the second implementation in columns.py and whole_run.py; and what is said of a column, against the exact values to 80
 digits.
 
 Columns are of flat, realistic, extreme and steep sheets, some searched for open ages: right ones in many orders, one digit
@@ -14,12 +14,12 @@ import itertools
 import random
 import sys
 
-import desk
-import face
+import whole_run
+import c_interface
 import programs
 import sheets
 from columns import AGES, RIGHT, TORN_COLUMN, VERDICTS, WRONG, columns_of, entries_of
-from face import GREATEST, LEAST
+from c_interface import GREATEST, LEAST
 from grid import HIGHEST, LOWEST, flat
 from quotes import FIRST_YEAR, LAST_CELL, LAST_FITTED, LAST_YEAR, NO_YEAR, OFF_SCALE, OLDEST, OPEN, STEEP, Quotes, rounded, step
 from reader import LONGEST, NUMBER, SIZES, TORN
@@ -408,8 +408,8 @@ def torn_years(draw):
 def sheet_lines(draw, every):
     """A sheet with a line left out, doubled, exchanged or damaged, off scale, in another place, or not there."""
     one = draw.choice(every)
-    rest, parts = b"year=%d\n" % one.year + text_of(enumerate(one.steps)), desk.lines_in(one.sheet)
-    for i in draw.sample(range(desk.SHEET_LINES), 25) + [0, 1, 368, 369]:
+    rest, parts = b"year=%d\n" % one.year + text_of(enumerate(one.steps)), whole_run.lines_in(one.sheet)
+    for i in draw.sample(range(whole_run.SHEET_LINES), 25) + [0, 1, 368, 369]:
         before, after = b"".join(parts[:i]), b"".join(parts[i + 1 :])
         yield Input(f"{i} lines of a sheet", before + rest), b"no=1\n"
         yield Input(f"line {i} doubled", before + parts[i] * 2 + after + rest), b"no=1\n"
@@ -488,7 +488,7 @@ def run_case(case):
     one = input_of(case)
     status, out = programs.run("verdict", one.data)
     said = out.decode(errors="replace").rstrip("\n").rpartition("verdict=")[2]
-    return complaint(one.name, "verdict", desk.verdict(one.data), status, out) or untrue(case, said)
+    return complaint(one.name, "verdict", whole_run.verdict(one.data), status, out) or untrue(case, said)
 
 
 def known_case(case):
@@ -531,10 +531,10 @@ def jobs(draw, every_case, others):
         if case.known is not None:
             yield known_case, case
     for one, known_output in others:
-        want = desk.verdict(one.data)
+        want = whole_run.verdict(one.data)
         yield compared, "verdict", one, want
         if known_output is not None:
-            yield complaint, one.name, "desk.py", known_output, 0, want
+            yield complaint, one.name, "whole_run.py", known_output, 0, want
     everything = [input_of(case) for case in every_case[::20]] + [one for one, _ in others]
     yield from in_pieces(draw, everything)
     yield from other_ends(everything)
@@ -568,7 +568,7 @@ def compare_calls(count, draw, module, every_case):
         count.take(case.known in (None, said), f"columns.py, {case.name}: {said}, not {case.known}")
         before = draw.choice((0, 1, 2, draw.getrandbits(64), 2**64 - 1))
         wanted = (0, VERDICTS.index(said)) if said in VERDICTS else (said, before)
-        got = face.verdict(module.LIBRARY, *given, before)
+        got = c_interface.verdict(module.LIBRARY, *given, before)
         count.take(got == wanted, f"kulfizan_verdict, {case.name}: {got}, not {wanted}")
         got = answered(module.verdict, *given)
         count.take(got == said, f"kulfizan.verdict, {case.name}: {got}, not {said}")
@@ -587,7 +587,7 @@ def compare_module(count, module):
 
 def compare_library(draw, every_case):
     """The counts of all that the library is compared in."""
-    count, module = face.Count(), face.built()
+    count, module = c_interface.Count(), c_interface.built()
     there = module is not None and hasattr(module, "verdict") and hasattr(module.LIBRARY, "kulfizan_verdict")
     count.take(there, "the library with its verdict is not built")
     if there:

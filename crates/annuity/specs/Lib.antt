@@ -5,8 +5,8 @@ pub mod Same
 -- laws
 pub mod Steps
 pub mod Bounds
-pub mod Agree
 pub mod Holds
+pub mod OrdersAgree
 pub mod Width
 pub mod Narrowing
 pub mod NoInterest

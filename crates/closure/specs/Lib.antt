@@ -4,7 +4,7 @@ pub mod Exact
 pub mod Code
 -- laws
 pub mod WeightedSum
-pub mod Agree
+pub mod OrdersAgree
 pub mod SumWidth
 pub mod SumNarrow
 pub mod SumBound

@@ -6,8 +6,8 @@ pub mod Code
 -- laws
 pub mod Steps
 pub mod Bounds
-pub mod Agree
 pub mod Holds
+pub mod OrdersAgree
 pub mod Width
 pub mod Parts
 pub mod Plain

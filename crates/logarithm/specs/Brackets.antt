@@ -55,7 +55,7 @@ log-brackets-agree u i j l =
     within : (k : ℕ) → orderLogLower u k ≤/ orderLogUpper u k
     within k = unfold orderLogLower orderLogUpper in ≤/-+/ _ _
 
--- and so it is at a lesser force
+-- and so is every lower end at a force that is no greater
 pub log-agrees : {u v : Ratio} (i j : ℕ) → u ≤/ v → v </ whole/ 1 → orderLogLower u i ≤/ orderLogUpper v j
 log-agrees {u} {v} i j h l = ≤/-trans lower (log-brackets-agree v i j l)
   where

@@ -8,7 +8,7 @@ pub mod Code
 pub mod Positive
 pub mod Sizes
 pub mod LogisticHolds
-pub mod Agree
+pub mod OrdersAgree
 pub mod RelativeWidth
 pub mod LogisticWidth
 pub mod Billionths

@@ -9,6 +9,6 @@ pub mod Holds
 pub mod Width
 pub mod Billionths
 pub mod Narrowing
-pub mod Agree
+pub mod OrdersAgree
 -- an example
 pub mod Rows

@@ -6,7 +6,7 @@ pub mod Answers
 pub mod Oldest
 pub mod Holds
 pub mod Narrowing
-pub mod Agree
+pub mod OrdersAgree
 pub mod Width
 pub mod NoInterest
 -- examples

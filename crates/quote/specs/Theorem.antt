@@ -29,7 +29,7 @@ use Rattle.paths.specs.Path.{pathOf}
 use Rattle.paths.specs.Answers.{AnsweredPath, path-length}
 use Rattle.paths.specs.Holds.{value-holds}
 use Rattle.paths.specs.Narrowing.{value-narrows}
-use Rattle.paths.specs.Agree.{value-agrees}
+use Rattle.paths.specs.OrdersAgree.{value-agrees}
 use Rattle.paths.specs.Width.{death-limit, survival-limit, expectancy-limit, annuity-limit}
 use Rattle.kinds.specs.declared.Kind.{Kind}
 use Rattle.kinds.specs.declared.Fold.{Fold}

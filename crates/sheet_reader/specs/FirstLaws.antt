@@ -23,7 +23,7 @@ use Rattle.params.specs.declared.Sex.the-variants.{M, F}
 use Rattle.params.specs.declared.Refusal.the-variants.{Malformed}
 use Rattle.sheet.specs.Sheet.{mostBytes, sheetLines, forAges, ageKeys, keys, lineText, linesText, headText, readLines, readHead}
 use Rattle.sheet.specs.Sheet.{paramsOf, readSet, refused, judged, readSheet}
-use Rattle.sheet.specs.NumberTrip.{malformed-not-taken}
+use Rattle.tokens.specs.NumberTrip.{malformed-not-taken}
 use Rattle.sheet.specs.SetTrip.{keys-length}
 use Rattle.sheet.specs.SheetTrip.{then-taken, lines-reads, lines-read, head-reads, head-read, params-sheet, sheet-length}
 use Rattle.sheet_ages.specs.declared.SetRead.{SetRead}

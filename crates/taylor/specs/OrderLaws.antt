@@ -39,7 +39,7 @@ unfolding orderUpper
 upper-antitone {z} {z'} j h =
     record { cross = omega (arith, sum-monotone (z .num) (z .den) (z' .num) (z' .den) j (h .cross)) }
 
--- so every lower end is at most every upper end at a lesser z
+-- so every lower end is at most every upper end at a z that is no greater
 pub orders-agree : {z z' : Ratio} (i j : ℕ) → z ≤/ z' → orderLower z' i ≤/ orderUpper z j
 orders-agree {z} i j h = ≤/-trans (lower-antitone i h) (brackets-agree z i j)
 

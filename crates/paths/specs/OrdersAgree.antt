@@ -7,9 +7,9 @@ use Rattle.taylor.specs.Order.{leastOrder}
 use Rattle.params.specs.declared.Params.{Params}
 use Rattle.exact.specs.Value.{Agrees}
 use Rattle.folds.specs.Each.{each-places}
-use Rattle.folds.specs.Agree.{survival-agrees, expectancy-agrees}
-use Rattle.annuity.specs.Agree.{annuity-agrees}
-use Rattle.mortality.specs.Agree as cell
+use Rattle.folds.specs.OrdersAgree.{survival-agrees, expectancy-agrees}
+use Rattle.annuity.specs.OrdersAgree.{annuity-agrees}
+use Rattle.mortality.specs.OrdersAgree as cell
 use Rattle.paths.specs.Path.{Place, orderFactors}
 use Rattle.paths.specs.Values.{Fold, death, survival, expectancy, annuity, orderDeathOf, orderFoldOver, exactValue}
 use Rattle.paths.specs.Answers.{AnsweredPath}

@@ -1,19 +1,16 @@
 -- The orders of the price agree where those of the factors do, place by place.
 use mathlib.Core.List.{List, Forall₂}
-use Prim.Native.Nat.{ℕ, suc}
-use lib.ListN.{length}
+use Prim.Native.Nat.{ℕ}
 use Rattle.fraction.specs.Bracket.{Bracket, NotAbove}
 use Rattle.fraction.specs.Places.{places-length, places-take}
-use Rattle.folds.specs.Agree.{exactly-agrees, with-factor-agrees, sum-agrees, survival-agrees}
-use Rattle.annuity.specs.Exact.{discountPower, orderPaymentAfter, orderAnnuityOver}
+use Rattle.folds.specs.OrdersAgree.{exactly-agrees, with-factor-agrees, sum-agrees, survival-agrees}
+use Rattle.annuity.specs.Exact.{orderPaymentAfter, orderAnnuityOver}
 
 module _ (rate : ℕ) {ps qs : List Bracket} (h : Forall₂ NotAbove ps qs) where
   payment-agrees : (k : ℕ) → NotAbove (orderPaymentAfter rate ps k) (orderPaymentAfter rate qs k)
   unfolding orderPaymentAfter
-  payment-agrees k = with-factor-agrees (exactly-agrees (discountPower rate k)) (survival-agrees (places-take k h))
+  payment-agrees k = with-factor-agrees (exactly-agrees _) (survival-agrees (places-take k h))
 
   pub annuity-agrees : NotAbove (orderAnnuityOver rate ps) (orderAnnuityOver rate qs)
   unfolding orderAnnuityOver
-  annuity-agrees =
-      rw (← places-length h)
-      (sum-agrees (orderPaymentAfter rate ps) (orderPaymentAfter rate qs) (suc (length ps)) (λ k l. payment-agrees k))
+  annuity-agrees = rw (← places-length h) (sum-agrees _ _ _ (λ k l. payment-agrees _))

@@ -16,9 +16,9 @@ use Rattle.series.specs.RangeLaws.{Negated}
 use Rattle.logarithm.specs.Brackets.{log-agrees}
 use Rattle.weights.specs.Weights.{fitted, firstFitted, firstClosed}
 use Rattle.logistic.specs.Units.{Meet}
-use Rattle.logistic.specs.Agree.{logistic-agrees}
+use Rattle.logistic.specs.OrdersAgree.{logistic-agrees}
 use Rattle.closure.specs.Exact.{intervalAt, exactClosedSum}
-use Rattle.closure.specs.Agree.{closedSum-agrees}
+use Rattle.closure.specs.OrdersAgree.{closedSum-agrees}
 use Rattle.mortality.specs.Exact.{exactM, orderFitted, orderFittedList, orderOldForce}
 use Rattle.mortality.specs.Exact.{orderForce, orderSurvival, orderDeath}
 use Rattle.mortality.specs.Answered.{Answered}

@@ -1,4 +1,4 @@
-"""The whole run of `quotes` and `ends`, byte for byte, against the second implementation in desk.py; and what README.md shows
+"""The whole run of `quotes` and `ends`, byte for byte, against the second implementation in whole_run.py; and what README.md shows
 of these programs, of `compare` and of `verdict`.
 
 It runs both programs on some thousand inputs each: sheets that are whole, torn and off scale, queries of every kind, torn at
@@ -17,7 +17,7 @@ import tempfile
 import threading
 import time
 
-import desk
+import whole_run
 import programs
 import sheets
 from grid import HIGHEST, flat
@@ -203,7 +203,7 @@ def torn_bytes(draw, line):
 def one_of_each(ready):
     """An accepted query line of each kind over the flat sheet."""
     lines = ready[0][1]
-    good = [line for line in lines if b"fig=" in desk.quotes(FLAT + line)]
+    good = [line for line in lines if b"fig=" in whole_run.quotes(FLAT + line)]
     return [next(line for line in good if line.startswith(b"kind=%b " % kind.encode())) for kind in KINDS]
 
 
@@ -248,10 +248,10 @@ def line_feeds(ready):
 def cut_sheets(draw, ready):
     """The first lines of a sheet and then queries, and each line doubled or left out: the 370th line is a query's or not."""
     sheet, lines = ready[2]
-    parts = desk.lines_in(sheet)
-    for count in range(desk.SHEET_LINES + 1):
+    parts = whole_run.lines_in(sheet)
+    for count in range(whole_run.SHEET_LINES + 1):
         yield Input(f"{count} lines of a sheet", b"".join(parts[:count]) + some(draw, lines, 3))
-    for i in draw.sample(range(desk.SHEET_LINES), 60) + [0, 1, 369]:
+    for i in draw.sample(range(whole_run.SHEET_LINES), 60) + [0, 1, 369]:
         before, after = b"".join(parts[:i]), b"".join(parts[i + 1 :])
         yield Input(f"line {i} doubled", before + parts[i] * 2 + after + lines[0])
         yield Input(f"line {i} left out", before + after + lines[0] * 2)
@@ -367,17 +367,17 @@ def shown_runs():
 def guide_jobs():
     """Runs of the programs, and of the second implementation, against what the guide shows."""
     runs = list(shown_runs())
-    for name in desk.PROGRAMS.keys() - {name for name, _, _ in runs}:
+    for name in whole_run.PROGRAMS.keys() - {name for name, _, _ in runs}:
         yield str, f"README.md shows no run of {name}"
     for name, one, out in runs:
         yield compared, name, one, out
-        yield complaint, one.name, "desk.py", out, 0, desk.PROGRAMS[name](one.data)
+        yield complaint, one.name, "whole_run.py", out, 0, whole_run.PROGRAMS[name](one.data)
 
 
 def steep_examples():
     """The realistic examples have no steep cell."""
     for name in ("men", "women", "women-b", "women-c"):
-        cells = desk.desk_of((EXAMPLES / f"{name}.sheet").read_bytes()).quotes.grid
+        cells = whole_run.sheet_of((EXAMPLES / f"{name}.sheet").read_bytes()).quotes.grid
         if any(cells.steep(age, year) for age in range(OLDEST + 1) for year in range(FIRST_YEAR, LAST_CELL + 1)):
             return f"examples/{name}.sheet has a steep cell"
     return None
@@ -453,7 +453,7 @@ def feed(process, data, sizes_of_pieces, pause):
 
 
 def piecewise(name, one, pieces, pause=0.0):
-    want = desk.PROGRAMS[name](one.data)
+    want = whole_run.PROGRAMS[name](one.data)
     process = subprocess.Popen([programs.path(name)], stdin=subprocess.PIPE, stdout=subprocess.PIPE, bufsize=0)
     feeder = threading.Thread(target=feed, args=(process, one.data, pieces, pause))
     watch = threading.Timer(programs.PATIENCE, process.kill)
@@ -472,7 +472,7 @@ def in_pieces(draw, everything):
     chosen = [one for one in everything if one.name in ("the paper's lines", "nothing", "370 line feeds", "no sheet")]
     chosen += draw.sample([one for one in everything if 4000 < len(one.data) < 9000], 8)
     longest = [one for one in everything if len(one.data) in (LONGEST, LONGEST + 1) and "whole lines" in one.name]
-    for name in desk.ONE_SHEET:
+    for name in whole_run.ONE_SHEET:
         for one in chosen:
             for pieces in ([1], [2, 3, 5, 7], [draw.randint(1, 1000) for _ in range(9)]):
                 yield piecewise, name, one, pieces
@@ -500,7 +500,7 @@ def closes_early(name, data, count, ignored):
         if not more:
             break
     process.stdout.close()
-    right = desk.PROGRAMS[name](data)[:count] == got
+    right = whole_run.PROGRAMS[name](data)[:count] == got
     return outcome(process, feeder, f"{name}, a reader that closes after {count} bytes", right)
 
 
@@ -533,7 +533,7 @@ def from_file(name, one):
         source.seek(0)
         done = subprocess.run([programs.path(name)], stdin=source, stdout=sink, check=False, timeout=programs.PATIENCE)
         sink.seek(0)
-        return complaint(f"{one.name}, files", name, desk.PROGRAMS[name](one.data), done.returncode, sink.read())
+        return complaint(f"{one.name}, files", name, whole_run.PROGRAMS[name](one.data), done.returncode, sink.read())
 
 
 def endless(name):
@@ -550,7 +550,7 @@ def other_ends(everything):
     """Runs with readers that close early, with a full device, an endless input, and files: jobs to be called."""
     long = next(one.data for one in everything if one.name == f"{LONGEST} bytes, whole lines")
     short = everything[0].data
-    for name in desk.ONE_SHEET:
+    for name in whole_run.ONE_SHEET:
         for data, count, ignored in itertools.product((long, short), (0, 1, 30, 5000), (False, True)):
             yield closes_early, name, data, count, ignored
         yield full_device, name, long
@@ -565,7 +565,7 @@ def other_ends(everything):
 def fixed_lines():
     """What the second implementation says of the paper's own lines, and of torn rates, against the lines themselves."""
     for one, want in fixed_runs():
-        yield complaint(one.name, "desk.py", want, 0, desk.quotes(one.data))
+        yield complaint(one.name, "whole_run.py", want, 0, whole_run.quotes(one.data))
 
 
 def report(counts, everything):
@@ -581,7 +581,7 @@ def report(counts, everything):
 def main():
     seed = int(sys.argv[1]) if len(sys.argv) > 1 else SEED
     print(f"seed {seed}")
-    gone = programs.missing(*desk.PROGRAMS)
+    gone = programs.missing(*whole_run.PROGRAMS)
     if gone:
         print(gone)
         return 1
@@ -589,7 +589,7 @@ def main():
     everything = inputs(draw)
     counts, jobs = collections.Counter(), []
     for one in everything:
-        for name, said in desk.ONE_SHEET.items():
+        for name, said in whole_run.ONE_SHEET.items():
             jobs.append((compared, name, one, said(one.data)))
         tally(one, jobs[-1][3], counts)
     jobs += list(in_pieces(draw, everything)) + list(other_ends(everything)) + list(guide_jobs())

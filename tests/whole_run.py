@@ -1,4 +1,4 @@
-"""The whole run of the rate desk's programs, from input bytes to output bytes, written from paper 01, "The quote program",
+"""The whole run of the rate sheet's programs, from input bytes to output bytes, written from paper 01, "The quote program",
 and for annuities and for `verdict` from paper 02.
 
 `quotes` echoes a query with its figure, `ends` with its two ends ahead of the figure. `compare` reads two sheets and echoes a
@@ -58,7 +58,7 @@ def echo(line):
     return line.decode().rstrip("\n")
 
 
-class Desk:
+class Sheet:
     """The answers over one sheet, each worked once."""
 
     def __init__(self, sheet):
@@ -83,7 +83,7 @@ class Desk:
         return echo(line) + shown + figure_field(query[0], ends)
 
 
-desk_of = functools.lru_cache(200)(Desk)
+sheet_of = functools.lru_cache(200)(Sheet)
 
 
 def run(data, with_ends):
@@ -91,10 +91,10 @@ def run(data, with_ends):
     if len(data) > LONGEST:
         return text([refused(TORN)])
     lines = lines_in(data)
-    desk = desk_of(b"".join(lines[:SHEET_LINES]))
-    if desk.no:
-        return text([refused(desk.no)])
-    return text(desk.printed(line, with_ends) for line in lines[SHEET_LINES:])
+    sheet = sheet_of(b"".join(lines[:SHEET_LINES]))
+    if sheet.no:
+        return text([refused(sheet.no)])
+    return text(sheet.printed(line, with_ends) for line in lines[SHEET_LINES:])
 
 
 def text(lines):
@@ -141,10 +141,10 @@ def compare(data):
     if len(data) > LONGEST:
         return text([refused(TORN)])
     lines = lines_in(data)
-    first, second = (desk_of(b"".join(lines[at : at + SHEET_LINES])) for at in (0, SHEET_LINES))
-    for number, desk in ((1, first), (2, second)):
-        if desk.no:
-            return text([f"sheet={number} {refused(desk.no)}"])
+    first, second = (sheet_of(b"".join(lines[at : at + SHEET_LINES])) for at in (0, SHEET_LINES))
+    for number, sheet in ((1, first), (2, second)):
+        if sheet.no:
+            return text([f"sheet={number} {refused(sheet.no)}"])
     return text(compared(first, second, line) for line in lines[2 * SHEET_LINES :])
 
 

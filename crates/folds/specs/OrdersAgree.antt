@@ -9,7 +9,6 @@ use Rattle.fraction.specs.Bracket.{Bracket, NotAbove}
 use Rattle.fraction.specs.Places.{places-length, places-take}
 use Rattle.folds.specs.Exact.{
   exactly,
-  half/,
   orderWithFactor,
   orderSurvivalFrom,
   orderSurvivalOver,
@@ -58,5 +57,5 @@ pub expectancy-agrees : {ps qs : List Bracket} → Forall₂ NotAbove ps qs
 unfolding orderExpectancyOver
 expectancy-agrees {ps} {qs} h =
     rw (← places-length h)
-    (plus-agrees (exactly-agrees half/)
+    (plus-agrees (exactly-agrees _)
     (sum-agrees (orderSurvivalsOver ps) (orderSurvivalsOver qs) (length ps) (λ k l. survival-agrees (places-take (suc k) h))))

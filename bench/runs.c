@@ -1,4 +1,4 @@
-/* desk QUOTES INPUT OUTPUT: times 1,000 queries of all kinds over one sheet, in turns in one run: by the program QUOTES, from
+/* runs QUOTES INPUT OUTPUT: times 1,000 queries of all kinds over one sheet, in turns in one run: by the program QUOTES, from
    the file INPUT to the file OUTPUT, which are written and compared here; by kulfizan_run; and by kulfizan_quote, or
    kulfizan_annuity, for each query alone. The last reads the sheet in each call: as many calls with an age past the last, which
    read it too and are then refused, are timed in the same turns and taken off. The outputs must be the same, and each figure
@@ -146,7 +146,7 @@ int main(int count, char **words) {
     enum { PROGRAM, RUN, QUOTES, READING, RUNNERS };
     runner all[RUNNERS] = {{"program quotes", by_program, 0, 0}, {"kulfizan_run", by_run, 0, 0},
         {"quotes alone", by_quotes, 0, 0}, {"reading taken off", by_reading, 0, 0}};
-    if (count != 4) stop("usage: desk QUOTES INPUT OUTPUT");
+    if (count != 4) stop("usage: runs QUOTES INPUT OUTPUT");
     arguments = words;
     make_input(words[2]);
     take_turns(all, RUNNERS, TURNS);

@@ -1,5 +1,5 @@
 """The library's calls from other languages: every answer to a query of a sheet, with a rate or without, against a second
-implementation, the refusal, both ends and the figure, with every number that was lent; the whole run of the desk, with every
+implementation, the refusal, both ends and the figure, with every number that was lent; the whole run of an input, with every
 byte that was lent; the Python module's own functions; and the example in C.
 
 Sheets, sets and the two calls between them are tests/test_sheets.py. An argument is taken as the seed.
@@ -14,11 +14,11 @@ import subprocess
 import sys
 import tempfile
 
-import desk
-import face
+import whole_run
+import c_interface
 import sheets
 import test_quotes
-from face import GREATEST, LEAST, QUOTE_LENGTH, ROOT
+from c_interface import GREATEST, LEAST, QUOTE_LENGTH, ROOT
 from grid import flat
 from quotes import ANNUITIES, KINDS, OPEN, UNRATED, Quotes, figure
 from reader import KEYS, LIMITS, LONGEST, SHORT, SIZES, TORN, numbers_of, params_of, read
@@ -102,7 +102,7 @@ def compare_queries(count, counts, draw, library, one):
             before = lent(draw, places)
             wanted = after(refused, quoted, before)
             counts["short"] += wanted[0] == SHORT
-            got = face.quote(library, one.data, kind.encode(), *numbers, before=before)
+            got = c_interface.quote(library, one.data, kind.encode(), *numbers, before=before)
             count.take(got == wanted, f"{one.name}, {query}, {places} places: {got} and not {wanted}")
 
 
@@ -140,7 +140,7 @@ def compare_words(count, draw, library):
                 continue
             sheet, age = draw.choice((good, good, off_scale, b"")), draw.choice((65, 65, 121, LEAST))
             before, rate = lent(draw, draw.choice(PLACES)), [draw.choice(rates)] if rates else []
-            got = face.quote(library, sheet, word, age, 2020, 0, *rate, before=before)
+            got = c_interface.quote(library, sheet, word, age, 2020, 0, *rate, before=before)
             count.take(got == (TORN, before), f"the kind {word}, rate {rate}: {got[0]}")
 
 
@@ -168,12 +168,12 @@ def inputs(draw):
 def compare_runs(count, draw, module):
     for data in inputs(draw):
         for ends in (0, draw.choice((1, 2, 128, 255))):
-            wanted = desk.run(data, ends != 0)
+            wanted = whole_run.run(data, ends != 0)
             count.take(module.run(data, ends != 0) == wanted, f"a run of {len(data)} bytes gives something else")
             need = 5 * len(data) + 161
             for room in (need, need - 1, need + draw.randrange(1, 300), draw.randrange(need)):
                 before, length = draw.randbytes(room), draw.getrandbits(64)
-                got = face.run(module.LIBRARY, data, ends, before, length)
+                got = c_interface.run(module.LIBRARY, data, ends, before, length)
                 after = (SHORT, length, before) if room < need else (0, len(wanted), wanted + before[len(wanted):])
                 count.take(got == after, f"a run of {len(data)} bytes, ends {ends}, room {room}: {got[:2]} and not {after[:2]}")
 
@@ -291,19 +291,19 @@ def compare_example(count, draw):
         for data in inputs:
             pathlib.Path(file.name).write_bytes(data)
             for rate in ([], [30_000], [0], [-1], [200_001]):
-                done = subprocess.run([face.EXAMPLE, file.name, *map(str, rate)], capture_output=True, check=False)
+                done = subprocess.run([c_interface.EXAMPLE, file.name, *map(str, rate)], capture_output=True, check=False)
                 got, wanted = (done.returncode, done.stdout.decode()), shown(data, *rate)
                 count.take(got == wanted, f"the example with the rate {rate} prints {got} and not {wanted}")
         rates = ([file.name, rate] for rate in (file.name, "", "3%", "0.03", str(2**63)))
         for words in ([], [file.name, "0", "0"], [file.name + "-none"], *rates):
-            done = subprocess.run([face.EXAMPLE, *words], capture_output=True, check=False)
+            done = subprocess.run([c_interface.EXAMPLE, *words], capture_output=True, check=False)
             count.take(done.returncode == 2 and not done.stdout, f"the example with {words[1:]}")
 
 
 def main():
     seed = int(sys.argv[1]) if len(sys.argv) > 1 else SEED
     print(f"seed {seed}")
-    count, draw, module = face.Count(), random.Random(seed), face.built()
+    count, draw, module = c_interface.Count(), random.Random(seed), c_interface.built()
     count.take(module is not None, "the library is not built")
     if module:
         counts = collections.Counter()
