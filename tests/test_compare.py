@@ -20,8 +20,8 @@ import sheets
 from grid import HIGHEST, flat
 from quotes import COHORT, FIRST_YEAR, KINDS, LAST_YEAR, OLDEST, OPEN, SURVIVALS, TENTHS, Quotes, rounded
 from reader import KEYS, LONGEST, SIZES
-from test_desk import EXAMPLES, FIXED, FLAT, LINE_ENDS, RATED, Input, closes_early, compared, complaint, damaged, endless
-from test_desk import from_file, full_device, off_scale, one_of_each, padded, piecewise, pool, some, torn_lines, with_value
+from test_runs import EXAMPLES, FIXED, FLAT, LINE_ENDS, RATED, Input, closes_early, compared, complaint, damaged, endless
+from test_runs import from_file, full_device, off_scale, one_of_each, padded, piecewise, pool, some, torn_lines, with_value
 from test_quotes import any_rate, at_limits, line_of, mild, moved, moving, searched, usual
 
 SEED = 20142015

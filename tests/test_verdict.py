@@ -23,8 +23,8 @@ from c_interface import GREATEST, LEAST
 from grid import HIGHEST, LOWEST, flat
 from quotes import FIRST_YEAR, LAST_CELL, LAST_FITTED, LAST_YEAR, NO_YEAR, OFF_SCALE, OLDEST, OPEN, STEEP, Quotes, rounded, step
 from reader import LONGEST, NUMBER, SIZES, TORN
-from test_desk import EXAMPLES, FLAT, LINE_ENDS, NUMBERS, WHOLE, Input, closes_early, compared, complaint, damaged, endless
-from test_desk import from_file, full_device, padded, piecewise, with_value
+from test_runs import EXAMPLES, FLAT, LINE_ENDS, NUMBERS, WHOLE, Input, closes_early, compared, complaint, damaged, endless
+from test_runs import from_file, full_device, padded, piecewise, with_value
 from test_quotes import mild, moved
 
 SEED = 20142184
