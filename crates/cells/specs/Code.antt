@@ -1,7 +1,7 @@
 -- What the code's contracts say beside the definitions: the answer at a cell.
 use mathlib.Core.Bool.{cond}
 use mathlib.Core.List.{List}
-use Prim.Native.Nat.{ℕ, _≤_}
+use Prim.Native.Nat.{ℕ}
 use lib.IntN.{ℤ}
 use Rattle.whole.specs.SignedEnds.{SignedEnds}
 use Rattle.expo.specs.Grid.{Ends}
@@ -22,11 +22,6 @@ use Rattle.cells.specs.declared.Cell.the-variants.{LogForceOutOfRange, O
 -- the grid's two ends as the code's
 abbrev pub coded : Ends → code.Ends
 coded e = record { lower = e .lower; upper = e .upper }
-
--- both ends of p are at most 1
-pub data Chance : Cell → Type 0 where
-  out-of-range : Chance LogForceOutOfRange
-  of : {e : code.Ends} → e .lower ≤ billionths .unit → e .upper ≤ billionths .unit → Chance (Of e)
 
 -- the answer at an age to 90, from its log force
 unfoldable pub youngCell : SignedEnds → Cell
