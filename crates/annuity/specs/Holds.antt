@@ -10,30 +10,28 @@ use Rattle.fraction.specs.Ratio.{Ratio, _≤/_, whole/, quotient/, _*/_}
 use Rattle.fraction.specs.RatioLaws.{≤/-refl, ≤/-trans, */-mono}
 use Rattle.fraction.specs.Bracket.{Bracket}
 use Rattle.fraction.specs.Places.{places-length, places-take}
-use Rattle.expo.specs.Grid.{Grid, Ends}
-use Rattle.expo.specs.Facts.{Sound}
-use Rattle.expo.specs.Overlap.{inUnits}
+use Rattle.expo.specs.Grid.{Grid, Ends, inUnits}
 use Rattle.folds.specs.Exact.{exactly}
 use Rattle.folds.specs.Holds.{Over, one-over, with-factor-holds, sum-holds, survival-holds}
 use Rattle.annuity.specs.Annuity.{rateUnit, discounted, discountOver, paymentAfter, annuityOver}
 use Rattle.annuity.specs.Exact.{discount/, discountPower, orderPaymentAfter, orderAnnuityOver}
 use Rattle.annuity.specs.Bounds.{divisor-positive}
 
-module _ (g : Grid) (s : Sound g) (rate : ℕ) where
+module _ (g : Grid) (rate : ℕ) where
   -- ---- one year of discount, rounded down and up
 
-  floor-below : (a : ℕ) → inUnits g s (a * rateUnit / (rateUnit + rate)) ≤/ inUnits g s a */ discount/ rate
+  floor-below : (a : ℕ) → inUnits g (a * rateUnit / (rateUnit + rate)) ≤/ inUnits g a */ discount/ rate
   unfolding inUnits discount/ quotient/ whole/ _*/_
   floor-below a =
       record { cross = omega (arith, mul-le-mul-right (g .unit) (floorℕ-encloses (a * rateUnit) (divisor-positive rate) .0)) }
 
-  ceil-above : (a : ℕ) → inUnits g s a */ discount/ rate ≤/ inUnits g s (ceilDivℕ (a * rateUnit) (rateUnit + rate))
+  ceil-above : (a : ℕ) → inUnits g a */ discount/ rate ≤/ inUnits g (ceilDivℕ (a * rateUnit) (rateUnit + rate))
   unfolding inUnits discount/ quotient/ whole/ _*/_
   ceil-above a =
       record { cross = omega (arith, mul-le-mul-right (g .unit) (ceilℕ-encloses (a * rateUnit) (divisor-positive rate) .0)) }
 
-  discounted-holds : {e : Ends} (x : Ratio) → Over g s e (exactly x)
-      → Over g s (discounted rate e) (exactly (x */ discount/ rate))
+  discounted-holds : {e : Ends} (x : Ratio) → Over g e (exactly x)
+      → Over g (discounted rate e) (exactly (x */ discount/ rate))
   unfolding discounted exactly
   discounted-holds {e} x h =
       record {
@@ -43,18 +41,18 @@ module _ (g : Grid) (s : Sound g) (rate : ℕ) where
 
   -- ---- the discount, a payment, the price
 
-  pub discount-holds : (k : ℕ) → Over g s (discountOver g rate k) (exactly (discountPower rate k))
+  pub discount-holds : (k : ℕ) → Over g (discountOver g rate k) (exactly (discountPower rate k))
   unfolding discountOver discountPower
-  discount-holds zero = one-over g s
+  discount-holds zero = one-over g
   discount-holds (suc k) = discounted-holds (discountPower rate k) (discount-holds k)
 
-  module _ {es : List Ends} {bs : List Bracket} (h : Forall₂ (Over g s) es bs) where
-    pub payment-holds : (k : ℕ) → Over g s (paymentAfter g rate es k) (orderPaymentAfter rate bs k)
+  module _ {es : List Ends} {bs : List Bracket} (h : Forall₂ (Over g) es bs) where
+    pub payment-holds : (k : ℕ) → Over g (paymentAfter g rate es k) (orderPaymentAfter rate bs k)
     unfolding paymentAfter orderPaymentAfter
-    payment-holds k = with-factor-holds g s (discount-holds k) (survival-holds g s (places-take k h))
+    payment-holds k = with-factor-holds g (discount-holds k) (survival-holds g (places-take k h))
 
-    pub annuity-holds : Over g s (annuityOver g rate es) (orderAnnuityOver rate bs)
+    pub annuity-holds : Over g (annuityOver g rate es) (orderAnnuityOver rate bs)
     unfolding annuityOver orderAnnuityOver
     annuity-holds =
         rw (← places-length h)
-        (sum-holds g s (paymentAfter g rate es) (orderPaymentAfter rate bs) (suc (length es)) (λ k l. payment-holds k))
+        (sum-holds g (paymentAfter g rate es) (orderPaymentAfter rate bs) (suc (length es)) (λ k l. payment-holds k))

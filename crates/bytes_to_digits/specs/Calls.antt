@@ -7,7 +7,6 @@ use lib.IntN.{ℤ}
 use lib.ListN.{length, getD}
 use Rattle.tokens.specs.Text.{Parse, malformed, taken}
 use Rattle.expo.specs.Billionths.{billionths}
-use Rattle.expo.specs.BillionthsFacts.{billionths-sound}
 use Rattle.params.specs.declared.Params.{Params}
 use Rattle.sheet.specs.Sheet.{readSheet}
 use Rattle.exact.specs.Value.{Exact, OneStep}
@@ -69,4 +68,4 @@ exactAsked word q = exactQuery (setRead q) (kindAsked (kindIn word (q .rate))) (
 -- the exact values that two calls of one word ask for round half up to one step
 abbrev pub RoundAlike : List ℕ → Asked → Asked → Type 0
 RoundAlike word q q′ =
-    OneStep billionths billionths-sound (step (kindAsked (kindIn word (q .rate)))) (exactAsked word q) (exactAsked word q′)
+    OneStep billionths (step (kindAsked (kindIn word (q .rate)))) (exactAsked word q) (exactAsked word q′)

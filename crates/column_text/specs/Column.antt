@@ -7,7 +7,7 @@ use Prim.Native.Nat.{ℕ, suc}
 use lib.Dec.{eqb}
 use lib.IntN.{ℤ, pos, negsuc}
 use lib.ListN.{length}
-use Rattle.whole.specs.Table.{every, listed}
+use Rattle.whole.specs.Listed.{every, listed}
 use Rattle.tokens.specs.Text.{bytesOf, Parse, malformed, taken, takeText}
 use Rattle.tokens.specs.Unsigned.{readDigits}
 use Rattle.tokens.specs.Steps.{andThen}

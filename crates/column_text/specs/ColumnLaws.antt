@@ -10,7 +10,8 @@ use native.Mathlib.Omega.{arith}
 use borrow.Author.Tests.{eqb-true}
 use lib.IntN.{ℤ, pos, negsuc, natAbs}
 use lib.ListN.{length, getD}
-use Rattle.whole.specs.Table.{listed, listed-length, listed-at}
+use Rattle.whole.specs.Listed.{listed}
+use Rattle.whole.specs.Table.{listed-length, listed-at}
 use Rattle.whole.specs.Clash.{clash}
 use Rattle.tokens.specs.Text.{malformed, taken}
 use Rattle.tokens.specs.Steps.{goes}

@@ -2,7 +2,7 @@
 use mathlib.Core.Path.{_≡_, refl}
 use mathlib.Core.List.{List, [], _++_}
 use Prim.Native.Nat.{ℕ, zero, suc}
-use Rattle.whole.specs.Table.{listed}
+use Rattle.whole.specs.Listed.{listed}
 use Rattle.tokens.specs.Text.{bytesOf, malformed, taken, takeText}
 use Rattle.tokens.specs.Number.{isDigit, digits, afterDigits, valueFrom, noLeadingZero, wellFormed}
 use Rattle.tokens.specs.Number.{readUnsigned, negated, positive, readNumber, decimal, unsignedText}

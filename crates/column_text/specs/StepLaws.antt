@@ -9,7 +9,8 @@ use borrow.Author.Tests.{lt-ltb}
 use lib.Dec.{ltb, ltb→lt}
 use lib.ListN.{length, getD, set, length-set}
 use lib.Seq.{getD-set-same, getD-set-other}
-use Rattle.whole.specs.Table.{every, at}
+use Rattle.whole.specs.Listed.{every}
+use Rattle.whole.specs.Table.{at}
 use Rattle.tokens.specs.Text.{malformed, taken}
 use Rattle.column_text.specs.Table.{tableSteps}
 

@@ -6,7 +6,7 @@ use mathlib.Core.List.{List, [], _∷_, map}
 use lib.Dec.{eqb, ltb}
 use lib.IntN.{natAbs}
 use lib.ListN.{getD, set, replicate}
-use Rattle.whole.specs.Table.{every}
+use Rattle.whole.specs.Listed.{every}
 use Rattle.tokens.specs.Text.{Parse, malformed, taken}
 use Rattle.tokens.specs.Steps.{andThen}
 use Rattle.table_tests.specs.TableTests.{ageInTable}

@@ -12,7 +12,8 @@ use lib.Dec.{eqb, ltb, eqb→eq}
 use lib.IntN.{ℤ, pos, negsuc, natAbs, pos-ne-negsuc}
 use lib.ListN.{length, getD, drop, length-append, length-set, length-replicate, getD-replicate, drop-of-length-le}
 use lib.Seq.{append-snoc, drop-cons, drop-drop, getD-set-same, getD-set-other}
-use Rattle.whole.specs.Table.{every, at, listed, listed-length, listed-at}
+use Rattle.whole.specs.Listed.{every, listed}
+use Rattle.whole.specs.Table.{at, listed-length, listed-at}
 use Rattle.tokens.specs.Text.{Parse, malformed, taken}
 use Rattle.tokens.specs.Steps.{andThen, goes, stops}
 use Rattle.lines.specs.Lines.{firstLine, afterLine, lines}

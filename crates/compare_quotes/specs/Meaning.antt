@@ -2,43 +2,41 @@
 use Prim.Native.Nat.{ℕ, _≤_, _<_}
 use Rattle.fraction.specs.Ratio.{_</_, _+/_}
 use Rattle.taylor.specs.Order.{leastOrder}
-use Rattle.expo.specs.Grid.{Grid, Ends}
-use Rattle.expo.specs.Facts.{Sound}
-use Rattle.expo.specs.Overlap.{inUnits}
+use Rattle.expo.specs.Grid.{Grid, Ends, inUnits}
 use Rattle.exact.specs.Value.{Exact, AtLeast, AtMost}
 use Rattle.compare_quotes.specs.declared.Excess.{Excess}
 use Rattle.compare_quotes.specs.declared.Values.{Values}
 use Rattle.compare_quotes.specs.declared.Values.the-variants.{Below, Above, Near}
 
 -- the exact value is at least the lower end and at most the upper one
-pub record Held (g : Grid) (s : Sound g) (ends : Ends) (v : Exact) : Type 0 where
-  pub at-least : AtLeast v (inUnits g s (ends .lower))
-  pub at-most : AtMost v (inUnits g s (ends .upper))
+pub record Held (g : Grid) (ends : Ends) (v : Exact) : Type 0 where
+  pub at-least : AtLeast v (inUnits g (ends .lower))
+  pub at-most : AtMost v (inUnits g (ends .upper))
 
 -- v′ exceeds v by at least n units: at every order that counts it is at least the lower end of v and n units
-pub record AtLeastOver (g : Grid) (s : Sound g) (n : ℕ) (v v′ : Exact) : Type 0 where
-  pub over : (j : ℕ) → leastOrder ≤ j → AtLeast v′ (v j .least +/ inUnits g s n)
+pub record AtLeastOver (g : Grid) (n : ℕ) (v v′ : Exact) : Type 0 where
+  pub over : (j : ℕ) → leastOrder ≤ j → AtLeast v′ (v j .least +/ inUnits g n)
 
 -- v′ exceeds v by at most n units: at every order that counts it is at most the upper end of v and n units
-pub record AtMostOver (g : Grid) (s : Sound g) (n : ℕ) (v v′ : Exact) : Type 0 where
-  pub over : (j : ℕ) → leastOrder ≤ j → AtMost v′ (v j .most +/ inUnits g s n)
+pub record AtMostOver (g : Grid) (n : ℕ) (v v′ : Exact) : Type 0 where
+  pub over : (j : ℕ) → leastOrder ≤ j → AtMost v′ (v j .most +/ inUnits g n)
 
 -- v′ exceeds v by so much: by at least `least` units, which are not 0, and by at most `most`
-pub record Exceeds (g : Grid) (s : Sound g) (e : Excess) (v v′ : Exact) : Type 0 where
+pub record Exceeds (g : Grid) (e : Excess) (v v′ : Exact) : Type 0 where
   pub some : 0 < e .least
-  pub at-least : AtLeastOver g s (e .least) v v′
-  pub at-most : AtMostOver g s (e .most) v v′
+  pub at-least : AtLeastOver g (e .least) v v′
+  pub at-most : AtMostOver g (e .most) v v′
 
 -- neither exceeds the other by more than n units
-pub record Within (g : Grid) (s : Sound g) (n : ℕ) (v v′ : Exact) : Type 0 where
-  pub first : AtMostOver g s n v′ v
-  pub second : AtMostOver g s n v v′
+pub record Within (g : Grid) (n : ℕ) (v v′ : Exact) : Type 0 where
+  pub first : AtMostOver g n v′ v
+  pub second : AtMostOver g n v v′
 
 -- below: the second exceeds the first by so much; above: the first the second; near: within so many units
-unfoldable pub Means : (g : Grid) → Sound g → Values → Exact → Exact → Type 0
-Means g s (Below e) v v′ = Exceeds g s e v v′
-Means g s (Above e) v v′ = Exceeds g s e v′ v
-Means g s (Near n) v v′ = Within g s n v v′
+unfoldable pub Means : Grid → Values → Exact → Exact → Type 0
+Means g (Below e) v v′ = Exceeds g e v v′
+Means g (Above e) v v′ = Exceeds g e v′ v
+Means g (Near n) v v′ = Within g n v v′
 
 -- the first is less than the second: from an order that counts on its whole bracket is below the other
 pub record Less (v v′ : Exact) : Type 0 where

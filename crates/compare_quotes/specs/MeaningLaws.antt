@@ -7,9 +7,7 @@ use Rattle.fraction.specs.Ratio.{Ratio, _≤/_, _</_, _+/_, whole/, quotient/}
 use Rattle.fraction.specs.RatioLaws.{≤/-refl, ≤/-trans, ≤/-of-not-</, </-of-not-≤/, not-≤/-of-</}
 use Rattle.fraction.specs.RatioLaws.{+/-mono, +/-comm, +/-assoc, +/-cancel}
 use Rattle.taylor.specs.Order.{leastOrder}
-use Rattle.expo.specs.Grid.{Grid, Ends}
-use Rattle.expo.specs.Facts.{Sound}
-use Rattle.expo.specs.Overlap.{inUnits}
+use Rattle.expo.specs.Grid.{Grid, Ends, inUnits}
 use Rattle.exact.specs.Value.{Exact, Narrows}
 use Rattle.exact.specs.ValueLaws.{at-least-weaken, at-most-weaken}
 use Rattle.compare_quotes.specs.declared.Excess.{Excess}
@@ -19,41 +17,41 @@ use Rattle.compare_quotes.specs.Meaning.{Held, AtLeastOver, AtMostOver, 
 
 -- ---- whole numbers of units
 
-units-over : (g : Grid) (s : Sound g) (u n : ℕ) {l : ℕ} → u + n ≤ l → inUnits g s u +/ inUnits g s n ≤/ inUnits g s l
+units-over : (g : Grid) (u n : ℕ) {l : ℕ} → u + n ≤ l → inUnits g u +/ inUnits g n ≤/ inUnits g l
 unfolding inUnits _+/_
-units-over g s u n h = record { cross = omega (arith, mul-le-mul-right (g .unit * g .unit) h) }
+units-over g u n h = record { cross = omega (arith, mul-le-mul-right (g .unit * g .unit) h) }
 
-units-within : (g : Grid) (s : Sound g) (l n : ℕ) {u : ℕ} → u ≤ l + n → inUnits g s u ≤/ inUnits g s l +/ inUnits g s n
+units-within : (g : Grid) (l n : ℕ) {u : ℕ} → u ≤ l + n → inUnits g u ≤/ inUnits g l +/ inUnits g n
 unfolding inUnits _+/_
-units-within g s l n h = record { cross = omega (arith, mul-le-mul-right (g .unit * g .unit) h) }
+units-within g l n h = record { cross = omega (arith, mul-le-mul-right (g .unit * g .unit) h) }
 
 -- ---- the three words
 
-module _ {g : Grid} {s : Sound g} where
+module _ {g : Grid} where
   -- an order's lower end of the first is at most its upper end in units, n units under the second's lower one
-  ends-least : {a b : Ends} {v v′ : Exact} (n : ℕ) → Held g s a v → Held g s b v′ → a .upper + n ≤ b .lower
-      → AtLeastOver g s n v v′
+  ends-least : {a b : Ends} {v v′ : Exact} (n : ℕ) → Held g a v → Held g b v′ → a .upper + n ≤ b .lower
+      → AtLeastOver g n v v′
   ends-least {a} n h k l =
       record {
         over = λ j c.
             at-least-weaken
-            (≤/-trans (+/-mono (≤/-of-not-</ (h .at-most .none-above j c)) (≤/-refl _)) (units-over g s (a .upper) n l))
+            (≤/-trans (+/-mono (≤/-of-not-</ (h .at-most .none-above j c)) (≤/-refl _)) (units-over g (a .upper) n l))
             (k .at-least);
       }
 
   -- the second's upper end in units is at most n units above the first's lower one, and an order's upper end is not under it
-  ends-most : {a b : Ends} {v v′ : Exact} (n : ℕ) → Held g s a v → Held g s b v′ → b .upper ≤ a .lower + n
-      → AtMostOver g s n v v′
+  ends-most : {a b : Ends} {v v′ : Exact} (n : ℕ) → Held g a v → Held g b v′ → b .upper ≤ a .lower + n
+      → AtMostOver g n v v′
   ends-most {a} n h k l =
       record {
         over = λ j c.
             at-most-weaken
-            (≤/-trans (units-within g s (a .lower) n l) (+/-mono (≤/-of-not-</ (h .at-least .none-below j c)) (≤/-refl _)))
+            (≤/-trans (units-within g (a .lower) n l) (+/-mono (≤/-of-not-</ (h .at-least .none-below j c)) (≤/-refl _)))
             (k .at-most);
       }
 
-  ends-exceed : {a b : Ends} {v v′ : Exact} → Held g s a v → Held g s b v′ → a .upper < b .lower
-      → Exceeds g s (excess a b) v v′
+  ends-exceed : {a b : Ends} {v v′ : Exact} → Held g a v → Held g b v′ → a .upper < b .lower
+      → Exceeds g (excess a b) v v′
   unfolding excess
   ends-exceed h k l =
       record {
@@ -62,7 +60,7 @@ module _ {g : Grid} {s : Sound g} where
         at-most = ends-most _ h k (omega arith);
       }
 
-  ends-within : {a b : Ends} {v v′ : Exact} → Held g s a v → Held g s b v′ → Within g s (mostApart a b) v v′
+  ends-within : {a b : Ends} {v v′ : Exact} → Held g a v → Held g b v′ → Within g (mostApart a b) v v′
   unfolding mostApart
   ends-within {a} {b} h k =
       let f = le-max-left (a .upper - b .lower) (b .upper - a .lower) in
@@ -73,7 +71,7 @@ module _ {g : Grid} {s : Sound g} where
       }
 
   -- the words and numbers are true of any two exact values between the ends
-  pub values-mean : (a b : Ends) {v v′ : Exact} → Held g s a v → Held g s b v′ → Means g s (valuesOf a b) v v′
+  pub values-mean : (a b : Ends) {v v′ : Exact} → Held g a v → Held g b v′ → Means g (valuesOf a b) v v′
   unfolding Means
   values-mean a b h k =
       elim (decLt (a .upper) (b .lower)) [
@@ -100,9 +98,9 @@ room : (u n : ℕ) → 0 < n
     → (1 * (1 * (2 * u + 1)) + 1 * (1 * (2 * u + 1))) * u < n * ((1 * (2 * u + 1)) * (1 * (2 * u + 1)))
 room u n h = omega (arith, mul-le-mul-right ((2 * u + 1) * (2 * u + 1)) h)
 
-unit-unfilled : (g : Grid) (s : Sound g) (n : ℕ) → 0 < n → narrow g +/ narrow g </ inUnits g s n
+unit-unfilled : (g : Grid) (n : ℕ) → 0 < n → narrow g +/ narrow g </ inUnits g n
 unfolding inUnits _+/_ quotient/ whole/
-unit-unfilled g s n h = record { cross = room (g .unit) n h }
+unit-unfilled g n h = record { cross = room (g .unit) n h }
 
 -- what is added to one and the same fraction
 added : (u x y z : Ratio) → u +/ x ≤/ u +/ y +/ z → x ≤/ y +/ z
@@ -110,18 +108,18 @@ added u x y z h =
     +/-cancel u
     (≤/-trans (+/-comm x u .below) (≤/-trans h (≤/-trans (+/-assoc u y z .below) (+/-comm u (y +/ z) .below))))
 
-module _ {g : Grid} {s : Sound g} {e : Excess} {v v′ : Exact} where
+module _ {g : Grid} {e : Excess} {v v′ : Exact} where
   -- of brackets so narrow the first is below the second, or a unit would be filled
-  narrow-less : Exceeds g s e v v′ → (j : ℕ) → leastOrder ≤ j → v j .most ≤/ v j .least +/ narrow g
+  narrow-less : Exceeds g e v v′ → (j : ℕ) → leastOrder ≤ j → v j .most ≤/ v j .least +/ narrow g
       → v′ j .most ≤/ v′ j .least +/ narrow g → v j .most </ v′ j .least
   narrow-less a j c w w′ =
       </-of-not-≤/
       (λ h. let l = ≤/-trans w′ (+/-mono (≤/-trans h w) (≤/-refl _)) in
-      not-≤/-of-</ (unit-unfilled g s (e .least) (a .some))
-      (added (v j .least) (inUnits g s (e .least)) (narrow g) (narrow g)
+      not-≤/-of-</ (unit-unfilled g (e .least) (a .some))
+      (added (v j .least) (inUnits g (e .least)) (narrow g) (narrow g)
       (≤/-trans (≤/-of-not-</ (a .at-least .over j c .none-below j c)) l)))
 
-  pub exceeds-less : Exceeds g s e v v′ → Narrows v → Narrows v′ → Less v v′
+  pub exceeds-less : Exceeds g e v v′ → Narrows v → Narrows v′ → Less v v′
   exceeds-less a w w′ =
       record {
         order = w .order (finer g) + w′ .order (finer g);

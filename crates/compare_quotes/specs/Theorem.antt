@@ -3,7 +3,6 @@ use mathlib.Core.Path.{_≡_, ap, _∙_}
 use Prim.Native.Nat.{ℕ}
 use lib.IntN.{ℤ}
 use Rattle.expo.specs.Billionths.{billionths}
-use Rattle.expo.specs.BillionthsFacts.{billionths-sound}
 use Rattle.params.specs.declared.Params.{Params}
 use Rattle.exact.specs.declared.Figure.the-variants.{Printed}
 use Rattle.exact.specs.Value.{Exact, OneStep}
@@ -28,7 +27,7 @@ kept : (p : Params) (kind : Kind) (age year span : ℤ) → numberOf (answerOf p
 kept p kind age year span e = demand-met p kind age year span .kept e
 
 held : {p : Params} {kind : Kind} {age year span : ℤ} → Kept p kind age year span (answerOf p kind age year span)
-    → Held billionths billionths-sound (answerEnds (answerOf p kind age year span)) (exactQuery p kind age year span)
+    → Held billionths (answerEnds (answerOf p kind age year span)) (exactQuery p kind age year span)
 unfolding answerEnds
 held k = record { at-least = k .at-least; at-most = k .at-most }
 
@@ -54,7 +53,7 @@ module _ (p : Params) (kind : Kind) (age year span : ℤ) (p′ : Params) (kind�
     second-kept = kept p′ kind′ age′ year′ span′ (compared-both answer answer′ e .second-quoted)
 
     -- below, above and near are true of the exact values, with their numbers
-    pub compared-mean : Means billionths billionths-sound (x .values) value value′
+    pub compared-mean : Means billionths (x .values) value value′
     compared-mean =
         rw (compared-both answer answer′ e .values)
         (values-mean (answerEnds answer) (answerEnds answer′) (held first-kept) (held second-kept))
@@ -72,7 +71,7 @@ module _ (p : Params) (kind : Kind) (age year span : ℤ) (p′ : Params) (kind�
 pub figures-differ : (kind kind′ : Kind) → OneKind kind kind′ → (p p′ : Params) (age year span age′ year′ span′ : ℤ) {x : Pair}
     {n n′ : ℕ} → comparisonOf (answerOf p kind age year span) (answerOf p′ kind′ age′ year′ span′) ≡ Compared x
     → x .first ≡ Printed n → x .second ≡ Printed n′ → (n ≡ n′ → ⊥)
-    → OneStep billionths billionths-sound (step kind) (exactQuery p kind age year span) (exactQuery p′ kind′ age′ year′ span′)
+    → OneStep billionths (step kind) (exactQuery p kind age year span) (exactQuery p′ kind′ age′ year′ span′)
     → ⊥
 unfolding shownOf
 figures-differ kind kind′ one p p′ age year span age′ year′ span′ e f f′ d o =

@@ -8,7 +8,8 @@ use mathlib.Core.List.{map}
 use lib.Bits.{bitAnd, bitOr, bitXor, and-le-r}
 use lib.Dec.{T, eqb, eqb→eq, lit<, lit≤}
 use lib.ListN.{length}
-use Rattle.whole.specs.Table.{every, at, listed, listed-length, listed-at}
+use Rattle.whole.specs.Listed.{every, listed}
+use Rattle.whole.specs.Table.{at, listed-length, listed-at}
 use Rattle.words.specs.Word.{byteBits, wordBytes, bytesIn, laneSum, wordOf}
 use Rattle.words.specs.LaneLaws.{Below, lanes-below, lanes-length}
 use Rattle.tokens.specs.Number.{isDigit}

@@ -7,7 +7,7 @@ use Prim.Native.Nat.{ℕ}
 use native.Mathlib.Omega.{arith}
 use lib.Dec.{T}
 use lib.IntN.{ℤ, pos}
-use Rattle.whole.specs.Table.{listed}
+use Rattle.whole.specs.Listed.{listed}
 use Rattle.whole.specs.Division.{floorDiv, ceilDiv, ceilDivℕ}
 use Rattle.whole.specs.SignedEnds.{leastProduct, greatestProduct, outward}
 use Rattle.alternating.specs.Alternating.{double}

@@ -8,9 +8,7 @@ use native.Mathlib.Decide.{decLt}
 use native.Mathlib.Omega.{arith}
 use Rattle.fraction.specs.Ratio.{_≤/_, _</_, _+/_, whole/, quotient/}
 use Rattle.fraction.specs.RatioLaws.{≤/-refl, ≤/-trans, +/-mono, </-≤/-trans, ≤/-</-trans, ≤/-of-not-</}
-use Rattle.expo.specs.Grid.{Grid, Ends}
-use Rattle.expo.specs.Facts.{Sound}
-use Rattle.expo.specs.Overlap.{inUnits}
+use Rattle.expo.specs.Grid.{Grid, Ends, inUnits}
 use Rattle.exact.specs.Value.{Exact, AtLeast, AtMost, lowerEdge, upperEdge, RoundsTo, OneStep, Narrows}
 use Rattle.exact.specs.ValueLaws.{at-least-weaken}
 use Rattle.exact.specs.Figure.{halfUp}
@@ -19,16 +17,16 @@ use Rattle.exact.specs.FigureLaws.{half-up-low, half-up-high}
 -- ---- one step at most
 
 -- the upper half-edge of n steps is at most the lower one of more
-edges-apart : (g : Grid) (s : Sound g) (step : ℕ) {n m : ℕ} → n < m → upperEdge g s step n ≤/ lowerEdge g s step m
+edges-apart : (g : Grid) (step : ℕ) {n m : ℕ} → n < m → upperEdge g step n ≤/ lowerEdge g step m
 unfolding upperEdge lowerEdge
-edges-apart g s step h = record { cross = mul-le-mul-right (2 * g .unit) (mul-le-mul-right step (omega arith)) }
+edges-apart g step h = record { cross = mul-le-mul-right (2 * g .unit) (mul-le-mul-right step (omega arith)) }
 
-module _ {g : Grid} {s : Sound g} {step : ℕ} where
+module _ {g : Grid} {step : ℕ} where
   -- some order's upper end is below the first step's upper half-edge, which no greater step allows
-  not-less : {n m : ℕ} {v : Exact} → RoundsTo g s step n v → RoundsTo g s step m v → n < m → ⊥
-  not-less r q h = q .low .none-below (r .order) (r .counts) (</-≤/-trans (r .high) (edges-apart g s step h))
+  not-less : {n m : ℕ} {v : Exact} → RoundsTo g step n v → RoundsTo g step m v → n < m → ⊥
+  not-less r q h = q .low .none-below (r .order) (r .counts) (</-≤/-trans (r .high) (edges-apart g step h))
 
-  pub rounds-once : {n m : ℕ} {v : Exact} → RoundsTo g s step n v → RoundsTo g s step m v → n ≡ m
+  pub rounds-once : {n m : ℕ} {v : Exact} → RoundsTo g step n v → RoundsTo g step m v → n ≡ m
   rounds-once {n} {m} r q =
       elim (decLt n m) [
         | yes h ↦ absurd (not-less r q h)
@@ -36,20 +34,20 @@ module _ {g : Grid} {s : Sound g} {step : ℕ} where
       ]
 
   -- two values that round to n and n′ steps round to one step when n is n′, and only then
-  pub same-step : {n n′ : ℕ} {v v′ : Exact} → RoundsTo g s step n v → RoundsTo g s step n′ v′
-      → (n ≡ n′) ↔ OneStep g s step v v′
+  pub same-step : {n n′ : ℕ} {v v′ : Exact} → RoundsTo g step n v → RoundsTo g step n′ v′
+      → (n ≡ n′) ↔ OneStep g step v v′
   same-step {n} {n′} {v} {v′} r r′ = (
-    λ e. record { steps = n; first = r; second = subst (λ (k : ℕ). RoundsTo g s step k v′) (sym e) r′ },
+    λ e. record { steps = n; first = r; second = subst (λ (k : ℕ). RoundsTo g step k v′) (sym e) r′ },
     λ o. rounds-once r (o .first) ∙ sym (rounds-once r′ (o .second)),
   )
 
 -- ---- a printed figure
 
 -- an end that rounds to n steps lies at or above their lower half-edge
-edge-below : (g : Grid) (s : Sound g) (step e : ℕ) {n : ℕ} → halfUp step e ≡ n
-    → lowerEdge g s step n ≤/ inUnits g s e
+edge-below : (g : Grid) (step e : ℕ) {n : ℕ} → halfUp step e ≡ n
+    → lowerEdge g step n ≤/ inUnits g e
 unfolding lowerEdge inUnits
-edge-below g s step e h = record { cross = omega (arith, mul-le-mul-right (g .unit) (half-up-low step e h)) }
+edge-below g step e h = record { cross = omega (arith, mul-le-mul-right (g .unit) (half-up-low step e h)) }
 
 -- and below their upper half-edge, by half a unit at least, which is more than 1/(2·unit + 1)
 abbrev finer : Grid → ℕ
@@ -63,26 +61,26 @@ room u e E p h =
     let k : 2 * e + 1 ≤ E = omega arith in
     omega (arith, mul-le-mul-right (u * (2 * u + 1)) k)
 
-edge-above : (g : Grid) (s : Sound g) (step e : ℕ) {n : ℕ} → 0 < step → halfUp step e ≡ n
-    → inUnits g s e +/ quotient/ (whole/ 1) (finer g) (finer-positive g) </ upperEdge g s step n
+edge-above : (g : Grid) (step e : ℕ) {n : ℕ} → 0 < step → halfUp step e ≡ n
+    → inUnits g e +/ quotient/ (whole/ 1) (finer g) (finer-positive g) </ upperEdge g step n
 unfolding upperEdge inUnits _+/_ quotient/ whole/
-edge-above g s step e p h =
-    record { cross = room (g .unit) e _ (s .unit-positive) (half-up-high step e p h) }
+edge-above g step e p h =
+    record { cross = room (g .unit) e _ (g .positive) (half-up-high step e p h) }
 
 -- a value between two ends that both round to n steps rounds to n steps
-pub printed-rounds : {g : Grid} {s : Sound g} {step n : ℕ} {v : Exact} (ends : Ends) → 0 < step
-    → AtLeast v (inUnits g s (ends .lower)) → AtMost v (inUnits g s (ends .upper)) → Narrows v
-    → halfUp step (ends .lower) ≡ n → halfUp step (ends .upper) ≡ n → RoundsTo g s step n v
-printed-rounds {g} {s} {step} ends p a b w l u =
+pub printed-rounds : {g : Grid} {step n : ℕ} {v : Exact} (ends : Ends) → 0 < step
+    → AtLeast v (inUnits g (ends .lower)) → AtMost v (inUnits g (ends .upper)) → Narrows v
+    → halfUp step (ends .lower) ≡ n → halfUp step (ends .upper) ≡ n → RoundsTo g step n v
+printed-rounds {g} {step} ends p a b w l u =
     let j = w .order (finer g) in
     let c = w .counts (finer g) in
     record {
-      low = at-least-weaken (edge-below g s step (ends .lower) l) a;
+      low = at-least-weaken (edge-below g step (ends .lower) l) a;
       order = j;
       counts = c;
       high =
           ≤/-</-trans
           (≤/-trans (w .narrow (finer g) (finer-positive g) j (le-refl j))
           (+/-mono (≤/-of-not-</ (b .none-above j c)) (≤/-refl _)))
-          (edge-above g s step (ends .upper) p u);
+          (edge-above g step (ends .upper) p u);
     }

@@ -7,7 +7,6 @@ use Rattle.fraction.specs.Ratio.{Ratio, _≤/_, _</_, _+/_, whole/, quotient/}
 use Rattle.fraction.specs.Bracket.{Bracket}
 use Rattle.taylor.specs.Order.{leastOrder}
 use Rattle.expo.specs.Grid.{Grid}
-use Rattle.expo.specs.Facts.{Sound}
 
 -- order j has it between `v j .least` and `v j .most`
 abbrev pub Exact : Type 0
@@ -23,28 +22,28 @@ pub record AtMost (v : Exact) (c : Ratio) : Type 0 where
 
 -- the lower half-edge of n steps, each of `step` units: n − 1/2 steps, in halves of a unit. At n = 0 it lies below 0, and
 -- the difference makes it 0: every value, being a fraction of at least 0, is at least both.
-unfoldable pub lowerEdge : (g : Grid) → Sound g → ℕ → ℕ → Ratio
-lowerEdge g s step n =
-    record { num = (2 * n - 1) * step; den = 2 * g .unit; positive = mul-pos (lit< tt) (s .unit-positive) }
+unfoldable pub lowerEdge : Grid → ℕ → ℕ → Ratio
+lowerEdge g step n =
+    record { num = (2 * n - 1) * step; den = 2 * g .unit; positive = mul-pos (lit< tt) (g .positive) }
 
 -- the upper half-edge: n + 1/2 steps
-unfoldable pub upperEdge : (g : Grid) → Sound g → ℕ → ℕ → Ratio
-upperEdge g s step n =
-    record { num = (2 * n + 1) * step; den = 2 * g .unit; positive = mul-pos (lit< tt) (s .unit-positive) }
+unfoldable pub upperEdge : Grid → ℕ → ℕ → Ratio
+upperEdge g step n =
+    record { num = (2 * n + 1) * step; den = 2 * g .unit; positive = mul-pos (lit< tt) (g .positive) }
 
 -- "It rounds to a step when it is at least the step's lower half-edge and some order lies wholly below its upper
 -- half-edge": to n steps
-pub record RoundsTo (g : Grid) (s : Sound g) (step n : ℕ) (v : Exact) : Type 0 where
-  pub low : AtLeast v (lowerEdge g s step n)
+pub record RoundsTo (g : Grid) (step n : ℕ) (v : Exact) : Type 0 where
+  pub low : AtLeast v (lowerEdge g step n)
   pub order : ℕ
   pub counts : leastOrder ≤ order
-  pub high : v order .most </ upperEdge g s step n
+  pub high : v order .most </ upperEdge g step n
 
 -- both exact values round to one step
-pub record OneStep (g : Grid) (s : Sound g) (step : ℕ) (v v′ : Exact) : Type 0 where
+pub record OneStep (g : Grid) (step : ℕ) (v v′ : Exact) : Type 0 where
   pub steps : ℕ
-  pub first : RoundsTo g s step steps v
-  pub second : RoundsTo g s step steps v′
+  pub first : RoundsTo g step steps v
+  pub second : RoundsTo g step steps v′
 
 -- "Brackets are shown to narrow past any whole fraction": from an order that counts on they are at most 1/M wide.
 pub record Narrows (v : Exact) : Type 0 where

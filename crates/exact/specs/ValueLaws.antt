@@ -4,9 +4,8 @@ use Prim.Native.Nat.{ℕ, _≤_}
 use Rattle.fraction.specs.Ratio.{Ratio, _≤/_}
 use Rattle.fraction.specs.RatioLaws.{</-≤/-trans, ≤/-</-trans, not-</-of-≤/}
 use Rattle.taylor.specs.Order.{leastOrder}
-use Rattle.expo.specs.Grid.{Grid, Ends}
-use Rattle.expo.specs.Facts.{Sound}
-use Rattle.expo.specs.Overlap.{Overlap, inUnits}
+use Rattle.expo.specs.Grid.{Grid, Ends, inUnits}
+use Rattle.expo.specs.Overlap.{Overlap}
 use Rattle.exact.specs.Value.{Exact, AtLeast, AtMost}
 
 -- at least c is at least what is at most c
@@ -18,10 +17,10 @@ pub at-most-weaken : {v : Exact} {c d : Ratio} → c ≤/ d → AtMost v c → A
 at-most-weaken h a = record { none-above = λ j l k. a .none-above j l (≤/-</-trans h k) }
 
 -- a value whose every order the ends overlap lies between them
-pub overlap-at-least : {g : Grid} {s : Sound g} {ends : Ends} {v : Exact}
-    → ((j : ℕ) → leastOrder ≤ j → Overlap g s ends (v j .least) (v j .most)) → AtLeast v (inUnits g s (ends .lower))
+pub overlap-at-least : {g : Grid} {ends : Ends} {v : Exact}
+    → ((j : ℕ) → leastOrder ≤ j → Overlap g ends (v j .least) (v j .most)) → AtLeast v (inUnits g (ends .lower))
 overlap-at-least o = record { none-below = λ j l. not-</-of-≤/ (o j l .below) }
 
-pub overlap-at-most : {g : Grid} {s : Sound g} {ends : Ends} {v : Exact}
-    → ((j : ℕ) → leastOrder ≤ j → Overlap g s ends (v j .least) (v j .most)) → AtMost v (inUnits g s (ends .upper))
+pub overlap-at-most : {g : Grid} {ends : Ends} {v : Exact}
+    → ((j : ℕ) → leastOrder ≤ j → Overlap g ends (v j .least) (v j .most)) → AtMost v (inUnits g (ends .upper))
 overlap-at-most o = record { none-above = λ j l. not-</-of-≤/ (o j l .above) }

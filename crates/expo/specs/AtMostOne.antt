@@ -11,17 +11,16 @@ use Rattle.fraction.specs.Ratio.{whole/}
 use Rattle.fraction.specs.RatioLaws.{≤/-trans}
 use Rattle.taylor.specs.Taylor.{taylorDen, taylorNum}
 use Rattle.taylor.specs.OrderLaws.{upper-below-one}
-use Rattle.expo.specs.Grid.{Grid}
+use Rattle.expo.specs.Grid.{Grid, inUnits}
 use Rattle.expo.specs.Exponential.{step, cutoffUnits, constantLower, constantUpper, expLower, expUpper}
 use Rattle.expo.specs.Facts.{Sound}
-use Rattle.expo.specs.Overlap.{inUnits}
 use Rattle.expo.specs.Soundness.{step-positive, steps-below, constant-lower}
 use Rattle.expo.specs.Holds.{lower-holds}
 use Rattle.expo.specs.Width.{sum-upper-bound}
 
 pub exp-lower-one : (g : Grid) (s : Sound g) (z : ℕ) → expLower g z ≤ g .unit
 unfolding inUnits whole/
-exp-lower-one g s z = omega (arith, ≤/-trans (lower-holds g s z 0) (upper-below-one (inUnits g s z) 0) .cross)
+exp-lower-one g s z = omega (arith, ≤/-trans (lower-holds g s z 0) (upper-below-one (inUnits g z) 0) .cross)
 
 -- c·(1 + t/U) ≤ U with t > 0
 first-algebra : (c U t : ℕ) → 0 < U → 0 < t → c * (1 * (U * 1) + t) ≤ U * (1 * (U * 1)) → c < U
@@ -36,7 +35,7 @@ constant-upper-one : (g : Grid) → Sound g → (n : ℕ) → n < length (g .con
 unfolding constantUpper taylorNum taylorDen
 constant-upper-one g s zero l = le-refl (g .unit)
 constant-upper-one g s (suc n) l =
-    first-algebra (constantLower g (suc n)) (g .unit) (suc n * step g) (s .unit-positive)
+    first-algebra (constantLower g (suc n)) (g .unit) (suc n * step g) (g .positive)
     (mul-pos {m = suc n} (omega arith) (step-positive g s))
     (rw (power-one (suc n * step g)) at (constant-lower g s (suc n) l (suc zero)))
 
@@ -46,7 +45,7 @@ exp-upper-one g s z =
     elim (decLt z (cutoffUnits g)) [
       | yes l ↦
           rw (lt-ltb z (cutoffUnits g) l)
-          (ceilℕ-least (g .unit) _ (s .unit-positive)
+          (ceilℕ-least (g .unit) _ (g .positive)
           (mul-le-mul (sum-upper-bound g (z % step g)) (constant-upper-one g s (z / step g) (steps-below g s z l))))
-      | no l ↦ rw (le-ltb z (cutoffUnits g) (omega arith)) (s .unit-positive)
+      | no l ↦ rw (le-ltb z (cutoffUnits g) (omega arith)) (g .positive)
     ]

@@ -3,6 +3,7 @@
 -- logarithm.
 use mathlib.Core.List.{List, [], _∷_}
 use Prim.Native.Nat.{ℕ}
+use lib.Dec.{lit<}
 use Rattle.expo.specs.Grid.{Grid}
 
 -- the whole parts of 10^9·e^−(n/2)
@@ -16,6 +17,7 @@ abbrev pub billionths : Grid
 billionths =
     record {
       unit = 1000000000;
+      positive = lit< tt;
       steps = 2;
       constants = wholeParts;
       cutoff = 21;

@@ -47,7 +47,6 @@ pub billionths-sound : Sound billionths
 unfolding constantLower taylorDen taylorNum double wholeParts
 billionths-sound =
     record {
-      unit-positive = lit< tt;
       steps-positive = lit< tt;
       whole-step = refl;
       upperPairs = 6;

@@ -8,7 +8,6 @@ use Rattle.expo.specs.Grid.{Grid}
 use Rattle.expo.specs.Exponential.{step, constantLower, constantUpper}
 
 pub record Sound (g : Grid) : Type 0 where
-  pub unit-positive : 0 < g .unit
   -- a step of the constants is a whole number of units
   pub steps-positive : 0 < g .steps
   pub whole-step : g .steps * step g ≡ g .unit

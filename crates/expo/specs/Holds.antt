@@ -6,26 +6,26 @@ use Rattle.fraction.specs.Ratio.{Ratio, _≤/_}
 use Rattle.fraction.specs.RatioLaws.{≤/-trans}
 use Rattle.taylor.specs.Order.{orderLower, orderUpper}
 use Rattle.taylor.specs.OrderLaws.{lower-antitone, upper-antitone}
-use Rattle.expo.specs.Grid.{Grid, Ends}
+use Rattle.expo.specs.Grid.{Grid, Ends, inUnits}
 use Rattle.expo.specs.Exponential.{expLower, expUpper, expBetween}
 use Rattle.expo.specs.Facts.{Sound}
-use Rattle.expo.specs.Overlap.{inUnits, Overlap}
+use Rattle.expo.specs.Overlap.{Overlap}
 use Rattle.expo.specs.Soundness.{lower-sound, upper-sound}
 
 module _ (g : Grid) (s : Sound g) where
   -- the lower end at z is at most every order's upper end
-  pub lower-holds : (z j : ℕ) → inUnits g s (expLower g z) ≤/ orderUpper (inUnits g s z) j
+  pub lower-holds : (z j : ℕ) → inUnits g (expLower g z) ≤/ orderUpper (inUnits g z) j
   unfolding inUnits orderUpper
   lower-holds z j = record { cross = omega (arith, lower-sound g s z j) }
 
   -- the upper end at z is at least every order's lower end
-  pub upper-holds : (z j : ℕ) → orderLower (inUnits g s z) j ≤/ inUnits g s (expUpper g z)
+  pub upper-holds : (z j : ℕ) → orderLower (inUnits g z) j ≤/ inUnits g (expUpper g z)
   unfolding inUnits orderLower
   upper-holds z j = record { cross = omega (arith, upper-sound g s z j) }
 
   -- where the two ends of z overlap an order's interval of z, those of the exponential overlap the order's
-  pub exp-overlap : (z : Ends) (least most : Ratio) (j : ℕ) → Overlap g s z least most
-      → Overlap g s (expBetween g z) (orderLower most j) (orderUpper least j)
+  pub exp-overlap : (z : Ends) (least most : Ratio) (j : ℕ) → Overlap g z least most
+      → Overlap g (expBetween g z) (orderLower most j) (orderUpper least j)
   unfolding expBetween
   exp-overlap z least most j o =
       record {

@@ -96,7 +96,7 @@ module _ (g : Grid) (s : Sound g) (w : Narrow g s) (f : ℕ) (small : f ≤ g .u
   unfolding taylorDen slackUpper
   near-upper-terms j =
       let h = s .upperPairs in
-      let up = s .unit-positive in
+      let up = g .positive in
       let e : total slack (suc (g .lastUpper)) ≡ evenTotal slack h + oddTotal slack h =
       ap (λ (m : ℕ). total slack (suc m)) (s .upper-last) ∙ sym (both-even slack h) in
       rw (evens-even (termUpper g f) h (g .lastUpper) (s .upper-last), odds-even (termLower g f) h (g .lastUpper) (s .upper-last), e)
@@ -111,7 +111,7 @@ module _ (g : Grid) (s : Sound g) (w : Narrow g s) (f : ℕ) (small : f ≤ g .u
   unfolding slackLower taylorDen double evenNum
   near-lower-terms =
       let h = s .lowerPairs in
-      let up = s .unit-positive in
+      let up = g .positive in
       let D = taylorDen (g .unit) (double h) in
       let W = (g .unit * suc (double h)) * (g .unit * suc (suc (double h))) in
       let e : total slack (suc (g .lastLower)) ≡ evenTotal slack h + oddTotal slack (suc h) =
@@ -147,12 +147,12 @@ module _ (g : Grid) (s : Sound g) (w : Narrow g s) (f : ℕ) (small : f ≤ g .u
   upper-kept =
       le-of-mul-le-mul-right {k = taylorNum f (g .unit) (g .lastUpper)}
       (omega (arith, upper-terms g s f small (g .lastUpper) (le-refl (g .lastUpper))))
-      (taylorNum-positive f (g .unit) (g .lastUpper) (s .unit-positive))
+      (taylorNum-positive f (g .unit) (g .lastUpper) (g .positive))
 
   pub lower-kept : odds (termUpper g f) (g .lastLower) ≤ evens (termLower g f) (g .lastLower)
   lower-kept =
       elim (decLe (odds (termUpper g f) (g .lastLower)) (evens (termLower g f) (g .lastLower))) [
         | yes l ↦ l
         | no l ↦ absurd (not-all-slack (g .unit) _ _ _ _ _ _ _ (w .fine) (sum-monotone f (g .unit) 1 1 (s .order) (omega arith))
-            near-lower-terms (omega arith) (taylorDen-positive (g .unit) (s .order) (s .unit-positive)))
+            near-lower-terms (omega arith) (taylorDen-positive (g .unit) (s .order) (g .positive)))
       ]

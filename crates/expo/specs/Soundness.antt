@@ -30,7 +30,7 @@ factor-small (suc a) b u e h = omega arith
 
 module _ (g : Grid) (s : Sound g) where
   pub step-positive : 0 < step g
-  step-positive = factor-positive (g .steps) (step g) (g .unit) (s .whole-step) (s .unit-positive)
+  step-positive = factor-positive (g .steps) (step g) (g .unit) (s .whole-step) (g .positive)
 
   pub rest-small : (z : ℕ) → z % step g ≤ g .unit
   rest-small z =
@@ -115,23 +115,23 @@ module _ (g : Grid) (s : Sound g) (z : ℕ) where
       elim (decLt z (cutoffUnits g)) [
         | yes l ↦
             rw (lt-ltb z (cutoffUnits g) l)
-            (lower-product (g .unit) _ _ _ _ _ (taylorDen (g .unit) j) _ (s .unit-positive)
-            (taylorDen-positive (g .unit) j (s .unit-positive))
+            (lower-product (g .unit) _ _ _ _ _ (taylorDen (g .unit) j) _ (g .positive)
+            (taylorDen-positive (g .unit) j (g .positive))
             (div-mul-le-self (sumLower g f * constantLower g n) (g .unit))
             (sum-lower g s f (rest-small g s z) j) (constant-lower g s n (steps-below g s z l) j)
             (subst (λ (x : ℕ). taylorNum x (g .unit) j * taylorDen (g .unit) j
             ≤ taylorNum (n * step g) (g .unit) j * taylorNum f (g .unit) j) whole
-            (sum-of-sum (n * step g) f (g .unit) j (s .unit-positive))))
+            (sum-of-sum (n * step g) f (g .unit) j (g .positive))))
         | no l ↦ rw (le-ltb z (cutoffUnits g) (omega arith)) (omega arith)
       ]
 
   -- from the cut-off on s is at least the unit
   pub far : cutoffUnits g ≤ z → (j : ℕ) → s .order ≤ j → g .unit * taylorDen (g .unit) j ≤ 1 * taylorNum z (g .unit) j
   far l j k =
-      later-algebra (g .unit) 1 _ (taylorDen (g .unit) (s .order)) _ _ (taylorDen-positive (g .unit) (s .order) (s .unit-positive))
+      later-algebra (g .unit) 1 _ (taylorDen (g .unit) (s .order)) _ _ (taylorDen-positive (g .unit) (s .order) (g .positive))
       (far-algebra (g .unit) _ _ _ _ (taylorDen-positive 1 (s .order) (omega arith)) (s .cutoff-far)
       (sum-monotone (g .cutoff) 1 z (g .unit) (s .order) (omega arith)))
-      (sum-grows z (g .unit) (s .order) j (s .unit-positive) k)
+      (sum-grows z (g .unit) (s .order) j (g .positive) k)
 
   pub upper-at : g .unit * taylorDen (g .unit) (s .order + s .order) ≤ expUpper g z * taylorNum z (g .unit) (s .order + s .order)
   unfolding expUpper n f
@@ -139,15 +139,15 @@ module _ (g : Grid) (s : Sound g) (z : ℕ) where
       elim (decLt z (cutoffUnits g)) [
         | yes l ↦
             rw (lt-ltb z (cutoffUnits g) l)
-            (upper-product (g .unit) _ (sumUpper g f) (constantUpper g n) _ _ (taylorDen (g .unit) (s .order)) _ _ (s .unit-positive)
-            (taylorDen-positive (g .unit) (s .order) (s .unit-positive))
-            (ceilℕ-encloses (sumUpper g f * constantUpper g n) (s .unit-positive) .0)
+            (upper-product (g .unit) _ (sumUpper g f) (constantUpper g n) _ _ (taylorDen (g .unit) (s .order)) _ _ (g .positive)
+            (taylorDen-positive (g .unit) (s .order) (g .positive))
+            (ceilℕ-encloses (sumUpper g f * constantUpper g n) (g .positive) .0)
             (sum-upper g s f (rest-small g s z) (s .order) (rw (s .upper-last) (s .upper-order)))
             (constant-upper g s n (steps-below g s z l))
             (subst (λ (x : ℕ). taylorNum (n * step g) (g .unit) (s .order) * taylorNum f (g .unit) (s .order)
             * taylorDen (g .unit) (s .order + s .order)
             ≤ taylorNum x (g .unit) (s .order + s .order) * (taylorDen (g .unit) (s .order) * taylorDen (g .unit) (s .order))) whole
-            (product-of-sums (n * step g) f (g .unit) (s .order) (s .order) (s .unit-positive))))
+            (product-of-sums (n * step g) f (g .unit) (s .order) (s .order) (g .positive))))
         | no l ↦ rw (le-ltb z (cutoffUnits g) (omega arith)) (far (omega arith) (s .order + s .order) (omega arith))
       ]
 
@@ -155,5 +155,5 @@ module _ (g : Grid) (s : Sound g) (z : ℕ) where
   pub upper-sound : (j : ℕ) → g .unit * stretchedDen z (g .unit) j ≤ expUpper g z * stretchedNum z (g .unit) j
   upper-sound j =
       later-algebra (g .unit) (expUpper g z) _ (taylorDen (g .unit) (s .order + s .order)) _ _
-      (taylorDen-positive (g .unit) (s .order + s .order) (s .unit-positive)) upper-at
-      (sum-below-stretched z (g .unit) j (s .order + s .order) (s .unit-positive))
+      (taylorDen-positive (g .unit) (s .order + s .order) (g .positive)) upper-at
+      (sum-below-stretched z (g .unit) j (s .order + s .order) (g .positive))

@@ -85,7 +85,7 @@ module _ (g : Grid) (s : Sound g) (f : ℕ) (small : f ≤ g .unit) where
       ≤ evens (termUpper g f) (g .lastUpper) * taylorNum f (g .unit) j
   upper-terms j l =
       let h = s .upperPairs in
-      let up = s .unit-positive in
+      let up = g .positive in
       let l′ : double h ≤ j = rw (s .upper-last) at l in
       rw (evens-even (termUpper g f) h (g .lastUpper) (s .upper-last), odds-even (termLower g f) h (g .lastUpper) (s .upper-last))
       (upper-algebra _ _ _ _ _ _ _ _ (taylorDen-positive (g .unit) (double h) up) (even-above f (g .unit) h j small up l′)
@@ -98,7 +98,7 @@ module _ (g : Grid) (s : Sound g) (f : ℕ) (small : f ≤ g .unit) where
   unfolding taylorDen total
   lower-terms j =
       let h = s .lowerPairs in
-      let up = s .unit-positive in
+      let up = g .positive in
       rw (evens-odd (termLower g f) h (g .lastLower) (s .lower-last), odds-odd (termUpper g f) h (g .lastLower) (s .lower-last))
       (lower-algebra (g .unit) (taylorDen (g .unit) (double h)) (g .unit * suc (double h)) _ _ _ _ _ _ _ _
       (taylorDen-positive (g .unit) (suc (double h)) up) (odd-below f (g .unit) h j small up)

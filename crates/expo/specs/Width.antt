@@ -126,7 +126,7 @@ module _ (g : Grid) (s : Sound g) (w : Narrow g s) where
       → 9 * taylorNum (n * step g) (g .unit) j + S * taylorDen (g .unit) j ≤ S * taylorNum (n * step g) (g .unit) j
   margin n j S l k m =
       margin-algebra (g .steps) (step g) _ _ S (n * step g) (g .unit) (s .whole-step) (step-positive g s)
-      (rw (first-num (n * step g) (g .unit), first-den (g .unit)) at (sum-grows (n * step g) (g .unit) 1 j (s .unit-positive) k))
+      (rw (first-num (n * step g) (g .unit), first-den (g .unit)) at (sum-grows (n * step g) (g .unit) 1 j (g .positive) k))
       (omega (arith, mul-le-mul-right (step g) l)) m
 
   -- below the cut-off, by the number n of steps
@@ -135,32 +135,32 @@ module _ (g : Grid) (s : Sound g) (w : Narrow g s) where
       ≤ 3 * (g .unit * taylorDen (g .unit) j) + slackUpper g * taylorNum (n * step g + f) (g .unit) j
   unfolding constantUpper
   upper-below zero f j l k i =
-      rw (ceilℕ-exact (sumUpper g f) (s .unit-positive), zero-mul (step g), zero-add f) (sum-upper-near g s w f l j)
+      rw (ceilℕ-exact (sumUpper g f) (g .positive), zero-mul (step g), zero-add f) (sum-upper-near g s w f l j)
   upper-below (suc n) f j l k i =
-      upper-whole (g .unit) _ _ _ (slackUpper g) _ (taylorDen-positive (g .unit) j (s .unit-positive))
-      (upper-core (g .unit) _ (sumUpper g f) (constantLower g (suc n)) _ _ _ _ (s .unit-positive)
-      (le-of-lt (ceilℕ-encloses _ (s .unit-positive) .1)) (sum-upper-near g s w f l j) (constant-lower g s (suc n) k j)
+      upper-whole (g .unit) _ _ _ (slackUpper g) _ (taylorDen-positive (g .unit) j (g .positive))
+      (upper-core (g .unit) _ (sumUpper g f) (constantLower g (suc n)) _ _ _ _ (g .positive)
+      (le-of-lt (ceilℕ-encloses _ (g .positive) .1)) (sum-upper-near g s w f l j) (constant-lower g s (suc n) k j)
       (sum-upper-bound g f) (margin (suc n) j (slackUpper g) (omega arith) i (w .upper-slack)))
-      (sum-of-sum (suc n * step g) f (g .unit) j (s .unit-positive))
+      (sum-of-sum (suc n * step g) f (g .unit) j (g .positive))
 
   lower-below : (n f : ℕ) → f ≤ g .unit → n < length (g .constants)
       → 3 * (g .unit * taylorDen (g .unit) (s .order + s .order))
       ≤ (3 * (sumLower g f * constantLower g n / g .unit) + slackLower g) * taylorNum (n * step g + f) (g .unit) (s .order + s .order)
   unfolding constantUpper
   lower-below zero f l k =
-      rw (s .constant-first, floorℕ-exact (sumLower g f) (s .unit-positive), zero-mul (step g), zero-add f)
-      (later (g .unit) _ _ (taylorDen (g .unit) (s .order)) _ _ (taylorDen-positive (g .unit) (s .order) (s .unit-positive))
-      (sum-lower-near g s w f l) (sum-grows f (g .unit) (s .order) (s .order + s .order) (s .unit-positive) (omega arith)))
+      rw (s .constant-first, floorℕ-exact (sumLower g f) (g .positive), zero-mul (step g), zero-add f)
+      (later (g .unit) _ _ (taylorDen (g .unit) (s .order)) _ _ (taylorDen-positive (g .unit) (s .order) (g .positive))
+      (sum-lower-near g s w f l) (sum-grows f (g .unit) (s .order) (s .order + s .order) (g .positive) (omega arith)))
   lower-below (suc n) f l k =
-      lower-whole (g .unit) _ _ (taylorDen (g .unit) (s .order)) _ _ (taylorDen-positive (g .unit) (s .order) (s .unit-positive))
-      (lower-core (g .unit) _ (sumLower g f) (constantLower g (suc n)) _ _ _ (slackLower g) (s .unit-positive)
-      (omega (arith, lt-div-mul-add {a = sumLower g f * constantLower g (suc n)} (s .unit-positive)))
+      lower-whole (g .unit) _ _ (taylorDen (g .unit) (s .order)) _ _ (taylorDen-positive (g .unit) (s .order) (g .positive))
+      (lower-core (g .unit) _ (sumLower g f) (constantLower g (suc n)) _ _ _ (slackLower g) (g .positive)
+      (omega (arith, lt-div-mul-add {a = sumLower g f * constantLower g (suc n)} (g .positive)))
       (sum-lower-near g s w f l) (constant-upper g s (suc n) k) (constant-lower g s (suc n) k (s .order))
-      (below-by-sums _ _ _ _ (taylorNum-positive f (g .unit) (s .order) (s .unit-positive)) (sum-lower g s f l (s .order))
+      (below-by-sums _ _ _ _ (taylorNum-positive f (g .unit) (s .order) (g .positive)) (sum-lower g s f l (s .order))
       (sum-at-least-one f (g .unit) (s .order)))
       (small-slack (slackLower g) (g .unit) _ _ (taylorDen-positive 1 (s .order) (omega arith)) (w .fine) (sum-at-least-one 1 1 (s .order)))
       (margin (suc n) (s .order) (slackLower g) (omega arith) one-order (w .lower-slack)))
-      (product-of-sums (suc n * step g) f (g .unit) (s .order) (s .order) (s .unit-positive))
+      (product-of-sums (suc n * step g) f (g .unit) (s .order) (s .order) (g .positive))
 
   -- the upper end at z is at most unit/s and its slack
   pub upper-near : (z j : ℕ) → 1 ≤ j
@@ -204,8 +204,8 @@ module _ (g : Grid) (s : Sound g) (w : Narrow g s) where
   exp-width z d =
       let J = s .order + s .order in
       thirds _ _ _ _ _
-      (width-algebra (g .unit) _ _ _ _ d _ _ _ _ (s .unit-positive)
-      (taylorNum-positive z (g .unit) J (s .unit-positive)) (taylorNum-positive d (g .unit) J (s .unit-positive))
-      (taylorDen-positive (g .unit) J (s .unit-positive))
-      (upper-near z J (omega (arith, one-order))) (lower-near (z + d)) (sum-of-sum z d (g .unit) J (s .unit-positive))
+      (width-algebra (g .unit) _ _ _ _ d _ _ _ _ (g .positive)
+      (taylorNum-positive z (g .unit) J (g .positive)) (taylorNum-positive d (g .unit) J (g .positive))
+      (taylorDen-positive (g .unit) J (g .positive))
+      (upper-near z J (omega (arith, one-order))) (lower-near (z + d)) (sum-of-sum z d (g .unit) J (g .positive))
       (sum-slope d (g .unit) J) (sum-at-least-one z (g .unit) J))

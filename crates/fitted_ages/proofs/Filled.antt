@@ -13,7 +13,8 @@ use lib.Seq.{take-suc-set, take-all}
 use lib.Ieee.Bits.{is-true}
 use mir.Facts.{yes-and}
 use Rattle.whole.specs.Bound.{under-weaken}
-use Rattle.whole.specs.Table.{listed, listed-more}
+use Rattle.whole.specs.Listed.{listed}
+use Rattle.whole.specs.Table.{listed-more}
 use Rattle.expo.specs.Billionths.{billionths}
 use Rattle.expo.specs.Exponential.{expBetween}
 use Rattle.params.specs.declared.Params.{Params}

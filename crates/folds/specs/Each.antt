@@ -3,7 +3,7 @@ use mathlib.Core.List.{List, [], _∷_, map, Forall₂, Forall₂·nil, Forall�
 use Prim.Native.Nat.{ℕ, zero, suc, _+_, _<_}
 use native.Mathlib.Omega.{arith}
 use lib.ListN.{length, take, getD}
-use Rattle.whole.specs.Table.{listed}
+use Rattle.whole.specs.Listed.{listed}
 
 pub data Each {A : Type 0} (P : A → Type 0) : List A → Type 0 where
   none : Each P []

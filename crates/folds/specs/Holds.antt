@@ -12,10 +12,9 @@ use Rattle.fraction.specs.Ratio.{_≤/_, whole/, quotient/, _+/_, _*/_}
 use Rattle.fraction.specs.RatioLaws.{≤/-trans, +/-mono, */-mono}
 use Rattle.fraction.specs.Bracket.{Bracket}
 use Rattle.fraction.specs.Places.{places-length, places-take}
-use Rattle.expo.specs.Grid.{Grid, Ends}
+use Rattle.expo.specs.Grid.{Grid, Ends, inUnits}
 use Rattle.expo.specs.Billionths.{billionths}
-use Rattle.expo.specs.Facts.{Sound}
-use Rattle.expo.specs.Overlap.{inUnits, Overlap}
+use Rattle.expo.specs.Overlap.{Overlap}
 use Rattle.folds.specs.Folds.{one, half, withFactor, survivalFrom, survivalOver, survivalsOver, plus, sumOver, expectancyOver}
 use Rattle.folds.specs.Exact.{
   exactly,
@@ -36,26 +35,26 @@ Even g = 2 * (g .unit / 2) ≡ g .unit
 pub billionths-even : Even billionths
 billionths-even = refl
 
-module _ (g : Grid) (s : Sound g) where
+module _ (g : Grid) where
   -- the ends of a value overlap a bracket of it
   abbrev pub Over : Ends → Bracket → Type 0
-  Over e b = Overlap g s e (b .least) (b .most)
+  Over e b = Overlap g e (b .least) (b .most)
 
   -- ---- products and sums of units
 
-  floor-below : (a b : ℕ) → inUnits g s (a * b / g .unit) ≤/ inUnits g s a */ inUnits g s b
+  floor-below : (a b : ℕ) → inUnits g (a * b / g .unit) ≤/ inUnits g a */ inUnits g b
   unfolding inUnits _*/_
-  floor-below a b = record { cross = omega (arith, mul-le-mul-right (g .unit) (floorℕ-encloses (a * b) (s .unit-positive) .0)) }
+  floor-below a b = record { cross = omega (arith, mul-le-mul-right (g .unit) (floorℕ-encloses (a * b) (g .positive) .0)) }
 
-  ceil-above : (a b : ℕ) → inUnits g s a */ inUnits g s b ≤/ inUnits g s (ceilDivℕ (a * b) (g .unit))
+  ceil-above : (a b : ℕ) → inUnits g a */ inUnits g b ≤/ inUnits g (ceilDivℕ (a * b) (g .unit))
   unfolding inUnits _*/_
-  ceil-above a b = record { cross = omega (arith, mul-le-mul-right (g .unit) (ceilℕ-encloses (a * b) (s .unit-positive) .0)) }
+  ceil-above a b = record { cross = omega (arith, mul-le-mul-right (g .unit) (ceilℕ-encloses (a * b) (g .positive) .0)) }
 
-  sum-below : (a b : ℕ) → inUnits g s (a + b) ≤/ inUnits g s a +/ inUnits g s b
+  sum-below : (a b : ℕ) → inUnits g (a + b) ≤/ inUnits g a +/ inUnits g b
   unfolding inUnits _+/_
   sum-below a b = record { cross = omega arith }
 
-  sum-above : (a b : ℕ) → inUnits g s a +/ inUnits g s b ≤/ inUnits g s (a + b)
+  sum-above : (a b : ℕ) → inUnits g a +/ inUnits g b ≤/ inUnits g (a + b)
   unfolding inUnits _+/_
   sum-above a b = record { cross = omega arith }
 

@@ -10,7 +10,7 @@ use lib.Signed.{nonNeg}
 use mir.Syntax.{w64}
 use mir.Val.{Fits, SFits}
 use mir.Facts.{toZ-ofZ}
-use Rattle.whole.specs.Split.{below}
+use Rattle.whole.specs.Parts.{below}
 use Rattle.whole.specs.Sign.{below-sign, below-size}
 use Rattle.whole.specs.Bound.{bits, Under, under-pos, under-weaken, under-add, fits, back}
 use Rattle.whole.specs.DivisionLaws.{ceilℕ-least}

@@ -1,6 +1,6 @@
 -- From a log force in range to z, and from p to q, on a grid (paper 01, "The grid").
 use Prim.Native.Nat.{_-_}
-use Rattle.whole.specs.Split.{below}
+use Rattle.whole.specs.Parts.{below}
 use Rattle.whole.specs.SignedEnds.{SignedEnds}
 use Rattle.expo.specs.Grid.{Grid, Ends}
 

@@ -8,7 +8,8 @@ use native.Mathlib.Nat.{mul-le-mul-right, le-of-mul-le-mul-right}
 use native.Mathlib.Omega.{arith}
 use lib.IntN.{ℤ, pos, negℤ, natAbs, _+ℤ_, _*ℤ_}
 use lib.Signed.{_≤ℤ_}
-use Rattle.whole.specs.Split.{split, above, below}
+use Rattle.whole.specs.Parts.{above, below}
+use Rattle.whole.specs.Split.{split}
 use Rattle.fraction.specs.Ratio.{Ratio, _≤/_, whole/, _+/_, sum/}
 use Rattle.fraction.specs.Fraction.{Fraction, _≤ℚ_, _≈ℚ_, wholeℚ, signed, absolute, _+ℚ_, negℚ, _*ℚ_, scaleℚ, quotientℚ, divideℚ, sumℚ}
 use Rattle.fraction.specs.RatioLaws.{whole/-positive}

@@ -1,14 +1,14 @@
 -- The kinds of figure (paper 01, "Figures on offer"; paper 02, E1 and E2): of each the fold, the path and the years; and of each fold
 -- the path's length, the longest span, the step and how far apart the ends may lie.
-use mathlib.Core.Bool.{Bool, true, false}
+use mathlib.Core.Bool.{Bool, true, false, cond}
 use mathlib.Core.Path.{_≡_}
 use Prim.Native.Nat.{ℕ, suc, _-_}
+use lib.Dec.{ltb}
 use lib.IntN.{ℤ, pos, natAbs}
 use Rattle.params.specs.Limits.{quoteYears, lastYears}
-use Rattle.weights.specs.Weights.{lastClosed}
+use Rattle.weights.specs.Weights.{firstClosed, lastClosed}
 use Rattle.exact.specs.Figure.{probabilityStep, expectancyStep}
 use Rattle.paths.specs.Values as path
-use Rattle.paths.specs.Width.{ageLimit, survivalLimit, expectancyLimit}
 use Rattle.kinds.specs.declared.Kind.{Kind}
 use Rattle.kinds.specs.declared.Kind.the-variants as kind
 use Rattle.kinds.specs.declared.Fold.{Fold}
@@ -109,7 +109,7 @@ decimalsOf (Annuity rate) = 1
 -- "Ends are at most this far apart, in units: q to age 90, 100; q above, 600; survival, 30,000"; of
 -- expectancies and annuities "ends may now lie 10,000,000 units apart".
 unfoldable pub widthOf : Fold → ℕ → ℕ
-widthOf Death x = ageLimit x
-widthOf Survival x = survivalLimit
-widthOf Expectancy x = expectancyLimit
-widthOf (Annuity rate) x = expectancyLimit
+widthOf Death x = cond (ltb x firstClosed) 100 600
+widthOf Survival x = 30000
+widthOf Expectancy x = 10000000
+widthOf (Annuity rate) x = 10000000

@@ -10,12 +10,11 @@ use Rattle.taylor.specs.Order.{orderUpper, leastOrder}
 use Rattle.taylor.specs.OrderLaws.{upper-falls, upper-antitone}
 use Rattle.taylor.specs.Positive.{taylorDen-positive, taylorNum-positive}
 use Rattle.taylor.specs.Sums.{sum-monotone}
-use Rattle.expo.specs.Grid.{Grid}
+use Rattle.expo.specs.Grid.{Grid, inUnits}
 use Rattle.expo.specs.Exponential.{expUpper}
 use Rattle.expo.specs.Facts.{Sound}
 use Rattle.expo.specs.WidthFacts.{Narrow, slackUpper}
 use Rattle.expo.specs.Width.{upper-near}
-use Rattle.expo.specs.Overlap.{inUnits}
 use Rattle.logarithm.specs.Half.{half}
 use Rattle.logarithm.specs.Range.{Halving}
 
@@ -37,18 +36,18 @@ module _ (g : Grid) (s : Sound g) (z₀ : ℕ) (h : Halving g z₀) where
   force-half w z l =
       let U = g .unit in
       let D = taylorDen U (h .order) in
-      let p = taylorDen-positive U (h .order) (s .unit-positive) in
+      let p = taylorDen-positive U (h .order) (g .positive) in
       let n : taylorNum z₀ U (h .order) ≤ taylorNum z U (h .order) =
       le-of-mul-le-mul-right {k = D} (sum-monotone z₀ U z U (h .order) (mul-le-mul-right U l)) p in
-      halved U (slackUpper g) D _ (expUpper g z) (taylorNum-positive z U (h .order) (s .unit-positive))
+      halved U (slackUpper g) D _ (expUpper g z) (taylorNum-positive z U (h .order) (g .positive))
       (upper-near g s w z (h .order) (h .some-order)) (larger U (slackUpper g) D _ _ n (h .slack-small) (h .tested))
 
   -- at every order that counts
-  first-half : orderUpper (inUnits g s z₀) (h .order) ≤/ half
+  first-half : orderUpper (inUnits g z₀) (h .order) ≤/ half
   unfolding orderUpper inUnits half
-  first-half = record { cross = omega (arith, twice-below (g .unit) (slackUpper g) _ _ (s .unit-positive) (h .tested)) }
+  first-half = record { cross = omega (arith, twice-below (g .unit) (slackUpper g) _ _ (g .positive) (h .tested)) }
 
-  pub order-force-half : {z : Ratio} (j : ℕ) → inUnits g s z₀ ≤/ z → leastOrder ≤ j → orderUpper z j ≤/ half
+  pub order-force-half : {z : Ratio} (j : ℕ) → inUnits g z₀ ≤/ z → leastOrder ≤ j → orderUpper z j ≤/ half
   order-force-half {z} j l k =
       ≤/-trans (upper-antitone j l)
-      (≤/-trans (upper-falls (inUnits g s z₀) (h .order) j (le-trans (h .counted) k)) first-half)
+      (≤/-trans (upper-falls (inUnits g z₀) (h .order) j (le-trans (h .counted) k)) first-half)

@@ -8,9 +8,8 @@ use Rattle.whole.specs.Division.{ceilDivℕ}
 use Rattle.whole.specs.DivisionLaws.{floorℕ-encloses, ceilℕ-encloses}
 use Rattle.fraction.specs.Ratio.{Ratio, _≤/_, _+/_, _*/_, whole/}
 use Rattle.fraction.specs.RatioLaws.{≤/-trans, ≤/-+/, +/-mono}
-use Rattle.expo.specs.Grid.{Grid, Ends}
-use Rattle.expo.specs.Facts.{Sound}
-use Rattle.expo.specs.Overlap.{inUnits, Overlap}
+use Rattle.expo.specs.Grid.{Grid, Ends, inUnits}
+use Rattle.expo.specs.Overlap.{Overlap}
 use Rattle.logarithm.specs.Logarithm.{powerLower, powerUpper, logTermsLower, logTermsUpper, logRest, logLower, logUpper}
 use Rattle.logarithm.specs.Exact.{logTerm, logSum, orderLogLower, orderLogUpper}
 use Rattle.logarithm.specs.Half.{half, logReach}
@@ -25,93 +24,93 @@ term-below U q x n T P h k = omega (arith, mul-le-mul-right T h)
 term-above : (U q x m n T P : ℕ) → m * x ≤ q * n → U * P ≤ x * T → m * P * U ≤ q * (T * n)
 term-above U q x m n T P h k = omega (arith, mul-le-mul-right T h, mul-le-mul-left m k)
 
-module _ (g : Grid) (s : Sound g) where
-  units-add : (a b : ℕ) → inUnits g s (a + b) ≤/ inUnits g s a +/ inUnits g s b
+module _ (g : Grid) where
+  units-add : (a b : ℕ) → inUnits g (a + b) ≤/ inUnits g a +/ inUnits g b
   unfolding inUnits _+/_
   units-add a b = omega arith
 
-  add-units : (a b : ℕ) → inUnits g s a +/ inUnits g s b ≤/ inUnits g s (a + b)
+  add-units : (a b : ℕ) → inUnits g a +/ inUnits g b ≤/ inUnits g (a + b)
   unfolding inUnits _+/_
   add-units a b = omega arith
 
-  units-zero : whole/ 0 ≤/ inUnits g s 0
+  units-zero : whole/ 0 ≤/ inUnits g 0
   unfolding inUnits whole/
   units-zero = omega arith
 
-  zero-units : inUnits g s 0 ≤/ whole/ 0
+  zero-units : inUnits g 0 ≤/ whole/ 0
   unfolding inUnits whole/
   zero-units = omega arith
 
   -- each quotient is on its side of u^k/k
-  quotient-below : (u n : ℕ) → inUnits g s (powerLower g u (suc n) / suc n) ≤/ logTerm (inUnits g s u) n
+  quotient-below : (u n : ℕ) → inUnits g (powerLower g u (suc n) / suc n) ≤/ logTerm (inUnits g u) n
   unfolding inUnits logTerm
   quotient-below u n =
       record {
         cross = term-below (g .unit) _ (powerLower g u (suc n)) (suc n) (g .unit ^ suc n) (u ^ suc n)
-            (floorℕ-encloses _ (omega arith) .0) (power-lower g (s .unit-positive) u (suc n));
+            (floorℕ-encloses _ (omega arith) .0) (power-lower g (g .positive) u (suc n));
       }
 
   -- m·u^k/k is at most a number q of units that is at least m times the upper power over k
   multiple-above : (u n m q : ℕ) → m * powerUpper g u (suc n) ≤ q * suc n
       → m * u ^ suc n * g .unit ≤ q * (g .unit ^ suc n * suc n)
   multiple-above u n m q h =
-      term-above (g .unit) q (powerUpper g u (suc n)) m (suc n) _ (u ^ suc n) h (power-upper g (s .unit-positive) u (suc n))
+      term-above (g .unit) q (powerUpper g u (suc n)) m (suc n) _ (u ^ suc n) h (power-upper g (g .positive) u (suc n))
 
-  quotient-above : (u n : ℕ) → logTerm (inUnits g s u) n ≤/ inUnits g s (ceilDivℕ (powerUpper g u (suc n)) (suc n))
+  quotient-above : (u n : ℕ) → logTerm (inUnits g u) n ≤/ inUnits g (ceilDivℕ (powerUpper g u (suc n)) (suc n))
   unfolding inUnits logTerm
   quotient-above u n =
       let e = ceilℕ-encloses (powerUpper g u (suc n)) {m = suc n} (omega arith) in
       record { cross = omega (arith, multiple-above u n 1 (ceilDivℕ (powerUpper g u (suc n)) (suc n)) (omega arith)) }
 
-  rest-above : (u : ℕ) → whole/ 2 */ logTerm (inUnits g s u) (g .logTerms) ≤/ inUnits g s (logRest g u)
+  rest-above : (u : ℕ) → whole/ 2 */ logTerm (inUnits g u) (g .logTerms) ≤/ inUnits g (logRest g u)
   unfolding inUnits logTerm logRest whole/ _*/_
   rest-above u =
       let e = ceilℕ-encloses (2 * powerUpper g u (suc (g .logTerms))) {m = suc (g .logTerms)} (omega arith) in
       record { cross = omega (arith, multiple-above u (g .logTerms) 2 _ (e .0)) }
 
   -- and so are the sums
-  pub terms-below : (u n : ℕ) → inUnits g s (logTermsLower g u n) ≤/ logSum (inUnits g s u) n
+  pub terms-below : (u n : ℕ) → inUnits g (logTermsLower g u n) ≤/ logSum (inUnits g u) n
   unfolding logTermsLower logSum
   terms-below u zero = zero-units
   terms-below u (suc n) = ≤/-trans (units-add _ _) (+/-mono (terms-below u n) (quotient-below u n))
 
-  pub terms-above : (u n : ℕ) → logSum (inUnits g s u) n ≤/ inUnits g s (logTermsUpper g u n)
+  pub terms-above : (u n : ℕ) → logSum (inUnits g u) n ≤/ inUnits g (logTermsUpper g u n)
   unfolding logTermsUpper logSum
   terms-above u zero = units-zero
   terms-above u (suc n) = ≤/-trans (+/-mono (terms-above u n) (quotient-above u n)) (add-units _ _)
 
-  pub log-reach : (u : ℕ) → logReach (inUnits g s u) (g .logTerms) ≤/ inUnits g s (logUpper g u)
+  pub log-reach : (u : ℕ) → logReach (inUnits g u) (g .logTerms) ≤/ inUnits g (logUpper g u)
   unfolding logReach logUpper
   log-reach u = ≤/-trans (+/-mono (terms-above u (g .logTerms)) (rest-above u)) (add-units _ _)
 
-  pub units-half : (u : ℕ) → 2 * u ≤ g .unit → inUnits g s u ≤/ half
+  pub units-half : (u : ℕ) → 2 * u ≤ g .unit → inUnits g u ≤/ half
   unfolding inUnits half
   units-half u h = omega arith
 
   -- the lower end at u is at most every order's sum, so every order's upper end, at a force of at least u
-  pub log-lower-sum : {v : Ratio} (u j : ℕ) → inUnits g s u ≤/ v → g .logTerms ≤ j
-      → inUnits g s (logLower g u) ≤/ logSum v j
+  pub log-lower-sum : {v : Ratio} (u j : ℕ) → inUnits g u ≤/ v → g .logTerms ≤ j
+      → inUnits g (logLower g u) ≤/ logSum v j
   unfolding logLower
   log-lower-sum u j h l =
       ≤/-trans (terms-below u (g .logTerms))
       (≤/-trans (log-sum-monotone (g .logTerms) h) (log-sum-rises _ (g .logTerms) j l))
 
-  pub log-lower-holds : {v : Ratio} (u j : ℕ) → inUnits g s u ≤/ v → g .logTerms ≤ j
-      → inUnits g s (logLower g u) ≤/ orderLogUpper v j
+  pub log-lower-holds : {v : Ratio} (u j : ℕ) → inUnits g u ≤/ v → g .logTerms ≤ j
+      → inUnits g (logLower g u) ≤/ orderLogUpper v j
   unfolding orderLogUpper
   log-lower-holds u j h l = ≤/-trans (log-lower-sum u j h l) (≤/-+/ _ _)
 
   -- at u ≤ 1/2 the upper end at u is at least every order's lower end at a force of at most u
-  pub log-upper-holds : {v : Ratio} (u j : ℕ) → 2 * u ≤ g .unit → v ≤/ inUnits g s u
-      → orderLogLower v j ≤/ inUnits g s (logUpper g u)
+  pub log-upper-holds : {v : Ratio} (u j : ℕ) → 2 * u ≤ g .unit → v ≤/ inUnits g u
+      → orderLogLower v j ≤/ inUnits g (logUpper g u)
   unfolding orderLogLower
   log-upper-holds u j l h =
       ≤/-trans (log-sum-monotone j h) (≤/-trans (log-sum-below-reach _ (g .logTerms) j (units-half u l)) (log-reach u))
 
   -- where the two ends of a force overlap an order's, those of its logarithm overlap the order's
-  pub log-overlap : (ends : Ends) (least most : Ratio) (j : ℕ) → Overlap g s ends least most → 2 * ends .upper ≤ g .unit
+  pub log-overlap : (ends : Ends) (least most : Ratio) (j : ℕ) → Overlap g ends least most → 2 * ends .upper ≤ g .unit
       → g .logTerms ≤ j
-      → Overlap g s (record { lower = logLower g (ends .lower); upper = logUpper g (ends .upper) })
+      → Overlap g (record { lower = logLower g (ends .lower); upper = logUpper g (ends .upper) })
       (orderLogLower least j) (orderLogUpper most j)
   log-overlap ends least most j o l k =
       record { below = log-lower-holds (ends .lower) j (o .below) k; above = log-upper-holds (ends .upper) j l (o .above) }

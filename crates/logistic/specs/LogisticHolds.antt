@@ -12,10 +12,10 @@ use Rattle.fraction.specs.RatioLaws.{≤/-trans}
 use Rattle.fraction.specs.Fraction.{_≤ℚ_, absolute}
 use Rattle.taylor.specs.Order.{orderLower}
 use Rattle.taylor.specs.OrderLaws.{lower-antitone, upper-antitone, brackets-agree, upper-below-one}
-use Rattle.expo.specs.Grid.{Grid}
+use Rattle.expo.specs.Grid.{Grid, inUnits}
 use Rattle.expo.specs.Exponential.{expLower, expUpper}
 use Rattle.expo.specs.Facts.{Sound}
-use Rattle.expo.specs.Overlap.{inUnits, Overlap}
+use Rattle.expo.specs.Overlap.{Overlap}
 use Rattle.expo.specs.Holds.{lower-holds, upper-holds}
 use Rattle.expo.specs.AtMostOne.{exp-lower-one}
 use Rattle.logistic.specs.Positive.{sum-positive}
@@ -35,7 +35,7 @@ quotient-above : (q P X R Y : ℕ) → 0 < P → X ≤ q * P → Y * P ≤ X * R
 quotient-above q P X R Y p h k = le-of-mul-le-mul-right {k = P} (omega (arith, mul-le-mul-right R h)) p
 
 pub unit-sum-positive : (g : Grid) → Sound g → (E : ℕ) → 0 < g .unit + E
-unit-sum-positive g s E = sum-positive (g .unit) E (s .unit-positive)
+unit-sum-positive g s E = sum-positive (g .unit) E (g .positive)
 
 module _ (g : Grid) (s : Sound g) (E : ℕ) (e : Ratio) where
   U : ℕ
@@ -44,7 +44,7 @@ module _ (g : Grid) (s : Sound g) (E : ℕ) (e : Ratio) where
   P : 0 < g .unit + E
   P = unit-sum-positive g s E
 
-  over-lower : e ≤/ inUnits g s E → inUnits g s (overOneLower g E) ≤/ overOne e
+  over-lower : e ≤/ inUnits g E → inUnits g (overOneLower g E) ≤/ overOne e
   unfolding inUnits overOneLower overOne U
   over-lower h =
       record {
@@ -52,7 +52,7 @@ module _ (g : Grid) (s : Sound g) (E : ℕ) (e : Ratio) where
             (omega (arith, mul-le-mul-left U (h .cross)));
       }
 
-  over-upper : inUnits g s E ≤/ e → overOne e ≤/ inUnits g s (overOneUpper g E)
+  over-upper : inUnits g E ≤/ e → overOne e ≤/ inUnits g (overOneUpper g E)
   unfolding inUnits overOneUpper overOne U
   over-upper h =
       record {
@@ -60,7 +60,7 @@ module _ (g : Grid) (s : Sound g) (E : ℕ) (e : Ratio) where
             (omega (arith, mul-le-mul-left U (h .cross)));
       }
 
-  share-lower : inUnits g s E ≤/ e → inUnits g s (shareLower g E) ≤/ share e
+  share-lower : inUnits g E ≤/ e → inUnits g (shareLower g E) ≤/ share e
   unfolding inUnits shareLower share U
   share-lower h =
       record {
@@ -68,7 +68,7 @@ module _ (g : Grid) (s : Sound g) (E : ℕ) (e : Ratio) where
             (omega (arith, mul-le-mul-left U (h .cross)));
       }
 
-  share-upper : e ≤/ inUnits g s E → share e ≤/ inUnits g s (shareUpper g E)
+  share-upper : e ≤/ inUnits g E → share e ≤/ inUnits g (shareUpper g E)
   unfolding inUnits shareUpper share U
   share-upper h =
       record {
@@ -77,7 +77,7 @@ module _ (g : Grid) (s : Sound g) (E : ℕ) (e : Ratio) where
       }
 
   -- E/(1 + E) ≤ 1/2 ≤ 1/(1 + e) for E and e at most 1, and the other way round
-  half-lower : E ≤ g .unit → e ≤/ whole/ 1 → inUnits g s (shareLower g E) ≤/ overOne e
+  half-lower : E ≤ g .unit → e ≤/ whole/ 1 → inUnits g (shareLower g E) ≤/ overOne e
   unfolding inUnits shareLower overOne whole/ U
   half-lower k h =
       record {
@@ -85,7 +85,7 @@ module _ (g : Grid) (s : Sound g) (E : ℕ) (e : Ratio) where
             (omega (arith, mul-le-mul-right (e .den * U) k, mul-le-mul-left (E * U) (h .cross)));
       }
 
-  half-upper : E ≤ g .unit → e ≤/ whole/ 1 → share e ≤/ inUnits g s (overOneUpper g E)
+  half-upper : E ≤ g .unit → e ≤/ whole/ 1 → share e ≤/ inUnits g (overOneUpper g E)
   unfolding inUnits overOneUpper share whole/ U
   half-upper k h =
       record {
@@ -100,8 +100,8 @@ pub order-lower-one : (z : Ratio) (j : ℕ) → orderLower z j ≤/ whole/ 1
 order-lower-one z j = ≤/-trans (brackets-agree z j j) (upper-below-one z j)
 
 module _ (g : Grid) (s : Sound g) (d : ℕ) (p : 0 < d) where
-  lower-cases : (n a : ℤ) (j : ℕ) → inUnitsℚ g s n ≤ℚ over d p a
-      → inUnits g s (logisticLower g n) ≤/ orderLogisticUpper (over d p a) j
+  lower-cases : (n a : ℤ) (j : ℕ) → inUnitsℚ g n ≤ℚ over d p a
+      → inUnits g (logisticLower g n) ≤/ orderLogisticUpper (over d p a) j
   unfolding logisticLower orderLogisticUpper inUnitsℚ inUnits absolute
   lower-cases (pos n) (pos m) j h =
       over-lower g s (expUpper g n) _ (≤/-trans (lower-antitone j (both-above n m h)) (upper-holds g s n j))
@@ -113,8 +113,8 @@ module _ (g : Grid) (s : Sound g) (d : ℕ) (p : 0 < d) where
       share-lower g s (expLower g (suc n)) _ (≤/-trans (lower-holds g s (suc n) j)
       (upper-antitone j (both-below n m h)))
 
-  upper-cases : (n a : ℤ) (j : ℕ) → over d p a ≤ℚ inUnitsℚ g s n
-      → orderLogisticLower (over d p a) j ≤/ inUnits g s (logisticUpper g n)
+  upper-cases : (n a : ℤ) (j : ℕ) → over d p a ≤ℚ inUnitsℚ g n
+      → orderLogisticLower (over d p a) j ≤/ inUnits g (logisticUpper g n)
   unfolding logisticUpper orderLogisticLower inUnitsℚ inUnits absolute
   upper-cases (pos n) (pos m) j h =
       over-upper g s (expLower g n) _ (≤/-trans (lower-holds g s n j) (upper-antitone j (both-above m n h)))
@@ -126,8 +126,8 @@ module _ (g : Grid) (s : Sound g) (d : ℕ) (p : 0 < d) where
       (upper-holds g s (suc n) j))
 
 -- the force's ends overlap every order's interval of the force
-pub logistic-overlap : (g : Grid) (s : Sound g) (G : SignedEnds) (I : Interval) (j : ℕ) → SignedOverlap g s G I
-    → Overlap g s (logistic g G) (orderLogisticLower (I .least) j) (orderLogisticUpper (I .most) j)
+pub logistic-overlap : (g : Grid) (s : Sound g) (G : SignedEnds) (I : Interval) (j : ℕ) → SignedOverlap g G I
+    → Overlap g (logistic g G) (orderLogisticLower (I .least) j) (orderLogisticUpper (I .most) j)
 unfolding logistic
 logistic-overlap g s G I j o =
     record {

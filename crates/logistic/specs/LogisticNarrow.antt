@@ -6,7 +6,7 @@ use native.Mathlib.Nat.{mul-le-mul-right}
 use native.Mathlib.Omega.{arith}
 use lib.Dec.{lit<}
 use lib.IntN.{ℤ, pos, negsuc}
-use Rattle.whole.specs.Split.{above, below}
+use Rattle.whole.specs.Parts.{above, below}
 use Rattle.whole.specs.Difference.{difference, difference-pos, difference-add, difference-scale}
 use Rattle.fraction.specs.Ratio.{Ratio, _≤/_, whole/, _+/_, quotient/}
 use Rattle.fraction.specs.RatioLaws.{≤/-refl, ≤/-trans, </→≤/, ≤/-+/, +/-mono, +/-comm, +/-assoc}

@@ -117,7 +117,7 @@ module _ (g : Grid) (s : Sound g) (w : Narrow g s) where
   -- an end at distance d of 0
   from-zero : (d : ℕ) → 3 * g .unit ≤ 3 * expLower g d + (3 * d + (slackUpper g + slackLower g))
   from-zero d =
-      near-algebra (g .unit) (g .unit) (expLower g d) d _ (s .unit-positive) (omega arith)
+      near-algebra (g .unit) (g .unit) (expLower g d) d _ (g .positive) (omega arith)
       (rw (exp-upper-zero g s) at (exp-relative-below g s w 0 d d (omega arith)))
 
   width-cases : (a b : ℤ) (d : ℕ) → b ≤ℤ (a +ℤ pos d) → Fine g d
@@ -126,7 +126,7 @@ module _ (g : Grid) (s : Sound g) (w : Narrow g s) where
   width-cases (pos a) (pos b) d h f =
       let E = expUpper g a in
       let F = expLower g b in
-      let c = core (g .unit) E F d _ (s .unit-positive) (exp-upper-one g s a)
+      let c = core (g .unit) E F d _ (g .positive) (exp-upper-one g s a)
       (exp-relative-below g s w a b d (omega split)) (f .small) in
       let r = over-algebra (g .unit) E F _ _ _ (mul-pos (unit-sum-positive g s E) (unit-sum-positive g s F))
       (over-lower-near g s E) (over-upper-near g s F) c in
@@ -134,7 +134,7 @@ module _ (g : Grid) (s : Sound g) (w : Narrow g s) where
   width-cases (negsuc a) (negsuc b) d h f =
       let E = expUpper g (suc b) in
       let F = expLower g (suc a) in
-      let c = core (g .unit) E F d _ (s .unit-positive) (exp-upper-one g s (suc b))
+      let c = core (g .unit) E F d _ (g .positive) (exp-upper-one g s (suc b))
       (exp-relative-below g s w (suc b) (suc a) d (omega (split, split-add (negsuc a) (pos d)))) (f .small) in
       let r = share-algebra (g .unit) E F _ _ _ (mul-pos (unit-sum-positive g s E) (unit-sum-positive g s F))
       (share-lower-near g s F) (share-upper-near g s E) c in
@@ -155,7 +155,7 @@ module _ (g : Grid) (s : Sound g) (w : Narrow g s) where
       let F = expUpper g (suc b) in
       let x = share-at-most-half (g .unit) F _ (unit-sum-positive g s F) (exp-upper-one g s (suc b))
       (share-upper-near g s F) in
-      let y = over-at-least-half (g .unit) E _ (s .unit-positive) (exp-upper-one g s a) (over-lower-near g s E) in
+      let y = over-at-least-half (g .unit) E _ (g .positive) (exp-upper-one g s a) (over-lower-near g s E) in
       omega (arith, x, y)
 
   -- the force's ends lie at most d/4 and the grid's constant apart, where G's lie at most d apart

@@ -33,9 +33,9 @@ ordered-algebra lo hi n n′ X p h k l = le-of-mul-le-mul-right {k = n′} (omeg
 pub exp-ordered : (g : Grid) → Sound g → (z z′ : ℕ) → z ≤ z′ → expLower g z′ ≤ expUpper g z
 exp-ordered g s z z′ h =
     let J = s .order + s .order in
-    ordered-algebra _ _ _ _ _ (taylorNum-positive z′ (g .unit) J (s .unit-positive)) (lower-sound g s z′ J)
+    ordered-algebra _ _ _ _ _ (taylorNum-positive z′ (g .unit) J (g .positive)) (lower-sound g s z′ J)
     (upper-at g s z)
-    (num-monotone (g .unit) J (s .unit-positive) z z′ h)
+    (num-monotone (g .unit) J (g .positive) z z′ h)
 
 -- ---- the upper end relative to the lower one
 
@@ -50,8 +50,8 @@ pub exp-upper-zero : (g : Grid) → Sound g → expUpper g 0 ≡ g .unit
 exp-upper-zero g s =
     let J = s .order + s .order in
     le-antisymm (exp-upper-one g s 0)
-    (first-upper _ _ _ _ (taylorDen-positive (g .unit) J (s .unit-positive)) (upper-at g s 0)
-    (zero-slope (g .unit) _ _ (s .unit-positive) (sum-slope 0 (g .unit) J)))
+    (first-upper _ _ _ _ (taylorDen-positive (g .unit) J (g .positive)) (upper-at g s 0)
+    (zero-slope (g .unit) _ _ (g .positive) (sum-slope 0 (g .unit) J)))
 
 -- ---- the relative width
 
@@ -77,7 +77,7 @@ one-order-by (suc o) p U h k l = omega arith
 
 module _ (g : Grid) (s : Sound g) (w : Narrow g s) where
   one-order : 1 ≤ s .order
-  one-order = one-order-by (s .order) _ (g .unit) (s .unit-positive) (s .upper-order) (w .upper-rest)
+  one-order = one-order-by (s .order) _ (g .unit) (g .positive) (s .upper-order) (w .upper-rest)
 
   -- U·e(z) ≤ U·e(z′) + d·e(z) + U·slack for every z′ ≤ z + d, in thirds
   pub exp-relative-below : (z z′ d : ℕ) → z′ ≤ z + d
@@ -86,9 +86,9 @@ module _ (g : Grid) (s : Sound g) (w : Narrow g s) where
   exp-relative-below z z′ d h =
       let J = s .order + s .order in
       let r = relative-algebra (g .unit) (expUpper g z) (3 * expLower g z′ + slackLower g) (slackUpper g) d _ _ _ _ _
-      (s .unit-positive) (taylorNum-positive z (g .unit) J (s .unit-positive))
-      (taylorNum-positive d (g .unit) J (s .unit-positive))
+      (g .positive) (taylorNum-positive z (g .unit) J (g .positive))
+      (taylorNum-positive d (g .unit) J (g .positive))
       (upper-near g s w z J (omega (arith, one-order))) (lower-near g s w z′)
-      (num-monotone (g .unit) J (s .unit-positive) z′ (z + d) h)
-      (sum-of-sum z d (g .unit) J (s .unit-positive)) (sum-slope d (g .unit) J) (upper-at g s z) in
+      (num-monotone (g .unit) J (g .positive) z′ (z + d) h)
+      (sum-of-sum z d (g .unit) J (g .positive)) (sum-slope d (g .unit) J) (upper-at g s z) in
       omega (arith, r)

@@ -5,7 +5,6 @@ use Rattle.whole.specs.SignedEnds.{SignedEnds}
 use Rattle.fraction.specs.Ratio.{Ratio, _≤/_}
 use Rattle.fraction.specs.Fraction.{Fraction, _≤ℚ_, absolute}
 use Rattle.expo.specs.Grid.{Grid}
-use Rattle.expo.specs.Facts.{Sound}
 
 -- an interval of fractions
 pub record Interval : Type 0 where
@@ -17,13 +16,13 @@ abbrev pub over : (d : ℕ) → 0 < d → ℤ → Fraction
 over d p a = record { num = a; den = d; positive = p }
 
 -- n units, of either sign
-unfoldable pub inUnitsℚ : (g : Grid) → Sound g → ℤ → Fraction
-inUnitsℚ g s n = record { num = n; den = g .unit; positive = s .unit-positive }
+unfoldable pub inUnitsℚ : Grid → ℤ → Fraction
+inUnitsℚ g n = record { num = n; den = g .unit; positive = g .positive }
 
 -- neither interval lies wholly beyond the other
-pub record SignedOverlap (g : Grid) (s : Sound g) (ends : SignedEnds) (interval : Interval) : Type 0 where
-  pub below : inUnitsℚ g s (ends .lower) ≤ℚ interval .most
-  pub above : interval .least ≤ℚ inUnitsℚ g s (ends .upper)
+pub record SignedOverlap (g : Grid) (ends : SignedEnds) (interval : Interval) : Type 0 where
+  pub below : inUnitsℚ g (ends .lower) ≤ℚ interval .most
+  pub above : interval .least ≤ℚ inUnitsℚ g (ends .upper)
 
 -- and so of two intervals
 pub record Meet (I J : Interval) : Type 0 where

@@ -4,7 +4,7 @@ use mathlib.Core.Path.{_≡_, refl}
 use Prim.Native.Nat.{ℕ, _≤_, _<_}
 use native.Mathlib.Omega.{arith}
 use lib.Dec.{lit≤}
-use Rattle.whole.specs.Split.{below}
+use Rattle.whole.specs.Parts.{below}
 use Rattle.taylor.specs.Taylor.{taylorDen, taylorNum}
 use Rattle.taylor.specs.Order.{leastOrder}
 use Rattle.expo.specs.Billionths.{billionths}
@@ -40,7 +40,7 @@ billionths-fit = record { unit = refl; log = log.billionths-fine; terms = lit≤
 
 -- q's ends and an order's overlap
 pub q-holds : {p : Params} {x n : ℕ} → Answered p x n → (j : ℕ) → leastOrder ≤ j
-    → Overlap billionths billionths-sound (death billionths p x n) (orderDeath p x n j .least) (orderDeath p x n j .most)
+    → Overlap billionths (death billionths p x n) (orderDeath p x n j .least) (orderDeath p x n j .most)
 q-holds a j l = death-holds billionths billionths-sound billionths-fit billionths-narrow a j l
 
 -- the widths as numbers: 79 to age 90 and 547 above
@@ -48,7 +48,7 @@ widths : (youngDeathWidth billionths ≡ 79) × (sumWidth billionths ≡ 1938) �
 unfolding youngDeathWidth oldDeathWidth youngWidth fittedWidth sumWidth oldWidth logWidth expWidth slackUpper slackLower slack total
 widths = (refl, refl, refl)
 
--- "Ends are at most this far apart, in units: q to age 90, 100; q above, 600."
+-- the limits that the widths stay within
 abbrev pub youngLimit : ℕ
 youngLimit = 100
 

@@ -4,7 +4,7 @@ use Prim.Native.Nat.{ℕ}
 use mathlib.Core.Bool.{cond}
 use mathlib.Core.List.{List}
 use lib.Dec.{ltb, lit<}
-use Rattle.whole.specs.Table.{listed}
+use Rattle.whole.specs.Listed.{listed}
 use Rattle.fraction.specs.Ratio.{Ratio, complement}
 use Rattle.fraction.specs.Bracket.{Bracket}
 use Rattle.fraction.specs.Fraction.{Fraction, _+ℚ_, quotientℚ, signed, absolute}

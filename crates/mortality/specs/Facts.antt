@@ -1,7 +1,7 @@
 -- What the laws of a cell ask of a grid besides `Sound` and `Narrow`.
 use mathlib.Core.Path.{_≡_}
 use Prim.Native.Nat.{_≤_}
-use Rattle.whole.specs.Split.{below}
+use Rattle.whole.specs.Parts.{below}
 use Rattle.taylor.specs.Order.{leastOrder}
 use Rattle.expo.specs.Grid.{Grid}
 use Rattle.logarithm.specs.WidthFacts.{Fine}

@@ -9,18 +9,18 @@ use lib.Dec.{lit<}
 use borrow.Author.Tests.{lt-ltb, le-ltb}
 use lib.IntN.{ℤ, pos, negsuc, negℤ, natAbs, _+ℤ_, _*ℤ_, pos-*ℤ-pos}
 use Rattle.whole.specs.Order.{pos-nonneg, ≤ℤ-of-≡, *ℤ-assoc, *ℤ-distrib-right}
-use Rattle.whole.specs.Split.{below}
+use Rattle.whole.specs.Parts.{below}
 use Rattle.whole.specs.Table.{listed-at}
 use Rattle.fraction.specs.Ratio.{_≤/_, whole/, quotient/, complement}
 use Rattle.fraction.specs.RatioLaws.{≤/-trans, quotient/-mono, complement-reverse}
 use Rattle.fraction.specs.Fraction.{Fraction, _≤ℚ_, _+ℚ_, negℚ, wholeℚ, quotientℚ, signed, absolute}
 use Rattle.fraction.specs.FractionLaws.{≤ℚ-trans, signed-≤ℚ, signed-whole, signed-absolute, wholeℚ-≤ℚ, +ℚ-mono, quotientℚ-mono}
 use Rattle.taylor.specs.Order.{leastOrder}
-use Rattle.expo.specs.Grid.{Grid}
+use Rattle.expo.specs.Grid.{Grid, inUnits}
 use Rattle.expo.specs.Exponential.{expBetween}
 use Rattle.expo.specs.Facts.{Sound}
 use Rattle.expo.specs.WidthFacts.{Narrow}
-use Rattle.expo.specs.Overlap.{inUnits, Overlap}
+use Rattle.expo.specs.Overlap.{Overlap}
 use Rattle.expo.specs.Holds.{exp-overlap}
 use Rattle.params.specs.declared.Params.{Params}
 use Rattle.series.specs.Series.{logForce, highestForce}
@@ -87,11 +87,11 @@ order-fitted-at p n j i h = listed-at (orderFitted p n j) _ firstFitted fitted i
 
 module _ (g : Grid) (s : Sound g) (fit : Fit g) where
   -- n/unit in both forms
-  unit-below : (n : ℕ) → inUnits g s n ≤/ quotient/ (whole/ n) sheetUnit unit-positive
+  unit-below : (n : ℕ) → inUnits g n ≤/ quotient/ (whole/ n) sheetUnit unit-positive
   unfolding inUnits quotient/ whole/
   unit-below n = record { cross = omega (arith, ap (λ (u : ℕ). n * u) (fit .unit)) }
 
-  unit-above : (n : ℕ) → quotient/ (whole/ n) sheetUnit unit-positive ≤/ inUnits g s n
+  unit-above : (n : ℕ) → quotient/ (whole/ n) sheetUnit unit-positive ≤/ inUnits g n
   unfolding inUnits quotient/ whole/
   unit-above n = record { cross = omega (arith, ap (λ (u : ℕ). n * u) (fit .unit)) }
 
@@ -100,25 +100,25 @@ module _ (g : Grid) (s : Sound g) (fit : Fit g) where
   exactZ-quotient p x n = refl
 
   -- a signed number of units in both forms, and a sum
-  unitℚ-below : (a : ℤ) → inUnitsℚ g s a ≤ℚ quotientℚ (wholeℚ a) sheetUnit unit-positive
+  unitℚ-below : (a : ℤ) → inUnitsℚ g a ≤ℚ quotientℚ (wholeℚ a) sheetUnit unit-positive
   unfolding inUnitsℚ quotientℚ wholeℚ
   unitℚ-below a = record { cross = ≤ℤ-of-≡ (ap (λ (u : ℕ). a *ℤ pos u) (sym (fit .unit))) }
 
-  unitℚ-above : (a : ℤ) → quotientℚ (wholeℚ a) sheetUnit unit-positive ≤ℚ inUnitsℚ g s a
+  unitℚ-above : (a : ℤ) → quotientℚ (wholeℚ a) sheetUnit unit-positive ≤ℚ inUnitsℚ g a
   unfolding inUnitsℚ quotientℚ wholeℚ
   unitℚ-above a = record { cross = ≤ℤ-of-≡ (ap (λ (u : ℕ). a *ℤ pos u) (fit .unit)) }
 
-  sum-below : (a : ℤ) (b : ℕ) → inUnitsℚ g s (a +ℤ pos b) ≤ℚ inUnitsℚ g s a +ℚ signed (inUnits g s b)
+  sum-below : (a : ℤ) (b : ℕ) → inUnitsℚ g (a +ℤ pos b) ≤ℚ inUnitsℚ g a +ℚ signed (inUnits g b)
   unfolding inUnitsℚ inUnits signed _+ℚ_
   sum-below a b = record { cross = ≤ℤ-of-≡ (sum-cross a (pos b) (g .unit)) }
 
-  sum-above : (a : ℤ) (b : ℕ) → inUnitsℚ g s a +ℚ signed (inUnits g s b) ≤ℚ inUnitsℚ g s (a +ℤ pos b)
+  sum-above : (a : ℤ) (b : ℕ) → inUnitsℚ g a +ℚ signed (inUnits g b) ≤ℚ inUnitsℚ g (a +ℤ pos b)
   unfolding inUnitsℚ inUnits signed _+ℚ_
   sum-above a b = record { cross = ≤ℤ-of-≡ (sym (sum-cross a (pos b) (g .unit))) }
 
   -- ends of z that hold −m
   pub z-overlap : (p : Params) (x n : ℕ) → Negated (logForce p x n) logForceWidth
-      → Overlap g s (negated (logForce p x n)) (exactZ p x n) (exactZ p x n)
+      → Overlap g (negated (logForce p x n)) (exactZ p x n) (exactZ p x n)
   unfolding negated
   z-overlap p x n r =
       let h = negated-holds r (logForce-holds p x n) in
@@ -138,14 +138,14 @@ module _ (g : Grid) (s : Sound g) (fit : Fit g) where
   half-young w p x n r = force-half g s (below highestForce) (fit .half) w (below (logForce p x n .upper)) (r .least)
 
   pub young-overlap : (p : Params) (x n j : ℕ) → Negated (logForce p x n) logForceWidth
-      → Overlap g s (youngForce g p x n) (orderYoungForce p x n j .least) (orderYoungForce p x n j .most)
+      → Overlap g (youngForce g p x n) (orderYoungForce p x n j .least) (orderYoungForce p x n j .most)
   unfolding youngForce orderYoungForce
   young-overlap p x n j r = exp-overlap g s (negated (logForce p x n)) (exactZ p x n) (exactZ p x n) j (z-overlap p x n r)
 
   -- ---- H
 
   m-overlap : (p : Params) (x n : ℕ)
-      → (inUnitsℚ g s (logForce p x n .lower) ≤ℚ exactM p x n) × (exactM p x n ≤ℚ inUnitsℚ g s (logForce p x n .upper))
+      → (inUnitsℚ g (logForce p x n .lower) ≤ℚ exactM p x n) × (exactM p x n ≤ℚ inUnitsℚ g (logForce p x n .upper))
   unfolding exactM
   m-overlap p x n =
       let h = logForce-holds p x n in (
@@ -154,12 +154,12 @@ module _ (g : Grid) (s : Sound g) (fit : Fit g) where
       )
 
   fitted-overlap : Narrow g s → (p : Params) (n j y : ℕ) → leastOrder ≤ j → Negated (logForce p y n) logForceWidth
-      → SignedOverlap g s (fittedEnds g p n y) (orderFitted p n j y)
+      → SignedOverlap g (fittedEnds g p n y) (orderFitted p n j y)
   unfolding fittedEnds orderFitted inverseLogistic
   fitted-overlap w p n j y l r =
       let m = m-overlap p y n in
       let u = youngForce g p y n in
-      let o = log-overlap g s u (orderYoungForce p y n j .least) (orderYoungForce p y n j .most) j (young-overlap p y n j r)
+      let o = log-overlap g u (orderYoungForce p y n j .least) (orderYoungForce p y n j .most) j (young-overlap p y n j r)
       (half-young w p y n r) (le-trans (fit .terms) l) in
       record {
         below = ≤ℚ-trans (sum-below (logForce p y n .lower) (logLower g (u .lower))) (+ℚ-mono (m .0) (signed-≤ℚ .0 (o .below)));
@@ -170,17 +170,17 @@ module _ (g : Grid) (s : Sound g) (fit : Fit g) where
 
   old-overlap : Narrow g s → (p : Params) (x n j : ℕ) → leastOrder ≤ j
       → ((i : ℕ) → i < fitted → Negated (logForce p (firstFitted + i) n) logForceWidth)
-      → Overlap g s (oldForce g p x n) (orderOldForce p x n j .least) (orderOldForce p x n j .most)
+      → Overlap g (oldForce g p x n) (orderOldForce p x n j .least) (orderOldForce p x n j .most)
   unfolding oldForce orderOldForce
   old-overlap w p x n j l r =
       logistic-overlap g s (closedSum x (fittedList g p n)) (exactClosedSum x (orderFittedList p n j)) j
-      (closedSum-overlap g s x (fittedList g p n) (orderFittedList p n j) (λ i h.
+      (closedSum-overlap g x (fittedList g p n) (orderFittedList p n j) (λ i h.
       rw (fitted-at g p n i h, order-fitted-at p n j i h) (fitted-overlap w p n j (firstFitted + i) l (r i h))))
 
   -- ---- the force at any age, p and q
 
   module _ (w : Narrow g s) {p : Params} {x n : ℕ} (a : Answered p x n) (j : ℕ) (l : leastOrder ≤ j) where
-    force-overlap : Overlap g s (force g p x n) (orderForce p x n j .least) (orderForce p x n j .most)
+    force-overlap : Overlap g (force g p x n) (orderForce p x n j .least) (orderForce p x n j .most)
     unfolding force orderForce
     force-overlap =
         elim (decLt x firstClosed) [
@@ -190,12 +190,12 @@ module _ (g : Grid) (s : Sound g) (fit : Fit g) where
               rw (le-ltb x firstClosed k) (old-overlap w p x n j l (old-needed a k))
         ]
 
-    pub survival-holds : Overlap g s (survival g p x n) (orderSurvival p x n j .least) (orderSurvival p x n j .most)
+    pub survival-holds : Overlap g (survival g p x n) (orderSurvival p x n j .least) (orderSurvival p x n j .most)
     unfolding survival orderSurvival
     survival-holds = exp-overlap g s (force g p x n) (orderForce p x n j .least) (orderForce p x n j .most) j force-overlap
 
     -- q holds every order's bracket
-    pub death-holds : Overlap g s (death g p x n) (orderDeath p x n j .least) (orderDeath p x n j .most)
+    pub death-holds : Overlap g (death g p x n) (orderDeath p x n j .least) (orderDeath p x n j .most)
     unfolding death deathOf orderDeath inUnits complement
     death-holds =
         record { below = complement-reverse (survival-holds .above); above = complement-reverse (survival-holds .below) }

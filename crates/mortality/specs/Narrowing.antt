@@ -7,7 +7,7 @@ use native.Mathlib.Decide.{decLt}
 use native.Mathlib.Omega.{arith}
 use lib.Signed.{nonNeg}
 use borrow.Author.Tests.{lt-ltb, le-ltb}
-use Rattle.whole.specs.Split.{below}
+use Rattle.whole.specs.Parts.{below}
 use Rattle.fraction.specs.Ratio.{Ratio, _≤/_, _</_, whole/, quotient/, complement, _+/_, _*/_}
 use Rattle.fraction.specs.RatioLaws.{≤/-refl, ≤/-trans, +/-mono, +/-comm, +/-assoc, +/-cancel, </→≤/, +/-complement, whole/-+/, whole/-*/}
 use Rattle.fraction.specs.Multiples.{times, times-one, times-suc, times-times, times-grows}
@@ -18,7 +18,7 @@ use Rattle.taylor.specs.Narrowing.{narrowOrder}
 use Rattle.taylor.specs.OrderLaws.{narrow-below, upper-below-one, brackets-agree}
 use Rattle.expo.specs.Billionths.{billionths}
 use Rattle.expo.specs.BillionthsFacts.{billionths-sound}
-use Rattle.expo.specs.Overlap.{inUnits}
+use Rattle.expo.specs.Grid.{inUnits}
 use Rattle.params.specs.declared.Params.{Params}
 use Rattle.series.specs.Series.{logForce, highestForce}
 use Rattle.series.specs.WidthLaws.{logForceWidth}
@@ -138,7 +138,7 @@ module _ (p : Params) (x n : ℕ) (r : Negated (logForce p x n) logForceWidth) w
       ≤/-trans (z-overlap billionths billionths-sound billionths-fit p x n r .above)
       (record { cross = omega (arith, r .most) })
 
-  z-large : inUnits billionths billionths-sound (below highestForce) ≤/ exactZ p x n
+  z-large : inUnits billionths (below highestForce) ≤/ exactZ p x n
   unfolding inUnits negated
   z-large =
       ≤/-trans (record { cross = omega (arith, r .least) })

@@ -10,11 +10,10 @@ use Rattle.whole.specs.Order.{+ℤ-mono, pos-mono}
 use Rattle.whole.specs.Split.{split, split-add}
 use Rattle.fraction.specs.Ratio.{_≤/_}
 use Rattle.fraction.specs.RatioLaws.{≤/-trans}
-use Rattle.expo.specs.Grid.{Grid, Ends}
+use Rattle.expo.specs.Grid.{Grid, Ends, inUnits}
 use Rattle.expo.specs.Exponential.{expBetween, expLower, expUpper}
 use Rattle.expo.specs.Facts.{Sound}
 use Rattle.expo.specs.WidthFacts.{Narrow, expWidth}
-use Rattle.expo.specs.Overlap.{inUnits}
 use Rattle.expo.specs.Width.{exp-width}
 use Rattle.params.specs.declared.Params.{Params}
 use Rattle.series.specs.Series.{logForce}
@@ -74,9 +73,9 @@ units-le a b U p h = le-of-mul-le-mul-right h p
 log-ordered : (g : Grid) (s : Sound g) (l u : ℕ) → l ≤ u → logLower g l ≤ logUpper g u
 unfolding logLower logUpper inUnits
 log-ordered g s l u h =
-    let m : inUnits g s l ≤/ inUnits g s u = record { cross = mul-le-mul-right (g .unit) h } in
-    let k = ≤/-trans (terms-below g s l (g .logTerms)) (≤/-trans (log-sum-monotone (g .logTerms) m) (terms-above g s u (g .logTerms))) in
-    le-trans (units-le _ _ (g .unit) (s .unit-positive) (k .cross)) (le-add-right _ _)
+    let m : inUnits g l ≤/ inUnits g u = record { cross = mul-le-mul-right (g .unit) h } in
+    let k = ≤/-trans (terms-below g l (g .logTerms)) (≤/-trans (log-sum-monotone (g .logTerms) m) (terms-above g u (g .logTerms))) in
+    le-trans (units-le _ _ (g .unit) (g .positive) (k .cross)) (le-add-right _ _)
 
 -- unit − p, ends exchanged, is no wider
 complement-narrowed : (U : ℕ) (e : Ends) (w : ℕ) → Narrowed e w → Narrowed (record { lower = U - e .upper; upper = U - e .lower }) w
@@ -118,7 +117,7 @@ module _ (g : Grid) (s : Sound g) (w : Narrow g s) where
         let l : logUpper g (u .upper) ≤ logLower g (u .lower) + (2 * youngWidth g + logWidth g) =
         omega (
           arith,
-          log-width g (s .unit-positive) (u .upper) (u .lower) (youngWidth g) (half-young g s fit w p y n r)
+          log-width g (g .positive) (u .upper) (u .lower) (youngWidth g) (half-young g s fit w p y n r)
               (k .ordered) (k .width) (fit .log),
         ) in
         signed-sum (logForce p y n .lower) (logForce p y n .upper) (logLower g (u .lower)) (logUpper g (u .upper)) logForceWidth _ m l

@@ -5,11 +5,10 @@ use Rattle.fraction.specs.Ratio.{complement}
 use Rattle.fraction.specs.RatioLaws.{complement-reverse}
 use Rattle.fraction.specs.Bracket.{Bracket}
 use Rattle.taylor.specs.Order.{leastOrder}
-use Rattle.expo.specs.Grid.{Grid, Ends}
+use Rattle.expo.specs.Grid.{Grid, Ends, inUnits}
 use Rattle.expo.specs.Billionths.{billionths}
-use Rattle.expo.specs.Facts.{Sound}
 use Rattle.expo.specs.BillionthsFacts.{billionths-sound, billionths-narrow}
-use Rattle.expo.specs.Overlap.{inUnits, Overlap}
+use Rattle.expo.specs.Overlap.{Overlap}
 use Rattle.params.specs.declared.Params.{Params}
 use Rattle.folds.specs.Each.{each-places}
 use Rattle.folds.specs.Holds.{Over, Even, billionths-even, survival-holds, expectancy-holds}
@@ -21,28 +20,28 @@ use Rattle.paths.specs.Path.{Place, factors, orderFactors}
 use Rattle.paths.specs.Values.{Fold, death, survival, expectancy, annuity, foldOver, orderDeathOf, orderFoldOver, gridValue, exactValue}
 use Rattle.paths.specs.Answers.{AnsweredPath}
 
-module _ (g : Grid) (s : Sound g) where
+module _ (g : Grid) where
   -- unit less the ends, exchanged, over 1 less the bracket
-  death-of-holds : {e : Ends} {b : Bracket} → Over g s e b → Over g s (deathOf g e) (orderDeathOf b)
+  death-of-holds : {e : Ends} {b : Bracket} → Over g e b → Over g (deathOf g e) (orderDeathOf b)
   unfolding deathOf inUnits complement orderDeathOf
   death-of-holds h = record { below = complement-reverse (h .above); above = complement-reverse (h .below) }
 
   -- each fold over factors that hold an order's
-  pub fold-holds : Even g → (f : Fold) {es : List Ends} {bs : List Bracket} → Forall₂ (Over g s) es bs
-      → Over g s (foldOver f g es) (orderFoldOver f bs)
+  pub fold-holds : Even g → (f : Fold) {es : List Ends} {bs : List Bracket} → Forall₂ (Over g) es bs
+      → Over g (foldOver f g es) (orderFoldOver f bs)
   unfolding foldOver orderFoldOver
-  fold-holds even death h = death-of-holds (survival-holds g s h)
-  fold-holds even survival h = survival-holds g s h
-  fold-holds even expectancy h = expectancy-holds g s even h
-  fold-holds even (annuity rate) h = annuity-holds g s rate h
+  fold-holds even death h = death-of-holds (survival-holds g h)
+  fold-holds even survival h = survival-holds g h
+  fold-holds even expectancy h = expectancy-holds g even h
+  fold-holds even (annuity rate) h = annuity-holds g rate h
 
 module _ {p : Params} {path : List Place} (a : AnsweredPath p path) (j : ℕ) (l : leastOrder ≤ j) where
-  pub factors-hold : Forall₂ (Over billionths billionths-sound) (factors billionths p path) (orderFactors p path j)
+  pub factors-hold : Forall₂ (Over billionths) (factors billionths p path) (orderFactors p path j)
   unfolding factors orderFactors
   factors-hold =
       each-places _ _ (λ c h. cell.survival-holds billionths billionths-sound billionths-fit billionths-narrow h j l) a
 
   pub value-holds : (f : Fold)
-      → Overlap billionths billionths-sound (gridValue f billionths p path) (exactValue f p path j .least) (exactValue f p path j .most)
+      → Overlap billionths (gridValue f billionths p path) (exactValue f p path j .least) (exactValue f p path j .most)
   unfolding gridValue exactValue
-  value-holds f = fold-holds billionths billionths-sound billionths-even f factors-hold
+  value-holds f = fold-holds billionths billionths-even f factors-hold

@@ -3,7 +3,7 @@
 use mathlib.Core.Bool.{Bool, true, cond, _&&_}
 use mathlib.Core.List.{List, [], _∷_, map}
 use Prim.Native.Nat.{ℕ, _+_, min}
-use Rattle.whole.specs.Table.{listed}
+use Rattle.whole.specs.Listed.{listed}
 use Rattle.fraction.specs.Bracket.{Bracket}
 use Rattle.expo.specs.Grid.{Grid, Ends}
 use Rattle.params.specs.declared.Params.{Params}

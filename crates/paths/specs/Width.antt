@@ -9,7 +9,8 @@ use native.Mathlib.Omega.{arith}
 use lib.Dec.{ltb, lit≤}
 use lib.ListN.{length, take, drop, length-map}
 use borrow.Author.Tests.{lt-ltb, le-ltb}
-use Rattle.whole.specs.Table.{listed, listed-shift, listed-part, listed-map}
+use Rattle.whole.specs.Listed.{listed}
+use Rattle.whole.specs.Table.{listed-shift, listed-part, listed-map}
 use Rattle.expo.specs.Grid.{Grid}
 use Rattle.expo.specs.Billionths.{billionths}
 use Rattle.expo.specs.Facts.{Sound}
@@ -37,8 +38,7 @@ use Rattle.paths.specs.Values.{Fold, death, survival, expectancy, annuit
 use Rattle.paths.specs.Answers.{AnsweredPath, factors-length}
 use Rattle.paths.specs.Oldest.{place-age}
 
--- "Ends are at most this far apart, in units: q to age 90, 100; q above, 600; survival, 30,000", and paper 02 of
--- expectancies and annuities: "ends may now lie 10,000,000 units apart".
+-- the limits of `widthOf` of kinds/Kinds: of a cell by its age, of a survival, and of an expectancy or a price
 unfoldable pub ageLimit : ℕ → ℕ
 ageLimit x = cond (ltb x firstClosed) youngLimit oldLimit
 
@@ -94,7 +94,7 @@ pub death-limit : {p : Params} (cohort : Bool) (x n : ℕ) → x ≤ lastClosed 
     → gridValue death billionths p (pathOf cohort x n 1) .upper
     ≤ gridValue death billionths p (pathOf cohort x n 1) .lower + ageLimit x
 death-limit {p} cohort x n l a =
-    rw (one-cell billionths (billionths-sound .unit-positive) p cohort x n l)
+    rw (one-cell billionths (billionths .positive) p cohort x n l)
     (death-narrowed billionths p x n (ageLimit x) (p-narrowed (first (rw (one-place cohort x n l) at a))) .width)
   where
     first : AnsweredPath p (record { age = x; year = n } ∷ []) → Answered p x n
@@ -140,7 +140,7 @@ unfolding gridValue foldOver
 survival-limit cohort x n k h a =
     omega (
       arith,
-      survival-chance billionths (billionths-sound .unit-positive) (path-chances a) .width,
+      survival-chance billionths (billionths .positive) (path-chances a) .width,
       ap spread (limits-part cohort x n k h),
       spread-part x k ageLimits,
       widest-survival,
@@ -165,7 +165,7 @@ pub expectancy-limit : {p : Params} {path : List Place} → length path ≤ most
     → gridValue expectancy billionths p path .upper ≤ gridValue expectancy billionths p path .lower + expectancyLimit
 unfolding gridValue foldOver
 expectancy-limit {path = path} h a =
-    omega (arith, expectancy-width billionths (billionths-sound .unit-positive) (path-chances a), path-spreads path h)
+    omega (arith, expectancy-width billionths (billionths .positive) (path-chances a), path-spreads path h)
 
 pub annuity-limit : {p : Params} {path : List Place} → length path ≤ mostFactors → AnsweredPath p path → (rate : ℕ)
     → gridValue (annuity rate) billionths p path .upper ≤ gridValue (annuity rate) billionths p path .lower + expectancyLimit
@@ -176,7 +176,7 @@ annuity-limit {path = path} h a rate =
     let a₁ : suc n ≤ suc mostFactors = omega arith in
     let a₂ : n + 2 ≤ mostFactors + 2 = omega arith in
     let m = mul-le-mul a₁ a₂ in
-    omega (arith, annuity-width billionths (billionths-sound .unit-positive) rate (path-chances a), path-spreads path h)
+    omega (arith, annuity-width billionths (billionths .positive) rate (path-chances a), path-spreads path h)
 
 -- ---- sizes
 
@@ -186,16 +186,16 @@ pub value-small : (g : Grid) (s : Sound g) (p : Params) (path : List Place) → 
 unfolding gridValue foldOver deathOf
 value-small g s p path h death = record { lower = omega arith; upper = omega arith }
 value-small g s p path h survival =
-    let a = survival-at-most g (s .unit-positive) (factors-chances g s p path) in
+    let a = survival-at-most g (g .positive) (factors-chances g s p path) in
     record { lower = omega (arith, a .lower); upper = omega (arith, a .upper) }
 value-small g s p path h expectancy =
-    let a = expectancy-at-most g (s .unit-positive) (factors-chances g s p path) in
+    let a = expectancy-at-most g (g .positive) (factors-chances g s p path) in
     let m = mul-le-mul-right (g .unit) h in
     let e = ap (λ (k : ℕ). k * g .unit) (factors-length g p path) in
     let d = div-le-self (g .unit) 2 in
     record { lower = omega (arith, a .lower); upper = omega (arith, a .upper) }
 value-small g s p path h (annuity rate) =
-    let a = annuity-at-most g (s .unit-positive) rate (factors-chances g s p path) in
+    let a = annuity-at-most g (g .positive) rate (factors-chances g s p path) in
     let m = mul-le-mul-right (g .unit) h in
     let e = ap (λ (k : ℕ). k * g .unit) (factors-length g p path) in
     record { lower = omega (arith, a .lower); upper = omega (arith, a .upper) }

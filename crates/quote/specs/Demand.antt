@@ -4,8 +4,7 @@ use mathlib.Core.Logic.{_↔_}
 use Prim.Native.Nat.{ℕ, _+_, _≤_}
 use lib.IntN.{ℤ, natAbs}
 use Rattle.expo.specs.Billionths.{billionths}
-use Rattle.expo.specs.BillionthsFacts.{billionths-sound}
-use Rattle.expo.specs.Overlap.{inUnits}
+use Rattle.expo.specs.Grid.{inUnits}
 use Rattle.params.specs.declared.Params.{Params}
 use Rattle.params.specs.Refusals.{refusalNumber}
 use Rattle.exact.specs.declared.Figure.{Figure}
@@ -54,15 +53,15 @@ step kind = stepOf (ruleOf kind .fold)
 
 -- the exact value of a query rounds to n steps
 abbrev pub RoundsAt : Params → Kind → ℤ → ℤ → ℤ → ℕ → Type 0
-RoundsAt p kind age year span n = RoundsTo billionths billionths-sound (step kind) n (exactQuery p kind age year span)
+RoundsAt p kind age year span n = RoundsTo billionths (step kind) n (exactQuery p kind age year span)
 
 -- of an accepted quote: the ends are the grid's; the exact value is at least the lower one and at most the upper one, which
 -- lie no further apart than the kind allows; its brackets are those of one number, since any two agree and they narrow past any
 -- whole fraction; and the figure is open exactly when the two ends round half up to different steps
 pub record Kept (p : Params) (kind : Kind) (age year span : ℤ) (a : Answer) : Type 0 where
   pub of-grid : (lowerOf a ≡ queryEnds p kind age year span .lower) × (upperOf a ≡ queryEnds p kind age year span .upper)
-  pub at-least : AtLeast (exactQuery p kind age year span) (inUnits billionths billionths-sound (lowerOf a))
-  pub at-most : AtMost (exactQuery p kind age year span) (inUnits billionths billionths-sound (upperOf a))
+  pub at-least : AtLeast (exactQuery p kind age year span) (inUnits billionths (lowerOf a))
+  pub at-most : AtMost (exactQuery p kind age year span) (inUnits billionths (upperOf a))
   pub width : upperOf a ≤ lowerOf a + widthOf (ruleOf kind .fold) (natAbs age)
   pub agrees : Agrees (exactQuery p kind age year span)
   pub narrows : Narrows (exactQuery p kind age year span)
@@ -80,4 +79,4 @@ pub record Demand3 (p : Params) (kind : Kind) (age year span : ℤ) (a : Answer)
   pub one-step : (n : ℕ) → figureShown a ≡ printed n
       → (p′ : Params) (kind′ : Kind) (age′ year′ span′ : ℤ) (n′ : ℕ) → OneKind kind kind′
       → figureShown (answerOf p′ kind′ age′ year′ span′) ≡ printed n′
-      → (n ≡ n′) ↔ OneStep billionths billionths-sound (step kind) (exactQuery p kind age year span) (exactQuery p′ kind′ age′ year′ span′)
+      → (n ≡ n′) ↔ OneStep billionths (step kind) (exactQuery p kind age year span) (exactQuery p′ kind′ age′ year′ span′)

@@ -8,7 +8,6 @@ use lib.Dec.{lit<}
 use lib.IntN.{ℤ, natAbs}
 use Rattle.whole.specs.Clash.{clash}
 use Rattle.expo.specs.Billionths.{billionths}
-use Rattle.expo.specs.BillionthsFacts.{billionths-sound}
 use Rattle.params.specs.declared.Params.{Params}
 use Rattle.params.specs.declared.Refusal.{Refusal}
 use Rattle.params.specs.declared.Refusal.the-variants.{Accepted}
@@ -30,7 +29,7 @@ use Rattle.paths.specs.Answers.{AnsweredPath, path-length}
 use Rattle.paths.specs.Holds.{value-holds}
 use Rattle.paths.specs.Narrowing.{value-narrows}
 use Rattle.paths.specs.OrdersAgree.{value-agrees}
-use Rattle.paths.specs.Width.{death-limit, survival-limit, expectancy-limit, annuity-limit}
+use Rattle.paths.specs.Width.{ageLimit, death-limit, survival-limit, expectancy-limit, annuity-limit}
 use Rattle.kinds.specs.declared.Kind.{Kind}
 use Rattle.kinds.specs.declared.Fold.{Fold}
 use Rattle.kinds.specs.declared.Fold.the-variants.{Death, Survival, Expectancy, Annuity}
@@ -100,7 +99,7 @@ step-positive (Annuity rate) = lit< tt
 fold-width : (f : Fold) {p : Params} (cohort : Bool) (x n span : ℕ) → x ≤ lastClosed → span ≤ mostSpan f x
     → countOf f n span ≤ mostFactors → AnsweredPath p (pathOf cohort x n (countOf f n span))
     → let e = path.gridValue (foldIs f) billionths p (pathOf cohort x n (countOf f n span)) in e .upper ≤ e .lower + widthOf f x
-unfolding foldIs countOf mostSpan widthOf
+unfolding foldIs countOf mostSpan widthOf ageLimit
 fold-width Death cohort x n span l m r a = death-limit cohort x n l a
 fold-width Survival cohort x n span l m r a = survival-limit cohort x n span (omega arith) a
 fold-width Expectancy cohort x n span l m r a = expectancy-limit (rw (path-length cohort x n (yearsOn n)) r) a
@@ -155,7 +154,7 @@ figure-rounds p k age year span e =
 -- exact values round to one same step
 pub same-figure : (k k′ : Kind) → OneKind k k′ → (p p′ : Params) (age year span age′ year′ span′ : ℤ) {n n′ : ℕ}
     → figureShown (answerOf p k age year span) ≡ printed n → figureShown (answerOf p′ k′ age′ year′ span′) ≡ printed n′
-    → (n ≡ n′) ↔ OneStep billionths billionths-sound (step k) (exactQuery p k age year span) (exactQuery p′ k′ age′ year′ span′)
+    → (n ≡ n′) ↔ OneStep billionths (step k) (exactQuery p k age year span) (exactQuery p′ k′ age′ year′ span′)
 same-figure k k′ one p p′ age year span age′ year′ span′ e e′ =
     same-step (figure-rounds p k age year span e) (rw (one-step-of k k′ one) (figure-rounds p′ k′ age′ year′ span′ e′))
 

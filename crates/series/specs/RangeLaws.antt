@@ -7,7 +7,8 @@ use lib.Dec.{T}
 use lib.Ieee.Fits.{and-l, and-r}
 use lib.IntN.{ℤ, pos, negsuc, negℤ}
 use lib.Signed.{_≤ℤ_, _<ℤ_, leZ, leZ-yes}
-use Rattle.whole.specs.Split.{above, below, split, split-add}
+use Rattle.whole.specs.Parts.{above, below}
+use Rattle.whole.specs.Split.{split, split-add}
 use Rattle.whole.specs.SignedEnds.{SignedEnds}
 use Rattle.fraction.specs.Fraction.{Fraction, _≤ℚ_, wholeℚ, negℚ}
 use Rattle.fraction.specs.FractionLaws.{negℚ-reverse, wholeℚ-negℚ}

@@ -5,7 +5,8 @@ use native.Mathlib.Nat.{mul-le-mul-left, mul-le-mul-right}
 use native.Mathlib.Omega.{arith}
 use lib.IntN.{ℤ, pos, negsuc, natAbs, _+ℤ_}
 use lib.Signed.{_≤ℤ_, nonNeg}
-use Rattle.whole.specs.Split.{above, below, split, split-le, split-add}
+use Rattle.whole.specs.Parts.{above, below}
+use Rattle.whole.specs.Split.{split, split-le, split-add}
 use Rattle.whole.specs.Difference.{Difference, difference, difference-pos, difference-add, difference-mul}
 use Rattle.whole.specs.Difference.{difference-le}
 use Rattle.whole.specs.Order.{≤ℤ-trans}

@@ -7,7 +7,6 @@ use Prim.Native.Nat.{ℕ}
 use lib.Dec.{eqb}
 use lib.IntN.{ℤ}
 use Rattle.expo.specs.Billionths.{billionths}
-use Rattle.expo.specs.BillionthsFacts.{billionths-sound}
 use Rattle.params.specs.declared.Params.{Params}
 use Rattle.exact.specs.Value.{OneStep}
 use Rattle.kinds.specs.declared.Kind.{Kind}
@@ -42,7 +41,7 @@ stepsShown noFigure = None
 -- the exact values of the two queries round to one same step of the kind's figures
 abbrev pub OneStepOf : Params → Kind → ℤ → ℤ → ℤ → Params → Kind → ℤ → ℤ → ℤ → Type 0
 OneStepOf p kind age year span p′ kind′ age′ year′ span′ =
-    OneStep billionths billionths-sound (step kind) (exactQuery p kind age year span) (exactQuery p′ kind′ age′ year′ span′)
+    OneStep billionths (step kind) (exactQuery p kind age year span) (exactQuery p′ kind′ age′ year′ span′)
 
 -- other kinds are told exactly where the two are not one kind, rates aside; of one kind, equal figures have exact values that
 -- round to one step, and different figures have not; and where none of these is said, one of the two is not printed

@@ -16,7 +16,6 @@ use mir.Facts.{yes-and}
 use Rattle.whole.specs.Table.{listed-map, listed-at}
 use Rattle.expo.specs.Grid.{Ends}
 use Rattle.expo.specs.Billionths.{billionths}
-use Rattle.expo.specs.BillionthsFacts.{billionths-sound}
 use Rattle.expo.specs.Code.{endsOf}
 use Rattle.expo.specs.declared.Ends as code
 use Rattle.params.specs.declared.Params.{Params}
@@ -106,7 +105,7 @@ unfolding figureHere answerOf answerBy refusalNumber figureShown quoteOf queryEn
 figure-here {p} {year} x l h =
     rw (q-accepted x l h)
     (ap (λ (e : Ends). shownOf (figureOf probabilityStep e))
-    (one-cell billionths (billionths-sound .unit-positive) p true x (natAbs year - startYear) (omega arith)))
+    (one-cell billionths (billionths .positive) p true x (natAbs year - startYear) (omega arith)))
 
 -- ---- by the factors of the year's cells
 

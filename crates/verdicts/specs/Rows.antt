@@ -4,7 +4,7 @@ use mathlib.Core.List.{List, [], _∷_}
 use Prim.Native.Nat.{ℕ}
 use lib.IntN.{pos}
 use lib.ListN.{getD, replicate}
-use Rattle.whole.specs.Table.{listed}
+use Rattle.whole.specs.Listed.{listed}
 use Rattle.whole.specs.SignedEnds.{leastProduct, greatestProduct, outward}
 use Rattle.whole.specs.Division.{floorDiv, ceilDiv}
 use Rattle.tokens.specs.Text.{malformed, taken}

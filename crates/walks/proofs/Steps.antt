@@ -12,7 +12,7 @@ use lib.ListN.{length, take, getD, set, length-map, length-set}
 use lib.Seq.{take-suc, take-suc-set, length-take-le, getD-at}
 use mir.Facts.{and-yes, yes-and}
 use Rattle.whole.specs.Clash.{clash}
-use Rattle.whole.specs.Table.{listed}
+use Rattle.whole.specs.Listed.{listed}
 use Rattle.expo.specs.Grid.{Ends}
 use Rattle.expo.specs.Billionths.{billionths}
 use Rattle.expo.specs.Code.{endsOf}

@@ -11,7 +11,8 @@ use lib.IntN.{ℤ, pos, _-ℤ_}
 use lib.ListN.{getD, replicate}
 use Rattle.whole.specs.Split.{split, split-neg, split-sub}
 use Rattle.whole.specs.Bound.{Under, under-lit, under-between, under-add, under-mul}
-use Rattle.whole.specs.Table.{every, at, listed-at}
+use Rattle.whole.specs.Listed.{every}
+use Rattle.whole.specs.Table.{at, listed-at}
 use Rattle.weights.specs.Weights.{firstFitted, fitted, firstClosed, lastClosed, closed, weightUnit, weight, weightRow}
 use Rattle.weights.specs.Weights.{Totalled, rowTotal, beside, totalled, ruled}
 use Rattle.weights.specs.Totals.{weightLimit, mostSize, sizeTotal}

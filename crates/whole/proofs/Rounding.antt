@@ -13,7 +13,8 @@ use lib.Signed.{_≤ℤ_, _<ℤ_, ltZ, ltZ-yes, ltZ-no, quotZ}
 use mir.Syntax.{w64}
 use mir.Val.{SFits, ofZ}
 use mir.Facts.{toZ-ofZ}
-use Rattle.whole.specs.Split.{above, below, split, split-sub, split-neg}
+use Rattle.whole.specs.Parts.{above, below}
+use Rattle.whole.specs.Split.{split, split-sub, split-neg}
 use Rattle.whole.specs.Division.{floorDiv, ceilDiv}
 use Rattle.whole.specs.Bound.{bits, fits-parts, fits-within}
 

@@ -11,7 +11,8 @@ use lib.Signed.{_≤ℤ_}
 use mir.Syntax.{w64}
 use mir.Val.{SFits, toZ, ofZ}
 use mir.Facts.{toZ-ofZ}
-use Rattle.whole.specs.Split.{above, below, split, split-neg, split-add, split-mul, split-abs}
+use Rattle.whole.specs.Parts.{above, below}
+use Rattle.whole.specs.Split.{split, split-neg, split-add, split-mul, split-abs}
 use Rattle.whole.specs.Division.{floorDiv, ceilDiv}
 use Rattle.whole.specs.DivisionLaws.{floorℕ-encloses, le-of-mul-lt, floor-within, ceil-within}
 

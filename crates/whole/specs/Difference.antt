@@ -6,7 +6,8 @@ use Prim.Native.Nat.{ℕ, _+_, _*_, _≤_, _<_}
 use native.Mathlib.Omega.{arith}
 use lib.IntN.{ℤ, pos, negsuc, negℤ, natAbs, _+ℤ_, _-ℤ_, _*ℤ_}
 use lib.Signed.{_≤ℤ_, _<ℤ_}
-use Rattle.whole.specs.Split.{split, above, below, split-add, split-sub, split-neg, split-mul, split-scale}
+use Rattle.whole.specs.Parts.{above, below}
+use Rattle.whole.specs.Split.{split, split-add, split-sub, split-neg, split-mul, split-scale}
 
 -- z = p − n
 pub record Difference (z : ℤ) (p n : ℕ) : Type 0 where

@@ -6,7 +6,8 @@ use native.Mathlib.Nat.{le-antisymm, lt-of-mul-lt-mul-right, div-mul-le-self, lt
 use native.Mathlib.Omega.{arith}
 use lib.IntN.{ℤ, pos, negsuc, negℤ, _+ℤ_, _*ℤ_}
 use lib.Signed.{_≤ℤ_}
-use Rattle.whole.specs.Split.{above, below, split, split-neg, split-add, split-scale, le-split}
+use Rattle.whole.specs.Parts.{above, below}
+use Rattle.whole.specs.Split.{split, split-neg, split-add, split-scale, le-split}
 use Rattle.whole.specs.Order.{≤ℤ-trans}
 use Rattle.whole.specs.Division.{floorDiv, ceilDiv, ceilDivℕ}
 

@@ -1,4 +1,6 @@
 -- definitions
+pub mod Listed
+pub mod Parts
 pub mod Division
 pub mod SignedEnds
 -- examples

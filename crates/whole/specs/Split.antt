@@ -9,16 +9,7 @@ use native.Mathlib.Omega.{arith}
 use lib.Dec.{T, ltb, leb→le, le→leb, ltb→lt, lt→ltb, nltb→le}
 use lib.IntN.{ℤ, pos, negsuc, negℤ, natAbs, subℕ, _+ℤ_, _-ℤ_, _*ℤ_}
 use lib.Signed.{leZ, ltZ, _≤ℤ_, _<ℤ_}
-
--- the part above zero: z where z is positive, else 0
-abbrev pub above : ℤ → ℕ
-above (pos n) = n
-above (negsuc n) = 0
-
--- the part below zero: −z where z is negative, else 0
-abbrev pub below : ℤ → ℕ
-below (pos n) = 0
-below (negsuc n) = suc n
+use Rattle.whole.specs.Parts.{above, below}
 
 -- ---- the operations
 

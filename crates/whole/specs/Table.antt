@@ -1,5 +1,5 @@
--- A rule of a table, proved at all of its entries by one test that is computed over the whole table; and the list of a
--- rule's values.
+-- A rule of a table, proved at all of its entries by one test that is computed over the whole table; and laws of the list of
+-- a rule's values.
 use mathlib.Core.Path.{_≡_, refl, ap, subst, sym, _∙_}
 use mathlib.Core.Bool.{Bool, true, false}
 use mathlib.Core.List.{List, [], _∷_, _++_, map}
@@ -8,10 +8,7 @@ use native.Mathlib.Nat.{add-zero, zero-add, add-suc, suc-add, le-of-suc-le-suc, 
 use native.Mathlib.Omega.{arith}
 use lib.Dec.{T}
 use lib.ListN.{length, getD, take, drop}
-
-abbrev pub both : Bool → Bool → Bool
-both true b = b
-both false b = false
+use Rattle.whole.specs.Listed.{both, every, listed}
 
 both-left : (a b : Bool) → T (both a b) → T a
 both-left true b t = tt
@@ -20,11 +17,6 @@ both-left false b t = t
 both-right : (a b : Bool) → T (both a b) → T b
 both-right true b t = t
 both-right false b t = absurd t
-
--- the test passes at each entry of the list and its place, counted from i
-abbrev pub every : {A : Type 0} → (ℕ → A → Bool) → ℕ → List A → Bool
-every test i [] = true
-every test i (x ∷ xs) = both (test i x) (every test (suc i) xs)
 
 module _ {A : Type 0} (test : ℕ → A → Bool) (d : A) where
   from : (xs : List A) (i : ℕ) → T (every test i xs) → (k : ℕ) → k < length xs → T (test (i + k) (getD xs k d))
@@ -38,11 +30,6 @@ module _ {A : Type 0} (test : ℕ → A → Bool) (d : A) where
   -- the test holds of the k-th entry
   pub at : (xs : List A) → T (every test 0 xs) → (k : ℕ) → k < length xs → T (test k (getD xs k d))
   at xs t k h = subst (λ (m : ℕ). T (test m (getD xs k d))) (zero-add k) (from xs 0 t k h)
-
--- f i, f (i + 1), .., n of them
-unfoldable pub listed : {A : Type 0} → (ℕ → A) → ℕ → ℕ → List A
-listed f i zero = []
-listed f i (suc n) = f i ∷ listed f (suc i) n
 
 module _ {A : Type 0} (f : ℕ → A) where
   pub listed-length : (i n : ℕ) → length (listed f i n) ≡ n

@@ -6,7 +6,7 @@ use native.Mathlib.Omega.{arith}
 use mathlib.Core.List.{List, [], _∷_}
 use lib.ListN.{length, getD, take, drop}
 use lib.Seq.{drop-cons, take-take}
-use Rattle.whole.specs.Table.{listed}
+use Rattle.whole.specs.Listed.{listed}
 use Rattle.words.specs.Word.{byteBits, wordBytes, wordOf, bytesIn}
 use Rattle.words.specs.LaneLaws.{none, more, lanes-of-sum, lanes-take}
 

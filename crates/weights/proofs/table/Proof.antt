@@ -1,7 +1,7 @@
 -- `table` meets its contract: one test, which the checker computes over the whole table, shows that its rows are the rule's and
 -- that each totals 110.
 use mathlib.Core.Path.{refl}
-use Rattle.whole.specs.Table.{listed}
+use Rattle.whole.specs.Listed.{listed}
 use Rattle.weights.specs.Weights.{weight, weightRow, rowTotal, beside, totalled, ruled}
 use Rattle.weights.proofs.table.Statement.{statement}
 use Rattle.weights.proofs.table.Tie as tie
