@@ -7,33 +7,31 @@ use native.Mathlib.Omega.{arith}
 use lib.Dec.{lit<}
 use lib.ListN.{length, take}
 use lib.Seq.{length-take-le}
-use Rattle.expo.specs.Grid.{Ends}
+use Rattle.expo.specs.declared.Ends.{Ends}
 use Rattle.expo.specs.Billionths.{billionths}
-use Rattle.expo.specs.Code.{endsOf}
-use Rattle.expo.specs.declared.Ends as code
 use Rattle.folds.specs.Folds.{one, withFactor, plus}
-use Rattle.folds.specs.Code.{AtMost, mostFactors, listOf, Chances}
+use Rattle.folds.specs.Code.{AtMost, mostFactors, Chances}
 use Rattle.folds.specs.Bounds.{with-factor-at-most}
 use Rattle.folds.proofs.Running.{SurvivalTo, first, within}
 use Rattle.annuity.specs.Annuity.{discounted, discountOver, paymentAfter, annuityOver}
 use Rattle.annuity.specs.Steps.{annuity-none, annuity-next}
 use Rattle.annuity.specs.Bounds.{discount-at-most, annuity-at-most}
 
-pub record DiscountTo (rate i : ℕ) (d : code.Ends) : Type 0 where
-  pub is : endsOf d ≡ discountOver billionths rate i
-  pub small : AtMost (billionths .unit) (endsOf d)
+pub record DiscountTo (rate i : ℕ) (d : Ends) : Type 0 where
+  pub is : d ≡ discountOver billionths rate i
+  pub small : AtMost (billionths .unit) d
 
 -- the price over the first i of the factors
-abbrev priceAt : ℕ → List code.Ends → ℕ → Ends
-priceAt rate factors i = annuityOver billionths rate (take i (listOf factors))
+abbrev priceAt : ℕ → List Ends → ℕ → Ends
+priceAt rate factors i = annuityOver billionths rate (take i factors)
 
-pub record PriceTo (rate : ℕ) (factors : List code.Ends) (i : ℕ) (s : code.Ends) : Type 0 where
-  pub is : endsOf s ≡ priceAt rate factors i
-  pub small : AtMost (suc mostFactors * billionths .unit) (endsOf s)
+pub record PriceTo (rate : ℕ) (factors : List Ends) (i : ℕ) (s : Ends) : Type 0 where
+  pub is : s ≡ priceAt rate factors i
+  pub small : AtMost (suc mostFactors * billionths .unit) s
 
 -- ---- the discount
 
-discount-to : {rate i : ℕ} {d : code.Ends} → endsOf d ≡ discountOver billionths rate i → DiscountTo rate i d
+discount-to : {rate i : ℕ} {d : Ends} → d ≡ discountOver billionths rate i → DiscountTo rate i d
 discount-to {rate} {i} e = record { is = e; small = rw e (discount-at-most billionths (lit< tt) rate i) }
 
 -- over no year it is 1
@@ -42,7 +40,7 @@ unfolding discountOver one
 discount-none = discount-to refl
 
 -- over one year more
-pub discount-more : {rate i : ℕ} {d r : code.Ends} → DiscountTo rate i d → endsOf r ≡ discounted rate (endsOf d)
+pub discount-more : {rate i : ℕ} {d r : Ends} → DiscountTo rate i d → r ≡ discounted rate d
     → DiscountTo rate (i + 1) r
 unfolding discountOver
 discount-more {rate} {i} h e =
@@ -50,12 +48,12 @@ discount-more {rate} {i} h e =
 
 -- ---- the payment after i years
 
-pub record PaymentTo (rate : ℕ) (factors : List code.Ends) (i : ℕ) (s : code.Ends) : Type 0 where
-  pub is : endsOf s ≡ paymentAfter billionths rate (listOf factors) i
-  pub small : AtMost (billionths .unit) (endsOf s)
+pub record PaymentTo (rate : ℕ) (factors : List Ends) (i : ℕ) (s : Ends) : Type 0 where
+  pub is : s ≡ paymentAfter billionths rate factors i
+  pub small : AtMost (billionths .unit) s
 
-pub payment-to : {rate : ℕ} {factors : List code.Ends} {i : ℕ} {d s r : code.Ends} → DiscountTo rate i d
-    → SurvivalTo factors i s → endsOf r ≡ withFactor billionths (endsOf d) (endsOf s) → PaymentTo rate factors i r
+pub payment-to : {rate : ℕ} {factors : List Ends} {i : ℕ} {d s r : Ends} → DiscountTo rate i d
+    → SurvivalTo factors i s → r ≡ withFactor billionths d s → PaymentTo rate factors i r
 unfolding paymentAfter
 payment-to h j e =
     record {
@@ -65,11 +63,11 @@ payment-to h j e =
 
 -- ---- the price
 
-module _ (rate : ℕ) (factors : List code.Ends) {count : ℕ} (size : length factors ≡ mostFactors) (k : Chances factors count) where
-  price-to : {i : ℕ} {s : code.Ends} → i ≤ count → endsOf s ≡ priceAt rate factors i → PriceTo rate factors i s
+module _ (rate : ℕ) (factors : List Ends) {count : ℕ} (size : length factors ≡ mostFactors) (k : Chances factors count) where
+  price-to : {i : ℕ} {s : Ends} → i ≤ count → s ≡ priceAt rate factors i → PriceTo rate factors i s
   price-to {i} l e =
       let a = annuity-at-most billionths (lit< tt) rate (first factors size k i l) in
-      let n : length (take i (listOf factors)) ≡ i = length-take-le i (listOf factors) (within factors size k i l) in
+      let n : length (take i factors) ≡ i = length-take-le i factors (within factors size k i l) in
       record {
         is = e;
         small = rw e (record { lower = omega (arith, a .lower, n, k .room); upper = omega (arith, a .upper, n, k .room) });
@@ -78,14 +76,14 @@ module _ (rate : ℕ) (factors : List code.Ends) {count : ℕ} (size : length fa
   -- over no factor it is the payment now
   pub price-none : PriceTo rate factors 0 (record { lower = billionths .unit; upper = billionths .unit })
   unfolding one
-  price-none = price-to {i = 0} zero-le (sym (annuity-none billionths rate (lit< tt) (listOf factors)))
+  price-none = price-to {i = 0} zero-le (sym (annuity-none billionths rate (lit< tt) factors))
 
   -- over one factor more it has one payment more
-  pub price-more : {i : ℕ} {s r t : code.Ends} → i < count → PriceTo rate factors i s → PaymentTo rate factors (i + 1) r
-      → endsOf t ≡ plus (endsOf s) (endsOf r) → PriceTo rate factors (i + 1) t
+  pub price-more : {i : ℕ} {s r t : Ends} → i < count → PriceTo rate factors i s → PaymentTo rate factors (i + 1) r
+      → t ≡ plus s r → PriceTo rate factors (i + 1) t
   price-more {i} {s} {r} {t} l h j e =
       price-to {i = i + 1} (omega arith)
       (e ∙ ap₂ plus (h .is) (j .is)
-      ∙ ap (λ (n : ℕ). plus (priceAt rate factors i) (paymentAfter billionths rate (listOf factors) n)) (add-one i)
-      ∙ sym (annuity-next billionths rate (listOf factors) i (within factors size k (suc i) l))
+      ∙ ap (λ (n : ℕ). plus (priceAt rate factors i) (paymentAfter billionths rate factors n)) (add-one i)
+      ∙ sym (annuity-next billionths rate factors i (within factors size k (suc i) l))
       ∙ ap (priceAt rate factors) (sym (add-one i)))

@@ -4,7 +4,8 @@ use mathlib.Core.List.{List}
 use Prim.Native.Nat.{ℕ, zero, suc, _+_, _*_, _/_}
 use lib.ListN.{length, take}
 use Rattle.whole.specs.Division.{ceilDivℕ}
-use Rattle.expo.specs.Grid.{Grid, Ends}
+use Rattle.expo.specs.Grid.{Grid}
+use Rattle.expo.specs.declared.Ends.{Ends}
 use Rattle.folds.specs.Folds.{one, withFactor, survivalOver, sumOver}
 
 -- a rate is "in units of 10^-6, from 0 to 200,000"

@@ -5,7 +5,8 @@ use native.Mathlib.Nat.{le-refl, div-le-of-le-mul}
 use native.Mathlib.Omega.{arith}
 use lib.ListN.{length}
 use Rattle.whole.specs.DivisionLaws.{ceilℕ-least}
-use Rattle.expo.specs.Grid.{Grid, Ends}
+use Rattle.expo.specs.Grid.{Grid}
+use Rattle.expo.specs.declared.Ends.{Ends}
 use Rattle.folds.specs.Folds.{one}
 use Rattle.folds.specs.Each.{Each, each-take}
 use Rattle.folds.specs.Code.{AtMost}

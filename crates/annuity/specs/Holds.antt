@@ -10,7 +10,8 @@ use Rattle.fraction.specs.Ratio.{Ratio, _≤/_, whole/, quotient/, _*/_}
 use Rattle.fraction.specs.RatioLaws.{≤/-refl, ≤/-trans, */-mono}
 use Rattle.fraction.specs.Bracket.{Bracket}
 use Rattle.fraction.specs.Places.{places-length, places-take}
-use Rattle.expo.specs.Grid.{Grid, Ends, inUnits}
+use Rattle.expo.specs.Grid.{Grid, inUnits}
+use Rattle.expo.specs.declared.Ends.{Ends}
 use Rattle.folds.specs.Exact.{exactly}
 use Rattle.folds.specs.Holds.{Over, one-over, with-factor-holds, sum-holds, survival-holds}
 use Rattle.annuity.specs.Annuity.{rateUnit, discounted, discountOver, paymentAfter, annuityOver}

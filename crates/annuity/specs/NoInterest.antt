@@ -10,7 +10,8 @@ use Rattle.whole.specs.DivisionLaws.{floorℕ-exact, ceilℕ-exact}
 use Rattle.fraction.specs.Ratio.{Ratio, _≈/_, whole/, quotient/, _*/_}
 use Rattle.fraction.specs.RatioLaws.{≈/-trans, */-cong, */-one, one-*/}
 use Rattle.fraction.specs.Bracket.{Bracket}
-use Rattle.expo.specs.Grid.{Grid, Ends}
+use Rattle.expo.specs.Grid.{Grid}
+use Rattle.expo.specs.declared.Ends.{Ends}
 use Rattle.folds.specs.Folds.{one, survivalOver, survivalsOver, plus, sumOver}
 use Rattle.folds.specs.Steps.{sum-same, plus-assoc, one-with-factor}
 use Rattle.folds.specs.Exact.{exactly, orderWithFactor, orderSurvivalFrom, orderSurvivalOver, orderSurvivalsOver, orderPlus, orderSumOver}

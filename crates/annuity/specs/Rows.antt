@@ -2,7 +2,7 @@
 use mathlib.Core.Path.{_≡_, refl}
 use mathlib.Core.List.{List, [], _∷_}
 use Rattle.whole.specs.Division.{ceilDivℕ}
-use Rattle.expo.specs.Grid.{Ends}
+use Rattle.expo.specs.declared.Ends.{Ends}
 use Rattle.expo.specs.Billionths.{billionths}
 use Rattle.folds.specs.Folds.{one, withFactor, survivalFrom, survivalOver, plus, sumOver}
 use Rattle.annuity.specs.Annuity.{mostRate, discounted, discountOver, paymentAfter, annuityOver}

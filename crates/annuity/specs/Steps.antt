@@ -6,7 +6,8 @@ use native.Mathlib.Nat.{zero-add}
 use native.Mathlib.Omega.{arith}
 use lib.ListN.{length, take}
 use lib.Seq.{take-take, length-take-le}
-use Rattle.expo.specs.Grid.{Grid, Ends}
+use Rattle.expo.specs.Grid.{Grid}
+use Rattle.expo.specs.declared.Ends.{Ends}
 use Rattle.folds.specs.Folds.{one, withFactor, survivalFrom, survivalOver, plus, sumOver}
 use Rattle.folds.specs.Steps.{sum-same, one-with-factor}
 use Rattle.annuity.specs.Annuity.{discountOver, paymentAfter, annuityOver}

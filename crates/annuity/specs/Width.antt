@@ -9,7 +9,8 @@ use lib.ListN.{length, take}
 use Rattle.whole.specs.Division.{ceilDivℕ}
 use Rattle.whole.specs.DivisionLaws.{floorℕ-encloses, ceilℕ-encloses, ceilℕ-least, le-of-mul-lt}
 use Rattle.fraction.specs.Places.{places-length, places-take}
-use Rattle.expo.specs.Grid.{Grid, Ends}
+use Rattle.expo.specs.Grid.{Grid}
+use Rattle.expo.specs.declared.Ends.{Ends}
 use Rattle.expo.specs.Exponential.{total}
 use Rattle.folds.specs.Width.{Chance, chance-wider, spread, spreads, sum-ordered, sum-width, one-chance, with-factor-chance, survival-chance}
 use Rattle.annuity.specs.Annuity.{rateUnit, discounted, discountOver, paymentAfter, annuityOver}

@@ -8,8 +8,7 @@ ghost use mathlib.Core.Path.{_≡_};
 ghost use Prim.Native.Nat.{_≤_};
 ghost use lib.ListN.{take};
 ghost use Rattle.expo.specs.Billionths.{billionths};
-ghost use Rattle.expo.specs.Code.{endsOf};
-ghost use Rattle.folds.specs.Code.{AtMost, listOf, Chances};
+ghost use Rattle.folds.specs.Code.{AtMost, Chances};
 ghost use Rattle.annuity.specs.Annuity.{mostRate, discounted, annuityOver};
 
 // What a rate is counted in, and the highest one.
@@ -19,8 +18,8 @@ pub const MOST_RATE: u64 = 200_000;
 
 // A discount over one year more.
 fn discounted(d: Ends, rate: u64) -> Ends
-    requires { ⌜ AtMost (billionths .unit) (endsOf d) × (rate ≤ mostRate) ⌝ }
-    ensures { λ r. ⌜ endsOf r ≡ discounted rate (endsOf d) ⌝ }
+    requires { ⌜ AtMost (billionths .unit) d × (rate ≤ mostRate) ⌝ }
+    ensures { λ r. ⌜ r ≡ discounted rate d ⌝ }
 {
     let divisor = RATE_UNIT + rate;
     Ends {
@@ -32,7 +31,7 @@ fn discounted(d: Ends, rate: u64) -> Ends
 // The price over the first `count` factors: 1 now, and after each factor the discount times the survival to it.
 pub fn annuity_over(factors: [Ends; MOST_FACTORS], count: usize, rate: u64) -> Ends
     requires { ⌜ Chances factors count × (rate ≤ mostRate) ⌝ }
-    ensures { λ r. ⌜ endsOf r ≡ annuityOver billionths rate (take count (listOf factors)) ⌝ }
+    ensures { λ r. ⌜ r ≡ annuityOver billionths rate (take count factors) ⌝ }
 {
     let one = Ends {
         lower: UNIT,

@@ -11,25 +11,25 @@ use Rattle.series.specs.Series.{logForce, inRange}
 use Rattle.weights.specs.Weights.{firstClosed, weightRow}
 use Rattle.logistic.specs.Logistic.{logistic}
 use Rattle.closure.specs.Closure.{weightedMean}
-use Rattle.closure.specs.Code.{listOf, weightOf}
+use Rattle.closure.specs.Code.{weightOf}
 use Rattle.closure.specs.Rows.{row-mean}
 use Rattle.cells.specs.declared.Cell.{Cell}
 use Rattle.cells.specs.declared.Cell.the-variants.{LogForceOutOfRange, Of}
 use Rattle.fitted_ages.specs.declared.Fitted.{Fitted}
 use Rattle.mortality.specs.Cell.{youngForce, oldForce, force, survival, fittedList, neededInRange}
 use Rattle.fitted_ages.specs.Code.{FittedOf}
-use Rattle.cells.specs.Code.{coded, youngCell, oldCell, cellOf}
+use Rattle.cells.specs.Code.{youngCell, oldCell, cellOf}
 
 pub young-cell : (p : Params) {x : ℕ} (n : ℕ) → x < firstClosed → youngCell (logForce p x n) ≡ cellOf p x n
 unfolding youngCell cellOf neededInRange survival force youngForce
 young-cell p {x} n l = rw (lt-ltb x firstClosed l)
 
 -- with ends of H that are there
-old-of : (p : Params) (x n : ℕ) (f : Fitted) → listOf (f .ends) ≡ fittedList billionths p n
-    → Of (coded (expBetween billionths (logistic billionths (weightedMean (weightOf (weightRow x)) (listOf (f .ends))))))
-    ≡ Of (coded (expBetween billionths (oldForce billionths p x n)))
+old-of : (p : Params) (x n : ℕ) (f : Fitted) → f .ends ≡ fittedList billionths p n
+    → Of (expBetween billionths (logistic billionths (weightedMean (weightOf (weightRow x)) (f .ends))))
+    ≡ Of (expBetween billionths (oldForce billionths p x n))
 unfolding oldForce
-old-of p x n f e = rw (row-mean x (listOf (f .ends)), e)
+old-of p x n f e = rw (row-mean x (f .ends), e)
 
 by-range : (b : Bool) {c d : Cell} (e : Cell) → (T b → c ≡ d) → cond b c e ≡ cond b d e
 by-range true e h = h tt

@@ -3,35 +3,30 @@ use mathlib.Core.Bool.{cond}
 use mathlib.Core.List.{List}
 use Prim.Native.Nat.{ℕ}
 use lib.IntN.{ℤ}
-use Rattle.whole.specs.SignedEnds.{SignedEnds}
-use Rattle.expo.specs.Grid.{Ends}
+use Rattle.whole.specs.declared.SignedEnds.{SignedEnds}
+use Rattle.expo.specs.declared.Ends.{Ends}
 use Rattle.expo.specs.Exponential.{expBetween}
 use Rattle.expo.specs.Billionths.{billionths}
-use Rattle.expo.specs.declared.Ends as code
 use Rattle.params.specs.declared.Params.{Params}
 use Rattle.series.specs.Series.{inRange}
 use Rattle.logistic.specs.Logistic.{logistic}
 use Rattle.closure.specs.Closure.{weightedMean}
-use Rattle.closure.specs.Code.{listOf, weightOf}
+use Rattle.closure.specs.Code.{weightOf}
 use Rattle.force.specs.Force.{negated}
 use Rattle.mortality.specs.Cell.{survival, neededInRange}
 use Rattle.fitted_ages.specs.declared.Fitted.{Fitted}
 use Rattle.cells.specs.declared.Cell.{Cell}
 use Rattle.cells.specs.declared.Cell.the-variants.{LogForceOutOfRange, Of}
 
--- the grid's two ends as the code's
-abbrev pub coded : Ends → code.Ends
-coded e = record { lower = e .lower; upper = e .upper }
-
 -- the answer at an age to 90, from its log force
 unfoldable pub youngCell : SignedEnds → Cell
-youngCell m = cond (inRange m) (Of (coded (expBetween billionths (expBetween billionths (negated m))))) LogForceOutOfRange
+youngCell m = cond (inRange m) (Of (expBetween billionths (expBetween billionths (negated m)))) LogForceOutOfRange
 
 -- the answer at an age above 90, from its weights and the ends of H
 unfoldable pub oldCell : List ℤ → Fitted → Cell
 oldCell row f =
-    cond (f .ok) (Of (coded (expBetween billionths (logistic billionths (weightedMean (weightOf row) (listOf (f .ends))))))) LogForceOutOfRange
+    cond (f .ok) (Of (expBetween billionths (logistic billionths (weightedMean (weightOf row) (f .ends))))) LogForceOutOfRange
 
 -- the answer at age x in year n: p's ends where every needed cell is in range
 unfoldable pub cellOf : Params → ℕ → ℕ → Cell
-cellOf p x n = cond (neededInRange p x n) (Of (coded (survival billionths p x n))) LogForceOutOfRange
+cellOf p x n = cond (neededInRange p x n) (Of (survival billionths p x n)) LogForceOutOfRange

@@ -2,7 +2,6 @@
 // parameters at ages to 90 and by the closure above.
 ghost use mathlib.Core.Path.{_≡_};
 ghost use lib.Dec.{T};
-ghost use Rattle.signed_ends.specs.Code.{endsOf};
 ghost use Rattle.series.specs.Series.{cellForce};
 ghost use Rattle.closure.specs.Code.{InLimit, RowWithin};
 ghost use Rattle.years.specs.Code.{CellWithin};
@@ -21,7 +20,7 @@ pub enum Cell {
 // The cell at an age to 90, by its parameters.
 pub fn young_cell(age: Age, y: Year) -> Cell
     requires { ⌜ CellWithin age y ⌝ }
-    ensures { λ r. ⌜ r ≡ youngCell (cellForce age (y .period) (endsOf (y .kappas))) ⌝ }
+    ensures { λ r. ⌜ r ≡ youngCell (cellForce age (y .period) (y .kappas)) ⌝ }
 {
     let m = years::log_force_at(age, y);
     if !series::in_range(m) {

@@ -5,19 +5,17 @@ use Prim.Native.Nat.{ℕ, zero, suc, _+_, _*_, _≤_, _<_}
 use native.Mathlib.Numerals.{add-one}
 use native.Mathlib.Omega.{arith}
 use lib.IntN.{ℤ, pos, _+ℤ_}
-use lib.ListN.{getD, List·getD-map}
 use mir.Syntax.{w64}
 use mir.Val.{SFits}
 use Rattle.whole.specs.Bound.{bits, Under, under-lit, under-weaken, under-add, fits, back}
-use Rattle.whole.specs.SignedEnds.{SignedEnds, leastProduct, greatestProduct}
-use Rattle.signed_ends.specs.declared.SignedEnds as code
-use Rattle.signed_ends.specs.Code.{endsOf}
-use Rattle.signed_ends.specs.EndLaws.{Within, least-under, greatest-under}
-use Rattle.signed_ends.proofs.Signed.{read, sum}
+use Rattle.whole.specs.declared.SignedEnds.{SignedEnds}
+use Rattle.whole.specs.SignedEnds.{leastProduct, greatestProduct}
+use Rattle.whole.specs.EndLaws.{Within, least-under, greatest-under}
+use Rattle.whole.proofs.Signed.{read, sum}
 use Rattle.weights.specs.Weights.{fitted}
 use Rattle.weights.specs.Totals.{weightLimit}
 use Rattle.closure.specs.Closure.{endsAt, leastSum, greatestSum}
-use Rattle.closure.specs.Code.{listOf, endLimit, sumsLimit, InLimit, weightOf, RowWithin, withProduct}
+use Rattle.closure.specs.Code.{endLimit, sumsLimit, InLimit, weightOf, RowWithin, withProduct}
 
 -- a sum with the least or the greatest product of a weight with the ends of H: it fits, and is read as it is
 module _ {s w : ℤ} {e : SignedEnds} (hs : Under s sumsLimit) (hw : Under w weightLimit) (he : Within endLimit e) where
@@ -37,22 +35,11 @@ module _ {s w : ℤ} {e : SignedEnds} (hs : Under s sumsLimit) (hw : Under w wei
 abbrev pub sumsTo : (ℕ → ℤ) → List SignedEnds → ℕ → SignedEnds
 sumsTo w hs n = record { lower = leastSum w hs n; upper = greatestSum w hs n }
 
--- the ends that the code reads at i are the definition's
-abbrev pub codeAt : List code.SignedEnds → ℕ → code.SignedEnds
-codeAt h i = getD h i (record { lower = pos 0; upper = pos 0 })
-
-ends-at : (h : List code.SignedEnds) (i : ℕ) → endsAt (listOf h) i ≡ endsOf (codeAt h i)
-ends-at h i = List·getD-map endsOf h i (record { lower = pos 0; upper = pos 0 })
-
-pub ends-within : (h : List code.SignedEnds) → InLimit h → (i : ℕ) → i < fitted → Within endLimit (endsOf (codeAt h i))
-ends-within h k i l = rw (← ends-at h i) (k i l)
-
 -- with the i-th product added they give the next sums
-pub sums-next : (w : ℕ → ℤ) (h : List code.SignedEnds) (i : ℕ)
-    → withProduct (sumsTo w (listOf h) i) (w i) (endsOf (codeAt h i))
-    ≡ sumsTo w (listOf h) (i + 1)
+pub sums-next : (w : ℕ → ℤ) (h : List SignedEnds) (i : ℕ)
+    → withProduct (sumsTo w h i) (w i) (endsAt h i) ≡ sumsTo w h (i + 1)
 unfolding withProduct leastSum greatestSum
-sums-next w h i = rw (add-one i, ends-at h i)
+sums-next w h i = rw (add-one i)
 
 -- the sums stay within their limit
 module _ (row : List ℤ) (hs : List SignedEnds) (r : RowWithin row) (h : (i : ℕ) → i < fitted → Within endLimit (endsAt hs i)) where

@@ -3,7 +3,8 @@ use Prim.Native.Nat.{ℕ, zero, suc}
 use mathlib.Core.List.{List}
 use lib.IntN.{ℤ, pos, _+ℤ_}
 use lib.ListN.{getD}
-use Rattle.whole.specs.SignedEnds.{SignedEnds, leastProduct, greatestProduct, outward}
+use Rattle.whole.specs.declared.SignedEnds.{SignedEnds}
+use Rattle.whole.specs.SignedEnds.{leastProduct, greatestProduct, outward}
 use Rattle.weights.specs.Weights.{fitted, weightUnit, weight}
 
 -- the ends of H at the i-th fitted age, of eleven

@@ -1,21 +1,16 @@
--- What the code's contracts say beside the definitions: the ends of H as the code's array has them, the limits in which
--- their weighted sums are worked, and the sums with one product added.
-use mathlib.Core.List.{List, map}
+-- What the code's contracts say beside the definitions: the limits in which the weighted sums of
+-- the ends of H are worked, and the sums with one product added.
+use mathlib.Core.List.{List}
 use Prim.Native.Nat.{ℕ, _*_, _^_, _<_}
 use lib.IntN.{ℤ, pos, _+ℤ_}
 use lib.ListN.{getD}
 use Rattle.whole.specs.Bound.{Under}
-use Rattle.whole.specs.SignedEnds.{SignedEnds, leastProduct, greatestProduct}
-use Rattle.signed_ends.specs.declared.SignedEnds as code
-use Rattle.signed_ends.specs.Code.{endsOf}
-use Rattle.signed_ends.specs.EndLaws.{Within}
+use Rattle.whole.specs.declared.SignedEnds.{SignedEnds}
+use Rattle.whole.specs.SignedEnds.{leastProduct, greatestProduct}
+use Rattle.whole.specs.EndLaws.{Within}
 use Rattle.weights.specs.Weights.{fitted}
 use Rattle.weights.specs.Totals.{weightLimit}
 use Rattle.closure.specs.Closure.{endsAt}
-
--- the code's ends of H as the definitions'
-abbrev pub listOf : List code.SignedEnds → List SignedEnds
-listOf h = map endsOf h
 
 -- how far from 0 an end of H and the weighted sums may lie
 abbrev pub endLimit : ℕ
@@ -25,8 +20,8 @@ abbrev pub sumsLimit : ℕ
 sumsLimit = fitted * (weightLimit * endLimit)
 
 -- every end of H is within its limit
-abbrev pub InLimit : List code.SignedEnds → Type 0
-InLimit h = (i : ℕ) → i < fitted → Within endLimit (endsAt (listOf h) i)
+abbrev pub InLimit : List SignedEnds → Type 0
+InLimit h = (i : ℕ) → i < fitted → Within endLimit (endsAt h i)
 
 -- the weights of a row, each within its limit
 abbrev pub weightOf : List ℤ → ℕ → ℤ

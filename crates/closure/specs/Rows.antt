@@ -5,7 +5,7 @@ use Prim.Native.Nat.{ℕ, zero, suc, _≤_, _<_}
 use native.Mathlib.Nat.{le-refl}
 use native.Mathlib.Omega.{arith}
 use lib.IntN.{ℤ}
-use Rattle.whole.specs.SignedEnds.{SignedEnds}
+use Rattle.whole.specs.declared.SignedEnds.{SignedEnds}
 use Rattle.weights.specs.Weights.{fitted, firstClosed, lastClosed, weight, weightRow}
 use Rattle.weights.specs.WeightLaws.{row-weight, weight-under}
 use Rattle.closure.specs.Closure.{leastSum, greatestSum, weightedMean, closedSum}

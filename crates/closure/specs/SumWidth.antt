@@ -8,10 +8,11 @@ use lib.IntN.{ℤ, pos, natAbs, _+ℤ_}
 use lib.Signed.{_≤ℤ_, ≤ℤ-refl}
 use Rattle.whole.specs.Split.{split, split-add}
 use Rattle.whole.specs.Order.{≤ℤ-trans, +ℤ-mono}
-use Rattle.whole.specs.SignedEnds.{SignedEnds, leastProduct, greatestProduct, outward}
+use Rattle.whole.specs.declared.SignedEnds.{SignedEnds}
+use Rattle.whole.specs.SignedEnds.{leastProduct, greatestProduct, outward}
 use Rattle.whole.specs.Division.{floorDiv, ceilDiv}
 use Rattle.whole.specs.DivisionLaws.{split-floor, split-ceil, floor-mono, floor-le-ceil}
-use Rattle.signed_ends.specs.EndLaws.{product-spread, product-ordered}
+use Rattle.whole.specs.EndLaws.{product-spread, product-ordered}
 use Rattle.weights.specs.Weights.{fitted, firstClosed, lastClosed, weightUnit, weight}
 use Rattle.weights.specs.Totals.{mostSize, sizeTotal}
 use Rattle.weights.specs.WeightLaws.{weights-size}

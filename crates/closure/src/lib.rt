@@ -1,22 +1,21 @@
 // G at ages 91 to 120 on the grid: the weighted sum of H at ages 80 to 90, over 110, by a row of weights.
 ghost use mathlib.Core.Path.{_≡_};
 ghost use Rattle.whole.specs.Bound.{Under};
-ghost use Rattle.signed_ends.specs.Code.{endsOf};
-ghost use Rattle.signed_ends.specs.EndLaws.{Within};
+ghost use Rattle.whole.specs.EndLaws.{Within};
 ghost use Rattle.weights.specs.Totals.{weightLimit};
 ghost use Rattle.closure.specs.Closure.{weightedMean};
-ghost use Rattle.closure.specs.Code.{listOf, endLimit, sumsLimit, InLimit, weightOf, RowWithin, withProduct};
-use signed_ends::SignedEnds;
+ghost use Rattle.closure.specs.Code.{endLimit, sumsLimit, InLimit, weightOf, RowWithin, withProduct};
 use weights::FITTED;
 use weights::WEIGHT_UNIT;
+use whole::SignedEnds;
 
 // The least and the greatest sum with w times the ends added.
 fn add_product(sums: SignedEnds, w: i64, e: SignedEnds) -> SignedEnds
-    requires { ⌜ Within sumsLimit (endsOf sums) × Under w weightLimit × Within endLimit (endsOf e) ⌝ }
-    ensures { λ r. ⌜ endsOf r ≡ withProduct (endsOf sums) w (endsOf e) ⌝ }
+    requires { ⌜ Within sumsLimit sums × Under w weightLimit × Within endLimit e ⌝ }
+    ensures { λ r. ⌜ r ≡ withProduct sums w e ⌝ }
 {
-    let least = signed_ends::least_product(w, e);
-    let greatest = signed_ends::greatest_product(w, e);
+    let least = whole::least_product(w, e);
+    let greatest = whole::greatest_product(w, e);
     SignedEnds {
         lower: sums.lower + least,
         upper: sums.upper + greatest,
@@ -26,7 +25,7 @@ fn add_product(sums: SignedEnds, w: i64, e: SignedEnds) -> SignedEnds
 // The weighted sum of the ends of H over 110, by a row of weights.
 pub fn closed_sum(row: [i64; 11], h: [SignedEnds; 11]) -> SignedEnds
     requires { ⌜ RowWithin row × InLimit h ⌝ }
-    ensures { λ r. ⌜ endsOf r ≡ weightedMean (weightOf row) (listOf h) ⌝ }
+    ensures { λ r. ⌜ r ≡ weightedMean (weightOf row) h ⌝ }
 {
     let mut sums = SignedEnds { lower: 0, upper: 0 };
     let mut i = 0;
@@ -38,7 +37,7 @@ pub fn closed_sum(row: [i64; 11], h: [SignedEnds; 11]) -> SignedEnds
     let least = sums.lower;
     let greatest = sums.upper;
     SignedEnds {
-        lower: signed_ends::outward_div(least, WEIGHT_UNIT, false),
-        upper: signed_ends::outward_div(greatest, WEIGHT_UNIT, true),
+        lower: whole::outward_div(least, WEIGHT_UNIT, false),
+        upper: whole::outward_div(greatest, WEIGHT_UNIT, true),
     }
 }

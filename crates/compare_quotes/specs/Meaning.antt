@@ -2,7 +2,8 @@
 use Prim.Native.Nat.{ℕ, _≤_, _<_}
 use Rattle.fraction.specs.Ratio.{_</_, _+/_}
 use Rattle.taylor.specs.Order.{leastOrder}
-use Rattle.expo.specs.Grid.{Grid, Ends, inUnits}
+use Rattle.expo.specs.Grid.{Grid, inUnits}
+use Rattle.expo.specs.declared.Ends.{Ends}
 use Rattle.exact.specs.Value.{Exact, AtLeast, AtMost}
 use Rattle.compare_quotes.specs.declared.Excess.{Excess}
 use Rattle.compare_quotes.specs.declared.Values.{Values}

@@ -7,7 +7,8 @@ use Rattle.fraction.specs.Ratio.{Ratio, _≤/_, _</_, _+/_, whole/, quotient/}
 use Rattle.fraction.specs.RatioLaws.{≤/-refl, ≤/-trans, ≤/-of-not-</, </-of-not-≤/, not-≤/-of-</}
 use Rattle.fraction.specs.RatioLaws.{+/-mono, +/-comm, +/-assoc, +/-cancel}
 use Rattle.taylor.specs.Order.{leastOrder}
-use Rattle.expo.specs.Grid.{Grid, Ends, inUnits}
+use Rattle.expo.specs.Grid.{Grid, inUnits}
+use Rattle.expo.specs.declared.Ends.{Ends}
 use Rattle.exact.specs.Value.{Exact, Narrows}
 use Rattle.exact.specs.ValueLaws.{at-least-weaken, at-most-weaken}
 use Rattle.compare_quotes.specs.declared.Excess.{Excess}

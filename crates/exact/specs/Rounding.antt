@@ -8,7 +8,8 @@ use native.Mathlib.Decide.{decLt}
 use native.Mathlib.Omega.{arith}
 use Rattle.fraction.specs.Ratio.{_≤/_, _</_, _+/_, whole/, quotient/}
 use Rattle.fraction.specs.RatioLaws.{≤/-refl, ≤/-trans, +/-mono, </-≤/-trans, ≤/-</-trans, ≤/-of-not-</}
-use Rattle.expo.specs.Grid.{Grid, Ends, inUnits}
+use Rattle.expo.specs.Grid.{Grid, inUnits}
+use Rattle.expo.specs.declared.Ends.{Ends}
 use Rattle.exact.specs.Value.{Exact, AtLeast, AtMost, lowerEdge, upperEdge, RoundsTo, OneStep, Narrows}
 use Rattle.exact.specs.ValueLaws.{at-least-weaken}
 use Rattle.exact.specs.Figure.{halfUp}

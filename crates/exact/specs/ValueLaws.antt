@@ -4,8 +4,9 @@ use Prim.Native.Nat.{ℕ, _≤_}
 use Rattle.fraction.specs.Ratio.{Ratio, _≤/_}
 use Rattle.fraction.specs.RatioLaws.{</-≤/-trans, ≤/-</-trans, not-</-of-≤/}
 use Rattle.taylor.specs.Order.{leastOrder}
-use Rattle.expo.specs.Grid.{Grid, Ends, inUnits}
+use Rattle.expo.specs.Grid.{Grid, inUnits}
 use Rattle.expo.specs.Overlap.{Overlap}
+use Rattle.expo.specs.declared.Ends.{Ends}
 use Rattle.exact.specs.Value.{Exact, AtLeast, AtMost}
 
 -- at least c is at least what is at most c

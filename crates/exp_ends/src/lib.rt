@@ -2,7 +2,6 @@
 ghost use mathlib.Core.Path.{_≡_};
 ghost use Rattle.expo.specs.Billionths.{billionths};
 ghost use Rattle.expo.specs.Exponential.{expLower, expUpper, expBetween};
-ghost use Rattle.expo.specs.Code.{endsOf};
 use expo::CUTOFF;
 use expo::Ends;
 use expo::STEP;
@@ -87,7 +86,7 @@ pub fn exp_upper(z: u64) -> u64
 
 // The ends of the exponential of −z for a z with two ends: the larger z gives the lower end.
 pub fn exp_between(z: Ends) -> Ends
-    ensures { λ r. ⌜ endsOf r ≡ expBetween billionths (endsOf z) ⌝ }
+    ensures { λ r. ⌜ r ≡ expBetween billionths z ⌝ }
 {
     Ends {
         lower: exp_lower(z.upper),

@@ -9,7 +9,8 @@ use lib.Dec.{ltb}
 use lib.ListN.{getD}
 use Rattle.whole.specs.Division.{ceilDivℕ}
 use Rattle.alternating.specs.Alternating.{double}
-use Rattle.expo.specs.Grid.{Grid, Ends}
+use Rattle.expo.specs.Grid.{Grid}
+use Rattle.expo.specs.declared.Ends.{Ends}
 
 -- units in a step of the constants, and the cut-off in units
 abbrev pub step : Grid → ℕ

@@ -20,11 +20,6 @@ pub record Grid : Type 0 where
   -- terms of the logarithm
   pub logTerms : ℕ
 
--- two ends, in units
-pub record Ends : Type 0 where
-  pub lower : ℕ
-  pub upper : ℕ
-
 -- n units
 unfoldable pub inUnits : Grid → ℕ → Ratio
 inUnits g n = record { num = n; den = g .unit; positive = g .positive }

@@ -6,7 +6,8 @@ use Rattle.fraction.specs.Ratio.{Ratio, _≤/_}
 use Rattle.fraction.specs.RatioLaws.{≤/-trans}
 use Rattle.taylor.specs.Order.{orderLower, orderUpper}
 use Rattle.taylor.specs.OrderLaws.{lower-antitone, upper-antitone}
-use Rattle.expo.specs.Grid.{Grid, Ends, inUnits}
+use Rattle.expo.specs.Grid.{Grid, inUnits}
+use Rattle.expo.specs.declared.Ends.{Ends}
 use Rattle.expo.specs.Exponential.{expLower, expUpper, expBetween}
 use Rattle.expo.specs.Facts.{Sound}
 use Rattle.expo.specs.Overlap.{Overlap}

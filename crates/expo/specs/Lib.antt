@@ -5,7 +5,6 @@ pub mod Billionths
 pub mod Overlap
 pub mod Facts
 pub mod WidthFacts
-pub mod Code
 -- the papers' examples
 pub mod Edges
 -- laws

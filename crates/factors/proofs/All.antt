@@ -1,7 +1,7 @@
 -- All the factors of a path, or a cell out of range.
 use mathlib.Core.Path.{_≡_, refl, ap, ap₂, subst, sym, _∙_}
 use mathlib.Core.Bool.{Bool, true, false}
-use mathlib.Core.List.{List, _∷_, _++_, append-nil, map-append}
+use mathlib.Core.List.{List, _++_, append-nil}
 use Prim.Native.Nat.{ℕ, zero, suc, _+_, _-_, _≤_, _<_}
 use native.Mathlib.Nat.{le-refl}
 use native.Mathlib.Decide.{decLt}
@@ -9,13 +9,11 @@ use native.Mathlib.Omega.{arith}
 use lib.Dec.{T}
 use lib.Ieee.Bits.{is-true}
 use lib.ListN.{take, getD, replicate}
-use Rattle.expo.specs.Grid.{Ends}
+use Rattle.expo.specs.declared.Ends.{Ends}
 use Rattle.expo.specs.Billionths.{billionths}
-use Rattle.expo.specs.Code.{endsOf}
-use Rattle.expo.specs.declared.Ends as code
 use Rattle.params.specs.declared.Params.{Params}
 use Rattle.weights.specs.Weights.{lastClosed}
-use Rattle.folds.specs.Code.{mostFactors, listOf}
+use Rattle.folds.specs.Code.{mostFactors}
 use Rattle.mortality.specs.Cell.{survival}
 use Rattle.paths.specs.Path.{placeAt, pathOf, factors, pathInRange}
 use Rattle.paths.specs.Oldest.{range-stays, factors-stay, place-oldest}
@@ -24,15 +22,15 @@ use Rattle.walks.specs.Code.{pathTo, pathIs, Worked}
 use Rattle.walks.proofs.Steps.{worked-last}
 use Rattle.factors.specs.Code.{workedCells, empty, Repeated, FactorsOf}
 
-all-of : {p : Params} {w : Path} {es : List code.Ends} → T (pathInRange p (pathIs w))
-    → listOf (take (w .count) es) ≡ factors billionths p (pathIs w) → FactorsOf p w (record { ok = true; ends = es })
+all-of : {p : Params} {w : Path} {es : List Ends} → T (pathInRange p (pathIs w))
+    → take (w .count) es ≡ factors billionths p (pathIs w) → FactorsOf p w (record { ok = true; ends = es })
 all-of {p} {w} t e = record { ok = sym (is-true (pathInRange p (pathIs w)) t); ends = λ b. e }
 
-pub worked-all : {p : Params} {w : Path} {es : List code.Ends} {s : ℕ} → Worked p w es s → s ≡ w .count
+pub worked-all : {p : Params} {w : Path} {es : List Ends} {s : ℕ} → Worked p w es s → s ≡ w .count
     → FactorsOf p w (record { ok = true; ends = es })
 worked-all h e = let k = rw e at h in all-of (k .range) (k .ends)
 
-pub out-all : {p : Params} {w : Path} {es : List code.Ends} → pathInRange p (pathIs w) ≡ false
+pub out-all : {p : Params} {w : Path} {es : List Ends} → pathInRange p (pathIs w) ≡ false
     → FactorsOf p w (record { ok = false; ends = es })
 out-all e = record { ok = sym e; ends = λ t. absurd t }
 
@@ -54,10 +52,6 @@ cells-some true x k e h l m = omega arith
 cells-some false x k e h l m = omega arith
 
 -- ---- the cell of age 120 worked once
-
-repeated-ends : (k : ℕ) (e : code.Ends) → listOf (replicate k e) ≡ replicate k (endsOf e)
-repeated-ends zero e = refl
-repeated-ends (suc k) e = ap (λ (l : List Ends). endsOf e ∷ l) (repeated-ends k e)
 
 -- in one calendar year, past age 120
 module _ (p : Params) (c : Bool) (x n s count : ℕ) (q : c ≡ false) (l : suc s ≤ count) (a : lastClosed ≤ x + s) where
@@ -81,7 +75,7 @@ suc-pred : (s : ℕ) → suc s - 1 ≡ s
 suc-pred s = omega arith
 
 -- all the factors are those that were worked, or in one calendar year those to age 120 and then the last of them
-pub worked-rest : {p : Params} {w : Path} {es r : List code.Ends} (s : ℕ) → 0 < s → w .count ≤ mostFactors → Worked p w es s
+pub worked-rest : {p : Params} {w : Path} {es r : List Ends} (s : ℕ) → 0 < s → w .count ≤ mostFactors → Worked p w es s
     → (s < w .count → (w .cohort ≡ false) × (lastClosed < w .age + s)) → Repeated es s (w .count) r
     → FactorsOf p w (record { ok = true; ends = r })
 worked-rest zero some m h old f = absurd (omega arith)
@@ -90,16 +84,14 @@ worked-rest {p} {w} {es} {r} (suc s) some m h old f = let e = rw (suc-pred s) at
       let o = old l in
       let a : lastClosed ≤ w .age + s = omega (arith, o .1) in
       all-of (range-rest p (w .cohort) (w .age) (w .year) s (w .count) (o .0) (h .some) a (h .range))
-      (ap listOf e ∙ map-append endsOf (take (suc s) es) (replicate (w .count - suc s) (getD es s empty))
-      ∙ ap₂ (λ (b d : List Ends). b ++ d) (h .ends)
-      (repeated-ends (w .count - suc s) (getD es s empty)
-      ∙ ap (replicate (w .count - suc s))
+      (e ∙ ap₂ (λ (b d : List Ends). b ++ d) (h .ends)
+      (ap (replicate (w .count - suc s))
       (worked-last empty h m ∙ factor-oldest p (w .cohort) (w .age) (w .year) s (w .count) (o .0) (h .some) a))
       ∙ sym (factors-rest p (w .cohort) (w .age) (w .year) s (w .count) (o .0) (h .some) a))
   | no l ↦
       let c : suc s ≡ w .count = omega (arith, h .some) in
       let z : w .count - suc s ≡ 0 = omega arith in
       all-of (subst (λ (k : ℕ). T (pathInRange p (pathTo w k))) c (h .range))
-      (ap listOf (e ∙ ap (λ (k : ℕ). take (suc s) es ++ replicate k (getD es s empty)) z ∙ append-nil (take (suc s) es))
+      (e ∙ ap (λ (k : ℕ). take (suc s) es ++ replicate k (getD es s empty)) z ∙ append-nil (take (suc s) es)
       ∙ h .ends ∙ ap (λ (k : ℕ). factors billionths p (pathTo w k)) c)
 ]

@@ -6,10 +6,10 @@ use Prim.Native.Nat.{ℕ, suc, _-_, _≤_, _<_, min}
 use lib.Dec.{T}
 use lib.ListN.{length, take, getD, replicate}
 use Rattle.expo.specs.Billionths.{billionths}
-use Rattle.expo.specs.declared.Ends as code
+use Rattle.expo.specs.declared.Ends.{Ends}
 use Rattle.params.specs.declared.Params.{Params}
 use Rattle.weights.specs.Weights.{lastClosed}
-use Rattle.folds.specs.Code.{listOf, mostFactors}
+use Rattle.folds.specs.Code.{mostFactors}
 use Rattle.paths.specs.Path.{factors, pathInRange}
 use Rattle.walks.specs.declared.Path.{Path}
 use Rattle.walks.specs.Code.{pathIs}
@@ -20,21 +20,21 @@ abbrev pub workedCells : Bool → ℕ → ℕ → ℕ
 workedCells cohort x k = cond cohort k (min (suc lastClosed - x) k)
 
 -- some of `count` factors stand in the array es, which has room for all
-pub record Begun (es : List code.Ends) (done count : ℕ) : Type 0 where
+pub record Begun (es : List Ends) (done count : ℕ) : Type 0 where
   pub some : 0 < done
   pub rest : done ≤ count
   pub room : count ≤ mostFactors
   pub size : length es ≡ mostFactors
 
 -- no factor
-abbrev pub empty : code.Ends
+abbrev pub empty : Ends
 empty = record { lower = 0; upper = 0 }
 
 -- the first `count` of the array r are the first `done` of es, and then the last of these
-abbrev pub Repeated : List code.Ends → ℕ → ℕ → List code.Ends → Type 0
+abbrev pub Repeated : List Ends → ℕ → ℕ → List Ends → Type 0
 Repeated es done count r = take count r ≡ take done es ++ replicate (count - done) (getD es (done - 1) empty)
 
 -- the factors of the path where every needed cell is in range, and whether they are
 pub record FactorsOf (p : Params) (w : Path) (r : Factors) : Type 0 where
   pub ok : r .ok ≡ pathInRange p (pathIs w)
-  pub ends : T (r .ok) → listOf (take (w .count) (r .ends)) ≡ factors billionths p (pathIs w)
+  pub ends : T (r .ok) → take (w .count) (r .ends) ≡ factors billionths p (pathIs w)

@@ -1,7 +1,7 @@
 -- The ends of H as the loop fills them in, and what it has at the end.
 use mathlib.Core.Path.{_≡_, refl, ap, sym, _∙_}
 use mathlib.Core.Bool.{true, false, and-false}
-use mathlib.Core.List.{List, map-append}
+use mathlib.Core.List.{List}
 use mathlib.Core.Logic.{⊎-elim}
 use Prim.Native.Nat.{ℕ, zero, suc, _+_, _≤_, _<_}
 use native.Mathlib.Nat.{eq-or-lt-of-le, le-of-suc-le-suc}
@@ -19,15 +19,14 @@ use Rattle.expo.specs.Billionths.{billionths}
 use Rattle.expo.specs.Exponential.{expBetween}
 use Rattle.params.specs.declared.Params.{Params}
 use Rattle.params.specs.Limits.{inLimits, lastYears}
-use Rattle.signed_ends.specs.declared.SignedEnds as code
-use Rattle.signed_ends.specs.Code.{endsOf}
-use Rattle.signed_ends.specs.EndLaws.{Within}
+use Rattle.whole.specs.declared.SignedEnds.{SignedEnds}
+use Rattle.whole.specs.EndLaws.{Within}
 use Rattle.series.specs.Series.{logForce, inRange}
 use Rattle.series.specs.WidthLaws.{logForceWidth}
 use Rattle.series.specs.RangeLaws.{Negated}
 use Rattle.logarithm.specs.Logarithm.{inverseLogistic}
 use Rattle.weights.specs.Weights.{firstFitted, fitted, lastClosed}
-use Rattle.closure.specs.Code.{listOf, endLimit}
+use Rattle.closure.specs.Code.{endLimit}
 use Rattle.force.specs.Force.{negated}
 use Rattle.mortality.specs.Cell.{youngForce, fittedEnds, fittedList, fittedInRange, neededInRange}
 use Rattle.mortality.specs.Answered.{Answered}
@@ -37,25 +36,25 @@ use Rattle.fitted_ages.specs.Code.{FittedOf}
 use Rattle.force.proofs.Ends.{under-lower, under-upper, exp-small, log-lower-small, log-upper-small, end-under}
 
 -- the first i cells are in range, and the first i ends are those of H
-pub record Filled (p : Params) (n : ℕ) (es : List code.SignedEnds) (i : ℕ) : Type 0 where
+pub record Filled (p : Params) (n : ℕ) (es : List SignedEnds) (i : ℕ) : Type 0 where
   pub count : i ≤ fitted
   pub range : T (fittedInRange p n i)
-  pub ends : listOf (take i es) ≡ listed (fittedEnds billionths p n) firstFitted i
+  pub ends : take i es ≡ listed (fittedEnds billionths p n) firstFitted i
   pub size : length es ≡ fitted
 
-pub filled-none : (p : Params) (n : ℕ) {es : List code.SignedEnds} → length es ≡ fitted → Filled p n es 0
+pub filled-none : (p : Params) (n : ℕ) {es : List SignedEnds} → length es ≡ fitted → Filled p n es 0
 unfolding fittedInRange listed
 filled-none p n h = record { count = lit≤ tt; range = tt; ends = refl; size = h }
 
 -- one end more
-list-more : (p : Params) (n i : ℕ) (es : List code.SignedEnds) (e : code.SignedEnds) → i < length es
-    → listOf (take i es) ≡ listed (fittedEnds billionths p n) firstFitted i → endsOf e ≡ fittedEnds billionths p n (firstFitted + i)
-    → listOf (take (suc i) (set es i e)) ≡ listed (fittedEnds billionths p n) firstFitted (suc i)
+list-more : (p : Params) (n i : ℕ) (es : List SignedEnds) (e : SignedEnds) → i < length es
+    → take i es ≡ listed (fittedEnds billionths p n) firstFitted i → e ≡ fittedEnds billionths p n (firstFitted + i)
+    → take (suc i) (set es i e) ≡ listed (fittedEnds billionths p n) firstFitted (suc i)
 list-more p n i es e l h k =
-    rw (listed-more (fittedEnds billionths p n) firstFitted i, take-suc-set es i e l, map-append, h, k)
+    rw (listed-more (fittedEnds billionths p n) firstFitted i, take-suc-set es i e l, h, k)
 
-pub filled-more : {p : Params} {n i : ℕ} {es : List code.SignedEnds} {e : code.SignedEnds} → Filled p n es i → i < fitted
-    → T (inRange (logForce p (firstFitted + i) n)) → endsOf e ≡ fittedEnds billionths p n (firstFitted + i)
+pub filled-more : {p : Params} {n i : ℕ} {es : List SignedEnds} {e : SignedEnds} → Filled p n es i → i < fitted
+    → T (inRange (logForce p (firstFitted + i) n)) → e ≡ fittedEnds billionths p n (firstFitted + i)
     → Filled p n (set es i e) (i + 1)
 unfolding fittedInRange
 filled-more {p} {n} {i} {es} {e} f l t k =
@@ -75,7 +74,7 @@ range-out p n i (suc k) h e =
     ⊎-elim (λ q. rw (← q, e) (and-false (fittedInRange p n i))) (λ l. rw (range-out p n i k l e))
     (eq-or-lt-of-le (le-of-suc-le-suc h))
 
-pub filled-out : (p : Params) (n i : ℕ) (es : List code.SignedEnds) → i < fitted → inRange (logForce p (firstFitted + i) n) ≡ false
+pub filled-out : (p : Params) (n i : ℕ) (es : List SignedEnds) → i < fitted → inRange (logForce p (firstFitted + i) n) ≡ false
     → FittedOf p n (record { ok = false; ends = es })
 filled-out p n i es h e =
     record { ok = sym (range-out p n i fitted h e); ends = λ t. absurd t; limit = λ t. absurd t }
@@ -97,12 +96,11 @@ needed : {p : Params} {n : ℕ} → T (inLimits p) → n ≤ lastYears → T (fi
 unfolding neededInRange
 needed t l r = record { limits = t; age = lit≤ tt; year = l; needed = r }
 
-pub filled-all : (p : Params) (n : ℕ) (es : List code.SignedEnds) → T (inLimits p) → n ≤ lastYears → Filled p n es fitted
+pub filled-all : (p : Params) (n : ℕ) (es : List SignedEnds) → T (inLimits p) → n ≤ lastYears → Filled p n es fitted
     → FittedOf p n (record { ok = true; ends = es })
 unfolding fittedList
 filled-all p n es t l f =
-    let e : listOf es ≡ fittedList billionths p n =
-    ap listOf (sym (take-all fitted es (omega (arith, f .size)))) ∙ f .ends in
+    let e : es ≡ fittedList billionths p n = sym (take-all fitted es (omega (arith, f .size))) ∙ f .ends in
     let a = needed t l (f .range) in
     record {
       ok = sym (is-true (fittedInRange p n fitted) (f .range));

@@ -7,7 +7,7 @@ use lib.IntN.{ℤ}
 use Rattle.expo.specs.Billionths.{billionths}
 use Rattle.params.specs.declared.Params.{Params}
 use Rattle.weights.specs.Weights.{fitted}
-use Rattle.closure.specs.Code.{listOf, InLimit}
+use Rattle.closure.specs.Code.{InLimit}
 use Rattle.mortality.specs.Cell.{fittedList, fittedInRange}
 use Rattle.years.specs.declared.Year.{Year}
 use Rattle.years.specs.Code.{YearOf}
@@ -16,7 +16,7 @@ use Rattle.fitted_ages.specs.declared.Fitted.{Fitted}
 -- f has the ends of H in year n where its eleven cells are in range, and says whether they are
 pub record FittedOf (p : Params) (n : ℕ) (f : Fitted) : Type 0 where
   pub ok : f .ok ≡ fittedInRange p n fitted
-  pub ends : T (f .ok) → listOf (f .ends) ≡ fittedList billionths p n
+  pub ends : T (f .ok) → f .ends ≡ fittedList billionths p n
   pub limit : T (f .ok) → InLimit (f .ends)
 
 -- four runs are those of a set of which y is a year

@@ -1,9 +1,9 @@
 // The ages 80 to 90 of a year, to which the closure is fitted: the ends of H on the grid of 10^-9.
 ghost use Rattle.fitted_ages.specs.Code.{LentIn, FittedIn};
 use params::AGES;
-use signed_ends::SignedEnds;
 use weights::FIRST_FITTED;
 use weights::FITTED;
+use whole::SignedEnds;
 use years::Year;
 
 // The ends of H at ages 80 to 90 of a year, where its cells are in range.

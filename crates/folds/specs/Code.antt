@@ -1,11 +1,9 @@
--- What the code's contracts say beside the definitions: the factors as the code's array has them, and which it takes.
-use mathlib.Core.List.{List, map}
+-- What the code's contracts say beside the definitions: the factors that the code takes.
+use mathlib.Core.List.{List}
 use Prim.Native.Nat.{ℕ, _≤_}
 use lib.ListN.{take}
-use Rattle.expo.specs.Grid.{Ends}
+use Rattle.expo.specs.declared.Ends.{Ends}
 use Rattle.expo.specs.Billionths.{billionths}
-use Rattle.expo.specs.Code.{endsOf}
-use Rattle.expo.specs.declared.Ends as code
 use Rattle.folds.specs.Each.{Each}
 
 -- both ends are at most m
@@ -17,11 +15,7 @@ pub record AtMost (m : ℕ) (e : Ends) : Type 0 where
 abbrev pub mostFactors : ℕ
 mostFactors = 171
 
--- the code's factors as the definitions'
-abbrev pub listOf : List code.Ends → List Ends
-listOf ps = map endsOf ps
-
 -- the first `count` factors of an array are chances: no end is above 1
-pub record Chances (factors : List code.Ends) (count : ℕ) : Type 0 where
+pub record Chances (factors : List Ends) (count : ℕ) : Type 0 where
   pub room : count ≤ mostFactors
-  pub each : Each (AtMost (billionths .unit)) (take count (listOf factors))
+  pub each : Each (AtMost (billionths .unit)) (take count factors)

@@ -4,7 +4,8 @@ use mathlib.Core.List.{List, [], _∷_}
 use Prim.Native.Nat.{ℕ, zero, suc, _+_, _*_, _/_}
 use lib.ListN.{length, take}
 use Rattle.whole.specs.Division.{ceilDivℕ}
-use Rattle.expo.specs.Grid.{Grid, Ends}
+use Rattle.expo.specs.Grid.{Grid}
+use Rattle.expo.specs.declared.Ends.{Ends}
 
 -- 1, and one half of it
 unfoldable pub one : Grid → Ends

@@ -12,7 +12,8 @@ use Rattle.fraction.specs.Ratio.{_≤/_, whole/, quotient/, _+/_, _*/_}
 use Rattle.fraction.specs.RatioLaws.{≤/-trans, +/-mono, */-mono}
 use Rattle.fraction.specs.Bracket.{Bracket}
 use Rattle.fraction.specs.Places.{places-length, places-take}
-use Rattle.expo.specs.Grid.{Grid, Ends, inUnits}
+use Rattle.expo.specs.Grid.{Grid, inUnits}
+use Rattle.expo.specs.declared.Ends.{Ends}
 use Rattle.expo.specs.Billionths.{billionths}
 use Rattle.expo.specs.Overlap.{Overlap}
 use Rattle.folds.specs.Folds.{one, half, withFactor, survivalFrom, survivalOver, survivalsOver, plus, sumOver, expectancyOver}

@@ -3,7 +3,7 @@ use mathlib.Core.Path.{_≡_, refl}
 use mathlib.Core.List.{List, [], _∷_, _++_}
 use lib.ListN.{replicate}
 use Rattle.whole.specs.Division.{ceilDivℕ}
-use Rattle.expo.specs.Grid.{Ends}
+use Rattle.expo.specs.declared.Ends.{Ends}
 use Rattle.expo.specs.Exponential.{total}
 use Rattle.expo.specs.Billionths.{billionths}
 use Rattle.folds.specs.Folds.{one, half, withFactor, survivalFrom, survivalOver, plus, sumOver, expectancyOver}

@@ -8,7 +8,8 @@ use lib.ListN.{length, take, getD}
 use lib.Seq.{take-suc, take-take, length-take-le}
 use Rattle.whole.specs.Division.{ceilDivℕ}
 use Rattle.whole.specs.DivisionLaws.{floorℕ-exact, ceilℕ-exact}
-use Rattle.expo.specs.Grid.{Grid, Ends}
+use Rattle.expo.specs.Grid.{Grid}
+use Rattle.expo.specs.declared.Ends.{Ends}
 use Rattle.folds.specs.Folds.{one, half, withFactor, survivalFrom, survivalOver, survivalsOver, plus, sumOver, expectancyOver}
 
 -- two sums of equal terms

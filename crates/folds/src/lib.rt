@@ -5,9 +5,8 @@ use whole::ceil_div_u;
 ghost use mathlib.Core.Path.{_≡_};
 ghost use lib.ListN.{take};
 ghost use Rattle.expo.specs.Billionths.{billionths};
-ghost use Rattle.expo.specs.Code.{endsOf};
 ghost use Rattle.folds.specs.Folds.{withFactor, survivalOver, expectancyOver};
-ghost use Rattle.folds.specs.Code.{AtMost, listOf, Chances};
+ghost use Rattle.folds.specs.Code.{AtMost, Chances};
 
 // Room for the factors of the longest path: of a quote in 2014, with its last factor in 2184.
 pub const MOST_FACTORS: usize = 171;
@@ -17,8 +16,8 @@ const HALF: u64 = UNIT / 2;
 
 // A survival with one factor more.
 pub fn with_factor(s: Ends, p: Ends) -> Ends
-    requires { ⌜ AtMost (billionths .unit) (endsOf s) × AtMost (billionths .unit) (endsOf p) ⌝ }
-    ensures { λ r. ⌜ endsOf r ≡ withFactor billionths (endsOf s) (endsOf p) ⌝ }
+    requires { ⌜ AtMost (billionths .unit) s × AtMost (billionths .unit) p ⌝ }
+    ensures { λ r. ⌜ r ≡ withFactor billionths s p ⌝ }
 {
     let least = s.lower * p.lower;
     let greatest = s.upper * p.upper;
@@ -31,7 +30,7 @@ pub fn with_factor(s: Ends, p: Ends) -> Ends
 // The survival over the first `count` factors.
 pub fn survival_over(factors: [Ends; MOST_FACTORS], count: usize) -> Ends
     requires { ⌜ Chances factors count ⌝ }
-    ensures { λ r. ⌜ endsOf r ≡ survivalOver billionths (take count (listOf factors)) ⌝ }
+    ensures { λ r. ⌜ r ≡ survivalOver billionths (take count factors) ⌝ }
 {
     let mut survival = Ends {
         lower: UNIT,
@@ -49,7 +48,7 @@ pub fn survival_over(factors: [Ends; MOST_FACTORS], count: usize) -> Ends
 // The expectancy over the first `count` factors: one half, and for each k below `count` the survival over k + 1 years.
 pub fn expectancy_over(factors: [Ends; MOST_FACTORS], count: usize) -> Ends
     requires { ⌜ Chances factors count ⌝ }
-    ensures { λ r. ⌜ endsOf r ≡ expectancyOver billionths (take count (listOf factors)) ⌝ }
+    ensures { λ r. ⌜ r ≡ expectancyOver billionths (take count factors) ⌝ }
 {
     let mut sums = Ends {
         lower: HALF,

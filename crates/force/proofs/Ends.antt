@@ -14,13 +14,13 @@ use Rattle.whole.specs.Parts.{below}
 use Rattle.whole.specs.Sign.{below-sign, below-size}
 use Rattle.whole.specs.Bound.{bits, Under, under-pos, under-weaken, under-add, fits, back}
 use Rattle.whole.specs.DivisionLaws.{ceilℕ-least}
-use Rattle.whole.specs.SignedEnds.{SignedEnds}
-use Rattle.expo.specs.Grid.{Ends}
+use Rattle.whole.specs.declared.SignedEnds.{SignedEnds}
+use Rattle.expo.specs.declared.Ends.{Ends}
 use Rattle.expo.specs.Exponential.{expBetween}
 use Rattle.expo.specs.Billionths.{billionths}
 use Rattle.expo.specs.BillionthsFacts.{billionths-sound}
 use Rattle.expo.specs.AtMostOne.{exp-lower-one, exp-upper-one}
-use Rattle.signed_ends.proofs.Signed.{sum}
+use Rattle.whole.proofs.Signed.{sum}
 use Rattle.series.specs.Series.{lowestForce}
 use Rattle.series.specs.RangeLaws.{Negated}
 use Rattle.logarithm.specs.Logarithm.{powerLower, powerUpper, logTermsLower, logTermsUpper, logRest, logLower, logUpper}

@@ -1,8 +1,9 @@
 -- From a log force in range to z, and from p to q, on a grid (paper 01, "The grid").
 use Prim.Native.Nat.{_-_}
 use Rattle.whole.specs.Parts.{below}
-use Rattle.whole.specs.SignedEnds.{SignedEnds}
-use Rattle.expo.specs.Grid.{Grid, Ends}
+use Rattle.expo.specs.Grid.{Grid}
+use Rattle.whole.specs.declared.SignedEnds.{SignedEnds}
+use Rattle.expo.specs.declared.Ends.{Ends}
 
 -- −m of a log force that is in range, as z with two ends
 unfoldable pub negated : SignedEnds → Ends

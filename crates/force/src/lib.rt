@@ -4,20 +4,18 @@ ghost use mathlib.Core.Path.{_≡_};
 ghost use Prim.Native.Nat.{_≤_};
 ghost use Rattle.expo.specs.Billionths.{billionths};
 ghost use Rattle.expo.specs.Exponential.{expBetween};
-ghost use Rattle.expo.specs.Code.{endsOf as gridEnds};
-ghost use Rattle.signed_ends.specs.Code.{endsOf};
 ghost use Rattle.series.specs.WidthLaws.{logForceWidth};
 ghost use Rattle.series.specs.RangeLaws.{Negated};
 ghost use Rattle.logarithm.specs.Logarithm.{inverseLogistic};
 ghost use Rattle.force.specs.Force.{negated, deathOf};
 use expo::Ends;
 use expo::UNIT;
-use signed_ends::SignedEnds;
+use whole::SignedEnds;
 
 // The force at an age to 90, e^m.
 pub fn force_to_90(m: SignedEnds) -> Ends
-    requires { ⌜ Negated (endsOf m) logForceWidth ⌝ }
-    ensures { λ r. ⌜ gridEnds r ≡ expBetween billionths (negated (endsOf m)) ⌝ }
+    requires { ⌜ Negated m logForceWidth ⌝ }
+    ensures { λ r. ⌜ r ≡ expBetween billionths (negated m) ⌝ }
 {
     exp_ends::exp_between(Ends {
         lower: (-m.upper) as u64,
@@ -27,8 +25,8 @@ pub fn force_to_90(m: SignedEnds) -> Ends
 
 // p at an age to 90, e^−force.
 pub fn survival_to_90(m: SignedEnds) -> Ends
-    requires { ⌜ Negated (endsOf m) logForceWidth ⌝ }
-    ensures { λ r. ⌜ gridEnds r ≡ expBetween billionths (expBetween billionths (negated (endsOf m))) ⌝ }
+    requires { ⌜ Negated m logForceWidth ⌝ }
+    ensures { λ r. ⌜ r ≡ expBetween billionths (expBetween billionths (negated m)) ⌝ }
 {
     exp_ends::exp_between(force_to_90(m))
 }
@@ -36,7 +34,7 @@ pub fn survival_to_90(m: SignedEnds) -> Ends
 // q = 1 − p, ends exchanged.
 pub fn death_of(p: Ends) -> Ends
     requires { ⌜ (p .lower ≤ billionths .unit) × (p .upper ≤ billionths .unit) ⌝ }
-    ensures { λ r. ⌜ gridEnds r ≡ deathOf billionths (gridEnds p) ⌝ }
+    ensures { λ r. ⌜ r ≡ deathOf billionths p ⌝ }
 {
     Ends {
         lower: UNIT - p.upper,
@@ -46,8 +44,8 @@ pub fn death_of(p: Ends) -> Ends
 
 // H = m − ln(1 − e^m).
 pub fn inverse_logistic(m: SignedEnds) -> SignedEnds
-    requires { ⌜ Negated (endsOf m) logForceWidth ⌝ }
-    ensures { λ r. ⌜ endsOf r ≡ inverseLogistic billionths (endsOf m) (expBetween billionths (negated (endsOf m))) ⌝ }
+    requires { ⌜ Negated m logForceWidth ⌝ }
+    ensures { λ r. ⌜ r ≡ inverseLogistic billionths m (expBetween billionths (negated m)) ⌝ }
 {
     let u = force_to_90(m);
     let more = logarithm::log_between(u);

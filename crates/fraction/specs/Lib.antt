@@ -8,4 +8,5 @@ pub mod Rows
 pub mod RatioLaws
 pub mod Multiples
 pub mod FractionLaws
+pub mod EndsHold
 pub mod Places

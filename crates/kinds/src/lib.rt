@@ -5,9 +5,8 @@ ghost use lib.IntN.{pos, natAbs};
 ghost use lib.ListN.{take};
 ghost use lib.Signed.{_≤ℤ_};
 ghost use Rattle.expo.specs.Billionths.{billionths};
-ghost use Rattle.expo.specs.Code.{endsOf};
 ghost use Rattle.weights.specs.Weights.{lastClosed};
-ghost use Rattle.folds.specs.Code.{listOf, Chances};
+ghost use Rattle.folds.specs.Code.{Chances};
 ghost use Rattle.paths.specs.Values.{foldOver};
 ghost use Rattle.params.specs.Limits.{lastYears};
 ghost use Rattle.kinds.specs.Kinds.{ruleOf, foldIs, rateOf, mostSpan, yearsOn, countOf, stepOf, decimalsOf};
@@ -162,7 +161,7 @@ pub fn decimals_of(fold: Fold) -> usize
 // The fold over the first `count` factors.
 pub fn folded(fold: Fold, factors: [Ends; MOST_FACTORS], count: usize) -> Ends
     requires { ⌜ Chances factors count × RateWithin fold ⌝ }
-    ensures { λ r. ⌜ endsOf r ≡ foldOver (foldIs fold) billionths (take count (listOf factors)) ⌝ }
+    ensures { λ r. ⌜ r ≡ foldOver (foldIs fold) billionths (take count factors) ⌝ }
 {
     match fold {
         Fold::Death => force::death_of(folds::survival_over(factors, count)),

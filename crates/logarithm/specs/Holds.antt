@@ -8,8 +8,9 @@ use Rattle.whole.specs.Division.{ceilDivℕ}
 use Rattle.whole.specs.DivisionLaws.{floorℕ-encloses, ceilℕ-encloses}
 use Rattle.fraction.specs.Ratio.{Ratio, _≤/_, _+/_, _*/_, whole/}
 use Rattle.fraction.specs.RatioLaws.{≤/-trans, ≤/-+/, +/-mono}
-use Rattle.expo.specs.Grid.{Grid, Ends, inUnits}
+use Rattle.expo.specs.Grid.{Grid, inUnits}
 use Rattle.expo.specs.Overlap.{Overlap}
+use Rattle.expo.specs.declared.Ends.{Ends}
 use Rattle.logarithm.specs.Logarithm.{powerLower, powerUpper, logTermsLower, logTermsUpper, logRest, logLower, logUpper}
 use Rattle.logarithm.specs.Exact.{logTerm, logSum, orderLogLower, orderLogUpper}
 use Rattle.logarithm.specs.Half.{half, logReach}

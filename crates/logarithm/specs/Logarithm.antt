@@ -4,8 +4,9 @@
 use Prim.Native.Nat.{ℕ, zero, suc, _+_, _*_, _/_}
 use lib.IntN.{pos, _+ℤ_}
 use Rattle.whole.specs.Division.{ceilDivℕ}
-use Rattle.whole.specs.SignedEnds.{SignedEnds}
-use Rattle.expo.specs.Grid.{Grid, Ends}
+use Rattle.whole.specs.declared.SignedEnds.{SignedEnds}
+use Rattle.expo.specs.Grid.{Grid}
+use Rattle.expo.specs.declared.Ends.{Ends}
 
 -- u^k in units, rounded down and up at each step: u^0 is the unit, u^1 is u itself
 unfoldable pub powerLower : Grid → ℕ → ℕ → ℕ

@@ -16,7 +16,7 @@ use Rattle.expo.specs.Exponential.{expLower, expUpper}
 use Rattle.expo.specs.Billionths.{billionths}
 use Rattle.expo.specs.BillionthsFacts.{billionths-sound}
 use Rattle.expo.specs.AtMostOne.{exp-lower-one, exp-upper-one}
-use Rattle.signed_ends.proofs.Signed.{read}
+use Rattle.whole.proofs.Signed.{read}
 use Rattle.logistic.specs.Logistic.{logisticLower, logisticUpper}
 use Rattle.logistic.specs.Logistic.{overOneLower, overOneUpper, shareLower, shareUpper}
 use Rattle.logistic.specs.Code.{closedLimit}

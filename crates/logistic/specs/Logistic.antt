@@ -4,8 +4,9 @@
 use Prim.Native.Nat.{ℕ, suc, _+_, _*_, _/_}
 use lib.IntN.{ℤ, pos, negsuc}
 use Rattle.whole.specs.Division.{ceilDivℕ}
-use Rattle.whole.specs.SignedEnds.{SignedEnds}
-use Rattle.expo.specs.Grid.{Grid, Ends}
+use Rattle.whole.specs.declared.SignedEnds.{SignedEnds}
+use Rattle.expo.specs.Grid.{Grid}
+use Rattle.expo.specs.declared.Ends.{Ends}
 use Rattle.expo.specs.Exponential.{expLower, expUpper}
 
 -- 1/(1 + E) and E/(1 + E), rounded down and up

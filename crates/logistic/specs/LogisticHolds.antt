@@ -5,7 +5,7 @@ use Prim.Native.Nat.{ℕ, suc, _+_, _*_, _≤_, _<_}
 use native.Mathlib.Nat.{mul-le-mul-left, mul-le-mul-right, le-of-mul-le-mul-right}
 use native.Mathlib.Omega.{arith}
 use lib.IntN.{ℤ, pos, negsuc}
-use Rattle.whole.specs.SignedEnds.{SignedEnds}
+use Rattle.whole.specs.declared.SignedEnds.{SignedEnds}
 use Rattle.whole.specs.DivisionLaws.{floorℕ-encloses, ceilℕ-encloses}
 use Rattle.fraction.specs.Ratio.{Ratio, _≤/_, whole/}
 use Rattle.fraction.specs.RatioLaws.{≤/-trans}

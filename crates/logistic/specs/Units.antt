@@ -1,7 +1,7 @@
 -- Signed ends in units as fractions, an order's interval, and what it means that the two overlap, or two such intervals.
 use Prim.Native.Nat.{ℕ, _<_}
 use lib.IntN.{ℤ}
-use Rattle.whole.specs.SignedEnds.{SignedEnds}
+use Rattle.whole.specs.declared.SignedEnds.{SignedEnds}
 use Rattle.fraction.specs.Ratio.{Ratio, _≤/_}
 use Rattle.fraction.specs.Fraction.{Fraction, _≤ℚ_, absolute}
 use Rattle.expo.specs.Grid.{Grid}

@@ -6,14 +6,12 @@ ghost use Rattle.whole.specs.Division.{ceilDivℕ};
 ghost use Rattle.whole.specs.Bound.{Under};
 ghost use Rattle.expo.specs.Exponential.{expLower, expUpper};
 ghost use Rattle.expo.specs.Billionths.{billionths};
-ghost use Rattle.expo.specs.Code.{endsOf as gridEnds};
-ghost use Rattle.signed_ends.specs.Code.{endsOf};
-ghost use Rattle.signed_ends.specs.EndLaws.{Within};
+ghost use Rattle.whole.specs.EndLaws.{Within};
 ghost use Rattle.logistic.specs.Logistic.{logisticLower, logisticUpper, logistic};
 ghost use Rattle.logistic.specs.Code.{closedLimit};
 use expo::Ends;
 use expo::UNIT;
-use signed_ends::SignedEnds;
+use whole::SignedEnds;
 
 // An end of e^−z.
 fn exp_end(z: u64, upper: bool) -> u64
@@ -51,8 +49,8 @@ fn logistic_end(g: i64, upper: bool) -> u64
 
 // The force's ends from those of G.
 pub fn logistic(g: SignedEnds) -> Ends
-    requires { ⌜ Within closedLimit (endsOf g) ⌝ }
-    ensures { λ r. ⌜ gridEnds r ≡ logistic billionths (endsOf g) ⌝ }
+    requires { ⌜ Within closedLimit g ⌝ }
+    ensures { λ r. ⌜ r ≡ logistic billionths g ⌝ }
 {
     Ends {
         lower: logistic_end(g.lower, false),

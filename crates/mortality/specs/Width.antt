@@ -10,7 +10,8 @@ use Rattle.whole.specs.Order.{+ℤ-mono, pos-mono}
 use Rattle.whole.specs.Split.{split, split-add}
 use Rattle.fraction.specs.Ratio.{_≤/_}
 use Rattle.fraction.specs.RatioLaws.{≤/-trans}
-use Rattle.expo.specs.Grid.{Grid, Ends, inUnits}
+use Rattle.expo.specs.Grid.{Grid, inUnits}
+use Rattle.expo.specs.declared.Ends.{Ends}
 use Rattle.expo.specs.Exponential.{expBetween, expLower, expUpper}
 use Rattle.expo.specs.Facts.{Sound}
 use Rattle.expo.specs.WidthFacts.{Narrow, expWidth}

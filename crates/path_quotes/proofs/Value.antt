@@ -1,19 +1,17 @@
 -- The value of a path: its factors are chances for which there is room, its ends fit, and the quote has them.
-use mathlib.Core.Path.{_≡_, refl, ap}
-use mathlib.Core.List.{List, [], _∷_}
-use Prim.Native.Nat.{ℕ, zero, suc, _^_, _≤_, _<_}
+use mathlib.Core.Path.{_≡_}
+use mathlib.Core.List.{List}
+use Prim.Native.Nat.{ℕ, _^_, _≤_, _<_}
 use native.Mathlib.Omega.{arith}
 use lib.Dec.{lit<, lit≤}
 use lib.ListN.{length, take}
-use Rattle.expo.specs.Grid.{Ends}
+use Rattle.expo.specs.declared.Ends.{Ends}
 use Rattle.expo.specs.Billionths.{billionths}
 use Rattle.expo.specs.BillionthsFacts.{billionths-sound}
-use Rattle.expo.specs.declared.Ends as code
-use Rattle.expo.specs.Code.{endsOf}
 use Rattle.params.specs.declared.Params.{Params}
 use Rattle.exact.specs.declared.Figure.{Figure}
 use Rattle.exact.specs.Figure.{figureOf}
-use Rattle.folds.specs.Code.{mostFactors, Chances, listOf}
+use Rattle.folds.specs.Code.{mostFactors, Chances}
 use Rattle.paths.specs.Path.{factors}
 use Rattle.paths.specs.Values.{gridValue}
 use Rattle.paths.specs.Answers.{path-length}
@@ -26,17 +24,12 @@ use Rattle.kinds.specs.Kinds.{foldIs, stepOf}
 use Rattle.path_quotes.specs.declared.Answer.the-variants.{Quoted}
 
 -- its factors are chances, for which there is room
-pub first-of : (n : ℕ) (es : List code.Ends) → take n (listOf es) ≡ listOf (take n es)
-first-of zero es = refl
-first-of (suc n) [] = refl
-first-of (suc n) (e ∷ es) = ap (λ (l : List Ends). endsOf e ∷ l) (first-of n es)
-
-pub path-chances : {p : Params} {w : Path} {es : List code.Ends} → PathWithin p w
-    → listOf (take (w .count) es) ≡ factors billionths p (pathIs w) → Chances es (w .count)
+pub path-chances : {p : Params} {w : Path} {es : List Ends} → PathWithin p w
+    → take (w .count) es ≡ factors billionths p (pathIs w) → Chances es (w .count)
 path-chances {p} {w} {es} h e =
     record {
       room = h .room;
-      each = rw (first-of (w .count) es, e) (factors-chances billionths billionths-sound p (pathIs w));
+      each = rw e (factors-chances billionths billionths-sound p (pathIs w));
     }
 
 -- and its ends fit
@@ -56,8 +49,7 @@ step-small Expectancy = (lit< tt, lit≤ tt)
 step-small (Annuity rate) = (lit< tt, lit≤ tt)
 
 -- a quote of ends that are e, with their figure
-pub quoted : (step : ℕ) {r : code.Ends} {e : Ends} {f : Figure} → endsOf r ≡ e
-    → f ≡ figureOf step (record { lower = r .lower; upper = r .upper })
+pub quoted : (step : ℕ) {r e : Ends} {f : Figure} → r ≡ e → f ≡ figureOf step r
     → Quoted (record { lower = r .lower; upper = r .upper; figure = f })
     ≡ Quoted (record { lower = e .lower; upper = e .upper; figure = figureOf step e })
 quoted step e g = rw (g, ← e)

@@ -5,7 +5,8 @@ use Rattle.fraction.specs.Ratio.{complement}
 use Rattle.fraction.specs.RatioLaws.{complement-reverse}
 use Rattle.fraction.specs.Bracket.{Bracket}
 use Rattle.taylor.specs.Order.{leastOrder}
-use Rattle.expo.specs.Grid.{Grid, Ends, inUnits}
+use Rattle.expo.specs.Grid.{Grid, inUnits}
+use Rattle.expo.specs.declared.Ends.{Ends}
 use Rattle.expo.specs.Billionths.{billionths}
 use Rattle.expo.specs.BillionthsFacts.{billionths-sound, billionths-narrow}
 use Rattle.expo.specs.Overlap.{Overlap}

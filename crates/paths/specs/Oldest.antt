@@ -10,7 +10,8 @@ use native.Mathlib.Omega.{arith}
 use lib.Dec.{T}
 use lib.ListN.{replicate, replicate-append-replicate}
 use mir.Facts.{and-yes, yes-and}
-use Rattle.expo.specs.Grid.{Grid, Ends}
+use Rattle.expo.specs.Grid.{Grid}
+use Rattle.expo.specs.declared.Ends.{Ends}
 use Rattle.params.specs.declared.Params.{Params}
 use Rattle.weights.specs.Weights.{lastClosed}
 use Rattle.mortality.specs.Cell.{survival, neededInRange}

@@ -5,7 +5,8 @@ use mathlib.Core.List.{List, [], _∷_, map}
 use Prim.Native.Nat.{ℕ, _+_, min}
 use Rattle.whole.specs.Listed.{listed}
 use Rattle.fraction.specs.Bracket.{Bracket}
-use Rattle.expo.specs.Grid.{Grid, Ends}
+use Rattle.expo.specs.Grid.{Grid}
+use Rattle.expo.specs.declared.Ends.{Ends}
 use Rattle.params.specs.declared.Params.{Params}
 use Rattle.weights.specs.Weights.{lastClosed}
 use Rattle.mortality.specs.Cell.{survival, neededInRange}

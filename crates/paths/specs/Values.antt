@@ -3,7 +3,8 @@ use mathlib.Core.List.{List}
 use Prim.Native.Nat.{ℕ}
 use Rattle.fraction.specs.Ratio.{complement}
 use Rattle.fraction.specs.Bracket.{Bracket}
-use Rattle.expo.specs.Grid.{Grid, Ends}
+use Rattle.expo.specs.Grid.{Grid}
+use Rattle.expo.specs.declared.Ends.{Ends}
 use Rattle.params.specs.declared.Params.{Params}
 use Rattle.exact.specs.Value.{Exact}
 use Rattle.folds.specs.Folds.{survivalOver, expectancyOver}

@@ -6,10 +6,11 @@ use mir.Syntax.{w64}
 use mir.Val.{SFits}
 use Rattle.whole.specs.Division.{floorDiv, ceilDiv}
 use Rattle.whole.specs.Bound.{bits, fits, back, under-add, under-mul}
-use Rattle.whole.specs.SignedEnds.{SignedEnds, leastProduct, greatestProduct, outward}
+use Rattle.whole.specs.declared.SignedEnds.{SignedEnds}
+use Rattle.whole.specs.SignedEnds.{leastProduct, greatestProduct, outward}
 use Rattle.params.specs.declared.Age.{Age}
-use Rattle.signed_ends.specs.EndLaws.{least-under, greatest-under}
-use Rattle.signed_ends.proofs.Signed.{read, read-floor, read-ceil, sum, product}
+use Rattle.whole.specs.EndLaws.{least-under, greatest-under}
+use Rattle.whole.proofs.Signed.{read, read-floor, read-ceil, sum, product}
 use Rattle.series.specs.Series.{rateUnit, cellForce}
 use Rattle.series.specs.BoundLaws.{CellLimits, least-sum-under, greatest-sum-under, cellForce-under}
 

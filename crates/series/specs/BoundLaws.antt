@@ -6,13 +6,14 @@ use lib.Dec.{T, lit<, lit≤}
 use lib.IntN.{ℤ, pos, negsuc, _+ℤ_, _*ℤ_}
 use Rattle.whole.specs.Split.{split, split-add, split-scale-left}
 use Rattle.whole.specs.Bound.{Under, under-between, under-low, under-high, under-add, under-mul}
-use Rattle.whole.specs.SignedEnds.{SignedEnds, leastProduct, greatestProduct}
+use Rattle.whole.specs.declared.SignedEnds.{SignedEnds}
+use Rattle.whole.specs.SignedEnds.{leastProduct, greatestProduct}
 use Rattle.params.specs.declared.Params.{Params}
 use Rattle.params.specs.declared.Age.{Age}
 use Rattle.params.specs.Set.{ages, ageOf}
 use Rattle.params.specs.Limits.{levelLimit, slopeLimit, aLimit, periodLimit, kappaLimit, lastYears, inLimits}
 use Rattle.params.specs.LimitsLaws.{PeriodWithin, AgeWithin, in-limits-series, in-limits-age}
-use Rattle.signed_ends.specs.EndLaws.{Within, least-under, greatest-under, outward-under}
+use Rattle.whole.specs.EndLaws.{Within, least-under, greatest-under, outward-under}
 use Rattle.series.specs.Series.{periodIn, periodIndex, kappaStep, kappaIn, kappa, cellForce}
 
 -- k + n·t lies between k and k + m·t

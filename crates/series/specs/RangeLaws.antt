@@ -9,14 +9,15 @@ use lib.IntN.{ℤ, pos, negsuc, negℤ}
 use lib.Signed.{_≤ℤ_, _<ℤ_, leZ, leZ-yes}
 use Rattle.whole.specs.Parts.{above, below}
 use Rattle.whole.specs.Split.{split, split-add}
-use Rattle.whole.specs.SignedEnds.{SignedEnds}
+use Rattle.whole.specs.declared.SignedEnds.{SignedEnds}
 use Rattle.fraction.specs.Fraction.{Fraction, _≤ℚ_, wholeℚ, negℚ}
 use Rattle.fraction.specs.FractionLaws.{negℚ-reverse, wholeℚ-negℚ}
 use Rattle.params.specs.declared.Params.{Params}
 use Rattle.params.specs.declared.Age.{Age}
 use Rattle.params.specs.Set.{ages}
 use Rattle.params.specs.Limits.{lastYears, inLimits}
-use Rattle.signed_ends.specs.EndLaws.{Holds, Wide}
+use Rattle.whole.specs.EndLaws.{Wide}
+use Rattle.fraction.specs.EndsHold.{Holds}
 use Rattle.series.specs.Series.{cellForce, logForce, lowestForce, highestForce, inRange}
 use Rattle.series.specs.BoundLaws.{CellLimits}
 use Rattle.series.specs.WidthLaws.{logForceWidth, cellForce-wide, logForce-wide}

@@ -2,7 +2,7 @@
 use mathlib.Core.Path.{_≡_, refl}
 use mathlib.Core.Bool.{true, false}
 use lib.IntN.{ℤ, pos, negℤ}
-use Rattle.whole.specs.SignedEnds.{SignedEnds}
+use Rattle.whole.specs.declared.SignedEnds.{SignedEnds}
 use Rattle.series.specs.Series.{inRange}
 
 abbrev ends : ℤ → ℤ → SignedEnds

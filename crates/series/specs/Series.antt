@@ -4,7 +4,8 @@ use Prim.Native.Nat.{ℕ, zero, suc}
 use mathlib.Core.Bool.{Bool, _&&_}
 use lib.IntN.{ℤ, pos, negℤ, _+ℤ_, _*ℤ_}
 use lib.Signed.{leZ}
-use Rattle.whole.specs.SignedEnds.{SignedEnds, leastProduct, greatestProduct, outward}
+use Rattle.whole.specs.declared.SignedEnds.{SignedEnds}
+use Rattle.whole.specs.SignedEnds.{leastProduct, greatestProduct, outward}
 use Rattle.params.specs.declared.Params.{Params}
 use Rattle.params.specs.declared.Age.{Age}
 use Rattle.params.specs.Set.{ageOf}

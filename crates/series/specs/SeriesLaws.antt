@@ -2,13 +2,14 @@
 use Prim.Native.Nat.{ℕ, zero, suc}
 use lib.Dec.{lit<}
 use lib.IntN.{ℤ, _+ℤ_, _*ℤ_}
-use Rattle.whole.specs.SignedEnds.{SignedEnds, leastProduct, greatestProduct, outward}
+use Rattle.whole.specs.declared.SignedEnds.{SignedEnds}
+use Rattle.whole.specs.SignedEnds.{leastProduct, greatestProduct, outward}
 use Rattle.fraction.specs.Fraction.{Fraction, _≤ℚ_, wholeℚ, _+ℚ_, scaleℚ}
 use Rattle.fraction.specs.FractionLaws.{≤ℚ-refl, ≤ℚ-trans, +ℚ-mono, wholeℚ-+ℚ}
 use Rattle.params.specs.declared.Params.{Params}
 use Rattle.params.specs.declared.Age.{Age}
 use Rattle.params.specs.Set.{ageOf}
-use Rattle.signed_ends.specs.EndLaws.{Holds, least-product, greatest-product, outward-holds}
+use Rattle.fraction.specs.EndsHold.{Holds, least-product, greatest-product, outward-holds}
 use Rattle.series.specs.Series.{rateUnit, periodIndex, kappaStep, kappaIn, kappa, cellForce, logForce}
 use Rattle.series.specs.Exact.{perRate, exactKappa, exactLogForce}
 

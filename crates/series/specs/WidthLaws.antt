@@ -7,13 +7,13 @@ use lib.IntN.{ℤ, pos, _+ℤ_, _*ℤ_}
 use lib.Signed.{_≤ℤ_}
 use Rattle.whole.specs.Split.{split, split-add}
 use Rattle.whole.specs.Bound.{Under}
-use Rattle.whole.specs.SignedEnds.{SignedEnds}
+use Rattle.whole.specs.declared.SignedEnds.{SignedEnds}
 use Rattle.params.specs.declared.Params.{Params}
 use Rattle.params.specs.declared.Age.{Age}
 use Rattle.params.specs.Set.{ages, ageOf}
 use Rattle.params.specs.Limits.{slopeLimit, aLimit, lastYears, inLimits}
 use Rattle.params.specs.LimitsLaws.{in-limits-series, in-limits-age}
-use Rattle.signed_ends.specs.EndLaws.{Wide, product-width, outward-width}
+use Rattle.whole.specs.EndLaws.{Wide, product-width, outward-width}
 use Rattle.series.specs.Series.{rateUnit, periodIndex, kappaStep, kappaIn, kappa, cellForce, logForce}
 
 -- the greatest width of a log force in the years of a quote, in units

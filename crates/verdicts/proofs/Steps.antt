@@ -9,13 +9,12 @@ use lib.IntN.{ℤ, pos}
 use lib.ListN.{take}
 use Rattle.tokens.specs.Text.{Parse, taken}
 use Rattle.expo.specs.Billionths.{billionths}
-use Rattle.expo.specs.declared.Ends as code
+use Rattle.expo.specs.declared.Ends.{Ends}
 use Rattle.params.specs.declared.Params.{Params}
 use Rattle.params.specs.declared.Refusal.{Refusal}
 use Rattle.params.specs.declared.Refusal.the-variants.{Accepted, OutOfLimits, NoSuchYear, LogForceOutOfRange, MalformedColumn}
 use Rattle.params.specs.Limits.{inLimits}
 use Rattle.params.specs.Refusals.{refusalNumber}
-use Rattle.folds.specs.Code.{listOf}
 use Rattle.paths.specs.Path.{factors, pathInRange}
 use Rattle.kinds.specs.declared.Kind.the-variants.{Death}
 use Rattle.kinds.specs.Kinds.{ruleOf, mostSpan, rateOf}
@@ -83,8 +82,8 @@ module _ (p : Params) (year : ℤ) (column : List ℕ) (t : T (inLimits p)) wher
     cell-out e = rw (is-true (inLimits p) t, is-true (yearInTable (ruleOf Death) year) y, e)
 
     -- the verdict by the factors of the year's cells
-    pub verdict-by : (es : List code.Ends) {v : Verdict} → T (pathInRange p (yearCells year))
-        → listOf (take columnAges es) ≡ factors billionths p (yearCells year)
+    pub verdict-by : (es : List Ends) {v : Verdict} → T (pathInRange p (yearCells year))
+        → take columnAges es ≡ factors billionths p (yearCells year)
         → v ≡ verdictTo (figureIn es) (entryAt column) columnAges → Of v ≡ judged p year (taken column [])
     unfolding judged columnRefusal columnTests firstFailed judgedBy refusalNumber verdictOf entriesIn
     verdict-by es r f e =

@@ -5,10 +5,8 @@ use mathlib.Core.List.{List, []}
 use Prim.Native.Nat.{ℕ}
 use lib.ListN.{getD}
 use Rattle.tokens.specs.Text.{Parse, malformed, taken}
-use Rattle.expo.specs.Grid.{Ends}
+use Rattle.expo.specs.declared.Ends.{Ends}
 use Rattle.expo.specs.Billionths.{billionths}
-use Rattle.expo.specs.Code.{endsOf}
-use Rattle.expo.specs.declared.Ends as code
 use Rattle.exact.specs.Figure.{probabilityStep, figureOf}
 use Rattle.force.specs.Force.{deathOf}
 use Rattle.quote.specs.Demand.{Shown, shownOf}
@@ -39,5 +37,5 @@ unfoldable pub figureBy : Ends → Shown
 figureBy p = shownOf (figureOf probabilityStep (deathOf billionths p))
 
 -- that of age x by the factors of its year
-unfoldable pub figureIn : List code.Ends → ℕ → Shown
-figureIn factors x = figureBy (endsOf (getD factors x empty))
+unfoldable pub figureIn : List Ends → ℕ → Shown
+figureIn factors x = figureBy (getD factors x empty)

@@ -10,21 +10,18 @@ use borrow.Author.Tests.{le-leb}
 use lib.Dec.{T}
 use lib.Ieee.Bits.{is-true}
 use lib.IntN.{ℤ, pos, natAbs}
-use lib.ListN.{take, getD, List·getD-map}
+use lib.ListN.{take, getD}
 use lib.Seq.{getD-take}
 use mir.Facts.{yes-and}
 use Rattle.whole.specs.Table.{listed-map, listed-at}
-use Rattle.expo.specs.Grid.{Ends}
+use Rattle.expo.specs.declared.Ends.{Ends}
 use Rattle.expo.specs.Billionths.{billionths}
-use Rattle.expo.specs.Code.{endsOf}
-use Rattle.expo.specs.declared.Ends as code
 use Rattle.params.specs.declared.Params.{Params}
 use Rattle.params.specs.declared.Refusal.the-variants.{Accepted}
 use Rattle.params.specs.Limits.{inLimits, startYear}
 use Rattle.params.specs.Refusals.{refusalNumber}
 use Rattle.weights.specs.Weights.{lastClosed}
 use Rattle.exact.specs.Figure.{probabilityStep, figureOf}
-use Rattle.folds.specs.Code.{listOf}
 use Rattle.mortality.specs.Cell as cell
 use Rattle.paths.specs.Path.{Place, placeAt, pathOf, factors, pathInRange}
 use Rattle.paths.specs.Answers.{range-out}
@@ -110,19 +107,19 @@ figure-here {p} {year} x l h =
 -- ---- by the factors of the year's cells
 
 -- the factor of age x
-factor-here : (p : Params) (n x : ℕ) (es : List code.Ends) → x < columnAges
-    → listOf (take columnAges es) ≡ factors billionths p (pathOf false 0 n columnAges)
-    → endsOf (getD es x empty) ≡ cell.survival billionths p x n
+factor-here : (p : Params) (n x : ℕ) (es : List Ends) → x < columnAges
+    → take columnAges es ≡ factors billionths p (pathOf false 0 n columnAges)
+    → getD es x empty ≡ cell.survival billionths p x n
 unfolding factors pathOf
 factor-here p n x es l e =
     let f : Place → Ends = λ c. cell.survival billionths p (c .age) (c .year) in
-    sym (ap endsOf (getD-take columnAges es x empty l)) ∙ sym (List·getD-map endsOf (take columnAges es) x empty)
-    ∙ ap (λ (a : List Ends). getD a x (endsOf empty)) (e ∙ listed-map f (placeAt false 0 n) 0 columnAges)
-    ∙ listed-at (λ (s : ℕ). f (placeAt false 0 n s)) (endsOf empty) 0 columnAges x l
+    sym (getD-take columnAges es x empty l)
+    ∙ ap (λ (a : List Ends). getD a x empty) (e ∙ listed-map f (placeAt false 0 n) 0 columnAges)
+    ∙ listed-at (λ (s : ℕ). f (placeAt false 0 n s)) empty 0 columnAges x l
     ∙ ap f (ap (placeAt false 0 n) (zero-add x) ∙ place-here n x l)
 
-pub figures-in : {p : Params} {year : ℤ} (es : List code.Ends) → Worked p year
-    → listOf (take columnAges es) ≡ factors billionths p (yearCells year)
+pub figures-in : {p : Params} {year : ℤ} (es : List Ends) → Worked p year
+    → take columnAges es ≡ factors billionths p (yearCells year)
     → (x : ℕ) → x < columnAges → figureIn es x ≡ figureHere p year x
 unfolding figureIn yearCells
 figures-in {p} {year} es h e x l =

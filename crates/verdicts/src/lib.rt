@@ -5,7 +5,6 @@ ghost use mathlib.Core.List.{[]};
 ghost use lib.Dec.{T};
 ghost use Rattle.tokens.specs.Text.{taken};
 ghost use Rattle.expo.specs.Billionths.{billionths};
-ghost use Rattle.expo.specs.Code.{endsOf};
 ghost use Rattle.params.specs.Limits.{inLimits};
 ghost use Rattle.folds.specs.Code.{AtMost, Chances};
 ghost use Rattle.verdicts.specs.Verdict.{columnAges, entryAt, verdictTo, judged};
@@ -40,8 +39,8 @@ pub enum Judged {
 
 // The verdict on the entry of one age, by p's ends.
 fn age_verdict(p: Ends, entry: u64) -> Verdict
-    requires { ⌜ AtMost (billionths .unit) (endsOf p) ⌝ }
-    ensures { λ r. ⌜ r ≡ ageVerdict (figureBy (endsOf p)) entry ⌝ }
+    requires { ⌜ AtMost (billionths .unit) p ⌝ }
+    ensures { λ r. ⌜ r ≡ ageVerdict (figureBy p) entry ⌝ }
 {
     let q = force::death_of(p);
     let figure = exact::figure_of(PROBABILITY_STEP, q.lower, q.upper);

@@ -1,22 +1,20 @@
 -- One step along a path: the factor that is put, the cell that is out of range, and the year of the next cell.
 use mathlib.Core.Path.{_≡_, refl, ap, sym, _∙_}
 use mathlib.Core.Bool.{Bool, true, false, cond, _&&_, false≢true}
-use mathlib.Core.List.{List, [], _∷_, _++_, map-append}
+use mathlib.Core.List.{List, [], _∷_, _++_}
 use Prim.Native.Nat.{ℕ, suc, _+_, _≤_, _<_}
 use native.Mathlib.Numerals.{add-one}
 use native.Mathlib.Omega.{arith}
 use lib.Dec.{T, ltb, ltb→lt}
 use lib.Ieee.Bits.{is-true}
 use borrow.Author.Tests.{lt-ltb}
-use lib.ListN.{length, take, getD, set, length-map, length-set}
+use lib.ListN.{length, take, getD, set, length-set}
 use lib.Seq.{take-suc, take-suc-set, length-take-le, getD-at}
 use mir.Facts.{and-yes, yes-and}
 use Rattle.whole.specs.Clash.{clash}
 use Rattle.whole.specs.Listed.{listed}
-use Rattle.expo.specs.Grid.{Ends}
+use Rattle.expo.specs.declared.Ends.{Ends}
 use Rattle.expo.specs.Billionths.{billionths}
-use Rattle.expo.specs.Code.{endsOf}
-use Rattle.expo.specs.declared.Ends as code
 use Rattle.params.specs.declared.Params.{Params}
 use Rattle.params.specs.Limits.{lastYears}
 use Rattle.cells.specs.declared.Cell.{Cell}
@@ -24,9 +22,9 @@ use Rattle.cells.specs.declared.Cell.the-variants.{LogForceOutOfRange, Of}
 use Rattle.years.specs.declared.Year.{Year}
 use Rattle.mortality.specs.Cell.{survival, neededInRange}
 use Rattle.years.specs.Code.{YearWithin}
-use Rattle.cells.specs.Code.{coded, cellOf}
+use Rattle.cells.specs.Code.{cellOf}
 use Rattle.years.specs.YearLaws.{year-within, year-next}
-use Rattle.folds.specs.Code.{mostFactors, listOf}
+use Rattle.folds.specs.Code.{mostFactors}
 use Rattle.paths.specs.Path.{placeAt, pathOf, factors, pathInRange}
 use Rattle.paths.specs.Answers.{path-length, factors-length, path-more, factors-append, in-range-more, range-out}
 use Rattle.walks.specs.declared.Path.{Path}
@@ -42,28 +40,28 @@ along cohort age year count = record { cohort = cohort; age = age; year = year; 
 abbrev pub cellAt : Params → Path → ℕ → Cell
 cellAt p w s = cellOf p (placeOf w s .age) (placeOf w s .year)
 
-inside : (b : Bool) {d e : code.Ends} → cond b (Of d) LogForceOutOfRange ≡ Of e → T b × (d ≡ e)
+inside : (b : Bool) {d e : Ends} → cond b (Of d) LogForceOutOfRange ≡ Of e → T b × (d ≡ e)
 inside true q = (tt, cc)
 inside false q = clash cc
 
-outside : (b : Bool) (d : code.Ends) → cond b (Of d) LogForceOutOfRange ≡ LogForceOutOfRange → b ≡ false
+outside : (b : Bool) (d : Ends) → cond b (Of d) LogForceOutOfRange ≡ LogForceOutOfRange → b ≡ false
 outside true d q = clash cc
 outside false d q = refl
 
-cell-in : (p : Params) (x n : ℕ) {e : code.Ends} → cellOf p x n ≡ Of e
-    → T (neededInRange p x n) × (endsOf e ≡ survival billionths p x n)
+cell-in : (p : Params) (x n : ℕ) {e : Ends} → cellOf p x n ≡ Of e
+    → T (neededInRange p x n) × (e ≡ survival billionths p x n)
 unfolding cellOf
 cell-in p x n {e} q =
-    let r = inside (neededInRange p x n) {d = coded (survival billionths p x n)} {e = e} q in
-    (r .0, rw (← r .1))
+    let r = inside (neededInRange p x n) {d = survival billionths p x n} {e = e} q in
+    (r .0, sym (r .1))
 
 cell-out : (p : Params) (x n : ℕ) → cellOf p x n ≡ LogForceOutOfRange → neededInRange p x n ≡ false
 unfolding cellOf
-cell-out p x n q = outside (neededInRange p x n) (coded (survival billionths p x n)) q
+cell-out p x n q = outside (neededInRange p x n) (survival billionths p x n) q
 
 -- ---- the factors
 
-pub worked-none : (p : Params) (w : Path) {es : List code.Ends} → length es ≡ mostFactors → Worked p w es 0
+pub worked-none : (p : Params) (w : Path) {es : List Ends} → length es ≡ mostFactors → Worked p w es 0
 unfolding listed pathOf pathInRange factors
 worked-none p w h = record { some = omega arith; range = tt; ends = refl; size = h }
 
@@ -75,7 +73,7 @@ factors-more p w s =
     ap (factors billionths p) (path-more (w .cohort) (w .age) (w .year) s)
     ∙ factors-append billionths p (pathTo w s) (placeOf w s ∷ [])
 
-pub worked-more : {p : Params} {w : Path} {es : List code.Ends} {s : ℕ} {e : code.Ends} → Worked p w es s
+pub worked-more : {p : Params} {w : Path} {es : List Ends} {s : ℕ} {e : Ends} → Worked p w es s
     → w .count ≤ mostFactors → s < w .count → cellAt p w s ≡ Of e → Worked p w (set es s e) (s + 1)
 worked-more {p} {w} {es} {s} {e} h m l q =
     let r = cell-in p (placeOf w s .age) (placeOf w s .year) q in
@@ -85,22 +83,21 @@ worked-more {p} {w} {es} {s} {e} h m l q =
       range =
           rw (in-range-more p (w .cohort) (w .age) (w .year) s)
           (yes-and (pathInRange p (pathTo w s)) (neededInRange p (placeOf w s .age) (placeOf w s .year)) (h .range) (r .0));
-      ends = rw (factors-more p w s, take-suc-set es s e (omega (arith, h .size)), map-append, h .ends, r .1);
+      ends = rw (factors-more p w s, take-suc-set es s e (omega (arith, h .size)), h .ends, r .1);
       size = length-set es s e ∙ h .size;
     })
 
 -- the last factor that was put
-pub worked-last : {p : Params} {w : Path} {es : List code.Ends} {s : ℕ} (d : code.Ends) → Worked p w es (suc s)
-    → w .count ≤ mostFactors → endsOf (getD es s d) ≡ survival billionths p (placeOf w s .age) (placeOf w s .year)
+pub worked-last : {p : Params} {w : Path} {es : List Ends} {s : ℕ} (d : Ends) → Worked p w es (suc s)
+    → w .count ≤ mostFactors → getD es s d ≡ survival billionths p (placeOf w s .age) (placeOf w s .year)
 worked-last {p} {w} {es} {s} d h m =
     let l : s < length es = omega (arith, h .some, h .size) in
-    let e : listOf (take s es) ++ (endsOf (getD es s d) ∷ [])
+    let e : take s es ++ (getD es s d ∷ [])
     ≡ factors billionths p (pathTo w s) ++ (survival billionths p (placeOf w s .age) (placeOf w s .year) ∷ []) =
-    sym (ap listOf (take-suc es s d l) ∙ map-append endsOf (take s es) (getD es s d ∷ [])) ∙ h .ends ∙ factors-more p w s in
-    sym (getD-at (listOf (take s es)) (endsOf (getD es s d)) [] (endsOf d) s
-    (length-map (take s es) endsOf ∙ length-take-le s es (omega arith)))
-    ∙ ap (λ (l : List Ends). getD l s (endsOf d)) e
-    ∙ getD-at (factors billionths p (pathTo w s)) _ [] (endsOf d) s
+    sym (take-suc es s d l) ∙ h .ends ∙ factors-more p w s in
+    sym (getD-at (take s es) (getD es s d) [] d s (length-take-le s es (omega arith)))
+    ∙ ap (λ (l : List Ends). getD l s d) e
+    ∙ getD-at (factors billionths p (pathTo w s)) _ [] d s
     (factors-length billionths p (pathTo w s) ∙ path-length (w .cohort) (w .age) (w .year) s)
 
 pub worked-out : (p : Params) (w : Path) {s : ℕ} → s < w .count → cellAt p w s ≡ LogForceOutOfRange → pathInRange p (pathIs w) ≡ false

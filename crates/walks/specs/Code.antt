@@ -8,13 +8,13 @@ use lib.Dec.{T}
 use lib.IntN.{ℤ}
 use lib.ListN.{length, take}
 use Rattle.expo.specs.Billionths.{billionths}
-use Rattle.expo.specs.declared.Ends as code
+use Rattle.expo.specs.declared.Ends.{Ends}
 use Rattle.params.specs.declared.Params.{Params}
 use Rattle.params.specs.Limits.{inLimits, lastYears}
 use Rattle.weights.specs.Weights.{firstClosed, lastClosed}
 use Rattle.years.specs.declared.Year.{Year}
 use Rattle.years.specs.Code.{YearOf, NextOf}
-use Rattle.folds.specs.Code.{listOf, mostFactors}
+use Rattle.folds.specs.Code.{mostFactors}
 use Rattle.paths.specs.Path.{Place, placeAt, pathOf, factors, pathInRange}
 use Rattle.walks.specs.declared.Path.{Path}
 use Rattle.walks.specs.declared.Walk.{Walk}
@@ -43,10 +43,10 @@ pub record Advanced (a theta : ℤ) (y : Year) (on : Bool) (r : Year) : Type 0 w
   pub same : T (not on) → r ≡ y
 
 -- the first s cells are in range, and their factors stand in the array
-pub record Worked (p : Params) (w : Path) (es : List code.Ends) (s : ℕ) : Type 0 where
+pub record Worked (p : Params) (w : Path) (es : List Ends) (s : ℕ) : Type 0 where
   pub some : s ≤ w .count
   pub range : T (pathInRange p (pathTo w s))
-  pub ends : listOf (take s es) ≡ factors billionths p (pathTo w s)
+  pub ends : take s es ≡ factors billionths p (pathTo w s)
   pub size : length es ≡ mostFactors
 
 -- y is a year of the set, and that of the cell at s where the path has one

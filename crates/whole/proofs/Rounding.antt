@@ -136,26 +136,29 @@ module _ {n : ℤ} (f : SFits w64 n) where
   pub not-above-zero : ltZ (pos 0) (bits n) ≡ false → n ≤ℤ pos 0
   not-above-zero t = ltZ-no (rw (← toZ-ofZ f, t) tt)
 
--- n / d
+-- n / d, its divisor first
 pub record Quotient (n d : ℤ) : Type 0 where
-  pub fits : SFits w64 (quotZ (bits n) (bits d))
+  pub fits : (0 < ofZ w64 d) × SFits w64 (quotZ (bits n) (bits d))
   pub is : bits (quotZ (bits n) (bits d)) ≡ quotZ n d
 
 pub quotient : {n d : ℤ} → SFits w64 n → SFits w64 d → pos 0 <ℤ d → Quotient n d
 quotient {n} {d} fn fd hd =
     let f = quot-fits n d fn hd in
-    record { fits = rw (toZ-ofZ fn, toZ-ofZ fd) f; is = rw (toZ-ofZ fn, toZ-ofZ fd) (toZ-ofZ f) }
+    record { fits = rw (toZ-ofZ fn, toZ-ofZ fd) (divisor-bits hd, f); is = rw (toZ-ofZ fn, toZ-ofZ fd) (toZ-ofZ f) }
 
--- u − (u − n) / d
-module _ {u n d r : ℤ} (fn : SFits w64 n) (fd : SFits w64 d) (hd : pos 0 <ℤ d) (a : Away u n d r) where
-  pub first-fits : SFits w64 (u -ℤ bits n)
-  first-fits = rw (toZ-ofZ fn) (a .first)
+-- u − (u − n) / d, which is r: what is formed on the way, and the result
+pub record Stepped (u n d r : ℤ) : Type 0 where
+  pub first : SFits w64 (u -ℤ bits n)
+  pub divided : (0 < ofZ w64 d) × SFits w64 (quotZ (bits (u -ℤ bits n)) (bits d))
+  pub last : SFits w64 (u -ℤ bits (quotZ (bits (u -ℤ bits n)) (bits d)))
+  pub is : bits (u -ℤ bits (quotZ (bits (u -ℤ bits n)) (bits d))) ≡ r
 
-  pub quotient-fits : SFits w64 (quotZ (bits (u -ℤ bits n)) (bits d))
-  quotient-fits = rw (toZ-ofZ fn) (quotient (a .first) fd hd .fits)
-
-  pub last-fits : SFits w64 (u -ℤ bits (quotZ (bits (u -ℤ bits n)) (bits d)))
-  last-fits = rw (toZ-ofZ fn, quotient (a .first) fd hd .is, a .value) (a .fits)
-
-  pub last-is : bits (u -ℤ bits (quotZ (bits (u -ℤ bits n)) (bits d))) ≡ r
-  last-is = rw (toZ-ofZ fn, quotient (a .first) fd hd .is, a .value) (toZ-ofZ (a .fits))
+pub stepped : {u n d r : ℤ} → SFits w64 n → SFits w64 d → pos 0 <ℤ d → Away u n d r → Stepped u n d r
+stepped fn fd hd a =
+    let q = quotient (a .first) fd hd in
+    record {
+      first = rw (toZ-ofZ fn) (a .first);
+      divided = rw (toZ-ofZ fn) (q .fits);
+      last = rw (toZ-ofZ fn, q .is, a .value) (a .fits);
+      is = rw (toZ-ofZ fn, q .is, a .value) (toZ-ofZ (a .fits));
+    }

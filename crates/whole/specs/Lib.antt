@@ -12,5 +12,6 @@ pub mod Difference
 pub mod Order
 pub mod DivisionLaws
 pub mod Bound
+pub mod EndLaws
 pub mod Table
 pub mod Clash

@@ -4,11 +4,8 @@ use mathlib.Core.Bool.{cond}
 use Prim.Native.Nat.{ℕ}
 use lib.IntN.{ℤ, _*ℤ_}
 use lib.Signed.{nonNeg}
+use Rattle.whole.specs.declared.SignedEnds.{SignedEnds}
 use Rattle.whole.specs.Division.{floorDiv, ceilDiv}
-
-pub record SignedEnds : Type 0 where
-  pub lower : ℤ
-  pub upper : ℤ
 
 -- the least and the greatest product of c with a number between the ends: a negative c exchanges them
 unfoldable pub leastProduct : ℤ → SignedEnds → ℤ

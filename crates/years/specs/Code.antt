@@ -7,8 +7,7 @@ use Rattle.whole.specs.Bound.{Under}
 use Rattle.params.specs.declared.Params.{Params}
 use Rattle.params.specs.declared.Age.{Age}
 use Rattle.params.specs.Limits.{aLimit, thetaLimit, periodLimit, kappaLimit, inLimits, lastYears}
-use Rattle.signed_ends.specs.Code.{endsOf}
-use Rattle.signed_ends.specs.EndLaws.{Within, Wide}
+use Rattle.whole.specs.EndLaws.{Within, Wide}
 use Rattle.series.specs.Series.{periodIndex, kappaStep, kappa}
 use Rattle.series.specs.BoundLaws.{CellLimits}
 use Rattle.years.specs.declared.Year.{Year}
@@ -18,7 +17,7 @@ pub record YearOf (p : Params) (y : Year) : Type 0 where
   pub limits : T (inLimits p)
   pub year : y .number ≤ lastYears
   pub period : y .period ≡ periodIndex p (y .number)
-  pub kappas : endsOf (y .kappas) ≡ kappa p (y .number)
+  pub kappas : y .kappas ≡ kappa p (y .number)
 
 -- the year after y is in limits, by a and theta
 pub record YearWithin (a theta : ℤ) (y : Year) : Type 0 where
@@ -27,15 +26,15 @@ pub record YearWithin (a theta : ℤ) (y : Year) : Type 0 where
   pub number : y .number < lastYears
   pub period : Under (y .period) periodLimit
   pub next : Under (y .period +ℤ theta) periodLimit
-  pub kappas : Within kappaLimit (endsOf (y .kappas))
+  pub kappas : Within kappaLimit (y .kappas)
 
 -- r is the year after y
 pub record NextOf (a theta : ℤ) (y r : Year) : Type 0 where
   pub number : r .number ≡ suc (y .number)
   pub period : r .period ≡ y .period +ℤ theta
-  pub kappas : endsOf (r .kappas) ≡ kappaStep a (endsOf (y .kappas))
+  pub kappas : r .kappas ≡ kappaStep a (y .kappas)
 
 -- what a log force is formed of is in its limits, and no wider than in a year of the table
 pub record CellWithin (age : Age) (y : Year) : Type 0 where
-  pub limits : CellLimits age (y .period) (endsOf (y .kappas))
+  pub limits : CellLimits age (y .period) (y .kappas)
   pub wide : Wide (y .kappas .lower) (y .kappas .upper) lastYears

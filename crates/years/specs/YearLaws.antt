@@ -9,8 +9,7 @@ use Rattle.params.specs.declared.Params.{Params}
 use Rattle.params.specs.Set.{ages, ageOf}
 use Rattle.params.specs.Limits.{lastYears, periodLimit, kappaLimit}
 use Rattle.params.specs.LimitsLaws.{in-limits-series}
-use Rattle.signed_ends.specs.Code.{endsOf}
-use Rattle.signed_ends.specs.EndLaws.{Within, Wide}
+use Rattle.whole.specs.EndLaws.{Within, Wide}
 use Rattle.series.specs.Series.{periodIn, periodIndex, kappaIn, cellForce, logForce}
 use Rattle.series.specs.BoundLaws.{period-under, kappa-under, cell-limits}
 use Rattle.series.specs.WidthLaws.{kappa-wide, wide-more}
@@ -36,7 +35,7 @@ module _ {p : Params} {y : Year} (h : YearOf p y) where
   period-within : Under (y .period) periodLimit
   period-within = rw (h .period) (period-under (in-limits-series p (h .limits) .index) (h .year))
 
-  kappas-within : Within kappaLimit (endsOf (y .kappas))
+  kappas-within : Within kappaLimit (y .kappas)
   kappas-within =
       let l = in-limits-series p (h .limits) in
       rw (h .kappas) (kappa-under (y .number) (l .a) (l .kappa))
@@ -78,6 +77,6 @@ module _ {p : Params} {y : Year} (h : YearOf p y) where
           wide-more (h .year) (rw (← h .kappas) at w)
 
   -- is the set's
-  pub year-force : (x : ℕ) → cellForce (ageOf p x) (y .period) (endsOf (y .kappas)) ≡ logForce p x (y .number)
+  pub year-force : (x : ℕ) → cellForce (ageOf p x) (y .period) (y .kappas) ≡ logForce p x (y .number)
   unfolding logForce
   year-force x = rw (h .period, h .kappas)

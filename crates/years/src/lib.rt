@@ -3,13 +3,12 @@ ghost use mathlib.Core.Path.{_≡_};
 ghost use Prim.Native.Nat.{_≤_};
 ghost use lib.Dec.{T};
 ghost use Rattle.params.specs.Limits.{inLimits, lastYears};
-ghost use Rattle.signed_ends.specs.Code.{endsOf};
 ghost use Rattle.series.specs.Series.{cellForce};
 ghost use Rattle.series.specs.BoundLaws.{CellLimits};
 ghost use Rattle.years.specs.Code.{YearOf, YearWithin, NextOf};
 use params::Age;
 use params::Params;
-use signed_ends::SignedEnds;
+use whole::SignedEnds;
 
 // The year 2013 + number, with K and kappa.
 pub struct Year {
@@ -48,8 +47,8 @@ pub fn next_year(a: i64, theta: i64, y: Year) -> Year
 
 // The log force at an age of a year.
 pub fn log_force_at(age: Age, y: Year) -> SignedEnds
-    requires { ⌜ CellLimits age (y .period) (endsOf (y .kappas)) ⌝ }
-    ensures { λ r. ⌜ endsOf r ≡ cellForce age (y .period) (endsOf (y .kappas)) ⌝ }
+    requires { ⌜ CellLimits age (y .period) (y .kappas) ⌝ }
+    ensures { λ r. ⌜ r ≡ cellForce age (y .period) (y .kappas) ⌝ }
 {
     let kappas = y.kappas;
     series::log_force(age, y.period, kappas)

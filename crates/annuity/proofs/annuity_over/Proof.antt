@@ -7,7 +7,7 @@ use borrow.Author.Needs.{needs}
 use lib.ListN.{length, take}
 use Rattle.expo.specs.Billionths.{billionths}
 use Rattle.folds.specs.Folds.{plus}
-use Rattle.folds.specs.Code.{listOf, mostFactors}
+use Rattle.folds.specs.Code.{mostFactors}
 use Rattle.folds.proofs.Running.{SurvivalTo, survival-none, survival-more, factor-small}
 use Rattle.annuity.specs.Annuity.{annuityOver}
 use Rattle.annuity.proofs.Running.{
@@ -110,7 +110,7 @@ returns c =
     let l = c .before in
     let s = l .before in
     let k : l .loop .k ≡ s .args .count = omega arith in
-    l .loop .inv .0 .is ∙ ap (λ (n : ℕ). annuityOver billionths (s .args .rate) (take n (listOf (s .args .t1)))) k
+    l .loop .inv .0 .is ∙ ap (λ (n : ℕ). annuityOver billionths (s .args .rate) (take n (s .args .t1))) k
 
 pub annuity-over-spec : {M : Type 1} → statement M
 annuity-over-spec =

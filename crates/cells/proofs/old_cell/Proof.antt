@@ -2,13 +2,12 @@
 use mathlib.Core.Path.{ap, _∙_}
 use borrow.Author.Needs.{needs}
 use borrow.Author.Tests.{not-true, not-false}
-use Rattle.expo.specs.Grid.{Ends}
 use Rattle.expo.specs.Billionths.{billionths}
 use Rattle.expo.specs.Exponential.{expBetween}
 use Rattle.logistic.specs.Logistic.{logistic}
 use Rattle.closure.specs.Code.{InLimit}
 use Rattle.cells.specs.declared.Cell.the-variants.{Of}
-use Rattle.cells.specs.Code.{coded, oldCell}
+use Rattle.cells.specs.Code.{oldCell}
 use Rattle.cells.proofs.Closed.{closed-within}
 use Rattle.cells.proofs.old_cell.Statement.{statement}
 use Rattle.cells.proofs.old_cell.Tie as tie
@@ -42,7 +41,7 @@ returns-2 c =
     let g = l .before in
     let e = g .before .before in
     rw (not-false (e .before .before .args .f .ok) (e .if1 .left))
-    (ap (λ (q : Ends). Of (coded q))
+    (ap Of
     (c .exp-between .ensures
     ∙ ap (expBetween billionths) (l .logistic .ensures ∙ ap (logistic billionths) (g .closed-sum .ensures))))
 

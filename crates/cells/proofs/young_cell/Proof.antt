@@ -3,22 +3,20 @@ use mathlib.Core.Path.{_≡_, ap, sym, _∙_}
 use mathlib.Core.Bool.{true}
 use borrow.Author.Needs.{needs}
 use borrow.Author.Tests.{not-true, not-false}
-use Rattle.expo.specs.Grid.{Ends}
 use Rattle.expo.specs.Exponential.{expBetween}
 use Rattle.expo.specs.Billionths.{billionths}
-use Rattle.whole.specs.SignedEnds.{SignedEnds}
-use Rattle.signed_ends.specs.Code.{endsOf}
+use Rattle.whole.specs.declared.SignedEnds.{SignedEnds}
 use Rattle.series.specs.Series.{cellForce, inRange}
 use Rattle.series.specs.RangeLaws.{cell-negated}
 use Rattle.force.specs.Force.{negated}
 use Rattle.cells.specs.declared.Cell.the-variants.{Of}
-use Rattle.cells.specs.Code.{coded, youngCell}
+use Rattle.cells.specs.Code.{youngCell}
 use Rattle.cells.proofs.young_cell.Statement.{statement}
 use Rattle.cells.proofs.young_cell.Tie as tie
 
 -- the log force of the cell
 abbrev force : tie.Start → SignedEnds
-force s = cellForce (s .args .age) (s .args .y .period) (endsOf (s .args .y .kappas))
+force s = cellForce (s .args .age) (s .args .y .period) (s .args .y .kappas)
 
 -- the code's test, of the definition's log force
 tested : (c : tie.After-in-range) → c .in-range .result ≡ inRange (force (c .before .before))
@@ -49,7 +47,7 @@ returns-2 c =
     let e = c .before in
     let m = e .before .before in
     rw (in-range e)
-    (ap (λ (q : Ends). Of (coded q))
+    (ap Of
     (c .survival-to-90 .ensures
     ∙ ap (λ (k : SignedEnds). expBetween billionths (expBetween billionths (negated k))) (m .log-force-at .ensures)))
 

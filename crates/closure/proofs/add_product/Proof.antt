@@ -1,7 +1,7 @@
 -- `add_product` meets its contract: the products and the sums with them fit.
 use Rattle.whole.specs.Bound.{fits, back}
-use Rattle.signed_ends.specs.EndLaws.{least-under, greatest-under}
-use Rattle.signed_ends.proofs.Signed.{ends}
+use Rattle.whole.specs.EndLaws.{least-under, greatest-under}
+use Rattle.whole.proofs.Signed.{ends}
 use Rattle.closure.specs.Code.{withProduct}
 use Rattle.closure.proofs.Sums.{next-least, next-greatest}
 use Rattle.closure.proofs.add_product.Statement.{statement}

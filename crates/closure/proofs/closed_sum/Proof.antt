@@ -5,29 +5,29 @@ use Prim.Native.Nat.{_-_, _≤_}
 use native.Mathlib.Omega.{arith}
 use borrow.Author.Needs.{needs}
 use Rattle.whole.specs.Bound.{bits, fits, back}
-use Rattle.whole.specs.SignedEnds.{SignedEnds, outward}
-use Rattle.signed_ends.specs.Code.{endsOf}
-use Rattle.signed_ends.specs.EndLaws.{Within}
-use Rattle.signed_ends.proofs.Signed.{read, read-floor, read-ceil, ends}
+use Rattle.whole.specs.declared.SignedEnds.{SignedEnds}
+use Rattle.whole.specs.SignedEnds.{outward}
+use Rattle.whole.specs.EndLaws.{Within}
+use Rattle.whole.proofs.Signed.{read, read-floor, read-ceil, ends}
 use Rattle.weights.specs.Weights.{fitted, weightUnit}
 use Rattle.closure.specs.Closure.{leastSum, greatestSum, weightedMean}
-use Rattle.closure.specs.Code.{listOf, sumsLimit, weightOf}
-use Rattle.closure.proofs.Sums.{sumsTo, sums-next, ends-within, sums-within}
+use Rattle.closure.specs.Code.{sumsLimit, weightOf}
+use Rattle.closure.proofs.Sums.{sumsTo, sums-next, sums-within}
 use Rattle.closure.proofs.closed_sum.Statement.{statement}
 use Rattle.closure.proofs.closed_sum.Tie as tie
 
 abbrev Inv-loop : tie.InvT-loop
-Inv-loop row h sums₀ i₀ sums i = (endsOf sums ≡ sumsTo (weightOf row) (listOf h) i) × (i ≤ fitted)
+Inv-loop row h sums₀ i₀ sums i = (sums ≡ sumsTo (weightOf row) h i) × (i ≤ fitted)
 
 abbrev μ-loop : tie.MeasureT-loop
 μ-loop row h sums₀ i₀ sums i = fitted - i
 
 -- the sums at the loop's head are within their limit
-sums-small : (c : tie.At-loop Inv-loop μ-loop) → Within sumsLimit (endsOf (c .loop .sums))
+sums-small : (c : tie.At-loop Inv-loop μ-loop) → Within sumsLimit (c .loop .sums)
 sums-small c =
     let s = c .before in
     let p = s .pre in
-    rw (c .loop .inv .0) (sums-within (s .args .t1) (listOf (s .args .t2)) (p .0) (p .1) (c .loop .i) (c .loop .inv .1))
+    rw (c .loop .inv .0) (sums-within (s .args .t1) (s .args .t2) (p .0) (p .1) (c .loop .i) (c .loop .inv .1))
 
 loop-holds : tie.Need-loop-holds Inv-loop μ-loop
 unfolding leastSum greatestSum
@@ -61,7 +61,7 @@ add-product-requires c κs =
     let p = s .pre in (
       sums-small l,
       rw (weight-read c) (p .0 .weights (l .loop .i) (t .loop-test .taken)),
-      ends-within (s .args .t2) (p .1) (l .loop .i) (t .loop-test .taken),
+      p .1 (l .loop .i) (t .loop-test .taken),
     )
 
 add-i : tie.Need-add-i Inv-loop μ-loop
@@ -92,7 +92,7 @@ returns c =
     let p = s .pre in
     let i : l .loop .i ≡ fitted = omega arith in
     let e = rw i at (l .loop .inv .0) in
-    let u = sums-within (s .args .t1) (listOf (s .args .t2)) (p .0) (p .1) fitted (omega arith) in
+    let u = sums-within (s .args .t1) (s .args .t2) (p .0) (p .1) fitted (omega arith) in
     let low = fits (u .low) tt in
     let high = fits (u .high) tt in
     ends (read-floor weightUnit (read (ap (λ (k : SignedEnds). k .lower) e) low) low (f .outward-div .ensures))

@@ -3,7 +3,7 @@ use borrow.Author.Needs.{needs}
 use mathlib.Core.Path.{ap, sym, _∙_}
 use Prim.Native.Nat.{_≤_}
 use native.Mathlib.Omega.{arith}
-use Rattle.expo.specs.Grid.{Ends}
+use Rattle.expo.specs.declared.Ends.{Ends}
 use Rattle.compare_quotes.specs.declared.Values.the-variants.{Below, Above, Near}
 use Rattle.compare_quotes.specs.Compare.{quotedEnds}
 use Rattle.compare_quotes.specs.CompareLaws.{values-below, values-above, values-near, apart-first, apart-second}

@@ -7,7 +7,7 @@ use native.Mathlib.Omega.{arith}
 use borrow.Author.Needs.{needs}
 use lib.ListN.{getD, set}
 use Rattle.whole.specs.Bound.{back}
-use Rattle.expo.specs.declared.Ends as code
+use Rattle.expo.specs.declared.Ends.{Ends}
 use Rattle.params.specs.declared.Params.{Params}
 use Rattle.params.specs.LimitsLaws.{in-limits-series}
 use Rattle.weights.specs.Weights.{firstClosed, lastClosed, weightRow}
@@ -29,8 +29,8 @@ use Rattle.factors.proofs.old_factors.Statement.{statement}
 use Rattle.factors.proofs.old_factors.Tie as tie
 
 -- what holds on the way, whichever year the path began in
-record Going (p : Params) (w : ℕ → Path) (done₀ : ℕ) (ends₀ : List code.Ends) (year₀ : Year) (done : ℕ)
-    (ends : List code.Ends) (year : Year) (fitted : Fitted) : Type 0 where
+record Going (p : Params) (w : ℕ → Path) (done₀ : ℕ) (ends₀ : List Ends) (year₀ : Year) (done : ℕ)
+    (ends : List Ends) (year : Year) (fitted : Fitted) : Type 0 where
   so-far : (n : ℕ) → PathWithin p (w n) → Worked p (w n) ends₀ done₀ → YearAt p (w n) done₀ year₀
       → Worked p (w n) ends done × YearAt p (w n) done year
   above : firstClosed ≤ w 0 .age + done

@@ -8,20 +8,20 @@ use native.Mathlib.Numerals.{add-one}
 use native.Mathlib.Omega.{arith}
 use lib.ListN.{length, take, set, replicate, length-set, replicate-append-replicate}
 use lib.Seq.{take-suc-set}
-use Rattle.expo.specs.declared.Ends as code
+use Rattle.expo.specs.declared.Ends.{Ends}
 use Rattle.folds.specs.Code.{mostFactors}
 use Rattle.factors.proofs.repeated.Statement.{statement}
 use Rattle.factors.proofs.repeated.Tie as tie
 
 -- the first i of the array es are the first `done` of ds, and then e
-record Going (ds : List code.Ends) (done count : ℕ) (e : code.Ends) (es : List code.Ends) (i : ℕ) : Type 0 where
+record Going (ds : List Ends) (done count : ℕ) (e : Ends) (es : List Ends) (i : ℕ) : Type 0 where
   from : done ≤ i
   to : i ≤ count
   size : length es ≡ mostFactors
   ends : take i es ≡ take done ds ++ replicate (i - done) e
 
 -- and once more
-going-on : {ds : List code.Ends} {done count : ℕ} {e : code.Ends} {es : List code.Ends} {i : ℕ} → Going ds done count e es i
+going-on : {ds : List Ends} {done count : ℕ} {e : Ends} {es : List Ends} {i : ℕ} → Going ds done count e es i
     → i < count → i < mostFactors → Going ds done count e (set es i e) (i + 1)
 going-on {ds} {done} {count} {e} {es} {i} h l m =
     let k : suc i - done ≡ (i - done) + 1 = omega (arith, h .from) in
@@ -32,9 +32,9 @@ going-on {ds} {done} {count} {e} {es} {i} h l m =
       ends =
           rw (add-one i)
           (take-suc-set es i e (omega (arith, h .size))
-          ∙ ap (λ (a : List code.Ends). a ++ (e ∷ [])) (h .ends)
+          ∙ ap (λ (a : List Ends). a ++ (e ∷ [])) (h .ends)
           ∙ append-assoc (take done ds) (replicate (i - done) e) (e ∷ [])
-          ∙ ap (λ (a : List code.Ends). take done ds ++ a)
+          ∙ ap (λ (a : List Ends). take done ds ++ a)
           (replicate-append-replicate (i - done) 1 e ∙ ap (λ (j : ℕ). replicate j e) (sym k)));
     }
 

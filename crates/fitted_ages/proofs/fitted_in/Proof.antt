@@ -7,11 +7,10 @@ use native.Mathlib.Omega.{arith}
 use denote.Ref.{now}
 use borrow.Author.Needs.{needs}
 use borrow.Author.Tests.{not-true, not-false}
-use Rattle.whole.specs.SignedEnds.{SignedEnds}
+use Rattle.whole.specs.declared.SignedEnds.{SignedEnds}
 use Rattle.expo.specs.Billionths.{billionths}
 use Rattle.expo.specs.Exponential.{expBetween}
 use Rattle.params.specs.Set.{ageOf, four-age}
-use Rattle.signed_ends.specs.Code.{endsOf}
 use Rattle.series.specs.Series.{logForce, inRange}
 use Rattle.series.specs.RangeLaws.{logForce-negated}
 use Rattle.logarithm.specs.Logarithm.{inverseLogistic}
@@ -46,7 +45,7 @@ age-read : (c : tie.After-age-of-runs Inv-loop μ-loop) (o : Lender (start c)) �
 age-read c o = rw (o .level, o .slope, o .alpha, o .beta) at (c .age-of-runs .ensures) ∙ four-age (o .set) (age c)
 
 forced : (c : tie.After-log-force-at Inv-loop μ-loop) (o : Lender (start (c .before)))
-    → endsOf (c .log-force-at .result) ≡ logForce (o .set) (age (c .before)) (start (c .before) .args .y .number)
+    → c .log-force-at .result ≡ logForce (o .set) (age (c .before)) (start (c .before) .args .y .number)
 forced c o = rw (age-read (c .before) o, year-force (o .year) (age (c .before))) at (c .log-force-at .ensures)
 
 -- the code's test, of the definition's log force

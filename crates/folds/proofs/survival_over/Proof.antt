@@ -7,7 +7,7 @@ use borrow.Author.Needs.{needs}
 use lib.ListN.{length, take}
 use Rattle.expo.specs.Billionths.{billionths}
 use Rattle.folds.specs.Folds.{survivalOver}
-use Rattle.folds.specs.Code.{listOf, mostFactors}
+use Rattle.folds.specs.Code.{mostFactors}
 use Rattle.folds.proofs.Running.{SurvivalTo, survival-none, survival-more, factor-small}
 use Rattle.folds.proofs.survival_over.Statement.{statement}
 use Rattle.folds.proofs.survival_over.Tie as tie
@@ -54,7 +54,7 @@ returns c =
     let l = c .before in
     let s = l .before in
     let i : l .loop .i ≡ s .args .count = omega arith in
-    l .loop .inv .0 .is ∙ ap (λ (n : ℕ). survivalOver billionths (take n (listOf (s .args .t1)))) i
+    l .loop .inv .0 .is ∙ ap (λ (n : ℕ). survivalOver billionths (take n (s .args .t1))) i
 
 pub survival-over-spec : {M : Type 1} → statement M
 survival-over-spec =

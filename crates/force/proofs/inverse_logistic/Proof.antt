@@ -4,12 +4,10 @@ use Prim.Native.Nat.{ℕ, _≤_}
 use native.Mathlib.Omega.{arith}
 use borrow.Author.Needs.{needs}
 use lib.IntN.{pos, _+ℤ_}
-use Rattle.expo.specs.Grid.{Ends}
+use Rattle.expo.specs.declared.Ends.{Ends}
 use Rattle.expo.specs.Billionths.{billionths}
 use Rattle.expo.specs.Exponential.{expBetween}
-use Rattle.expo.specs.Code.{endsOf as gridEnds}
-use Rattle.signed_ends.specs.Code.{endsOf}
-use Rattle.signed_ends.proofs.Signed.{ends}
+use Rattle.whole.proofs.Signed.{ends}
 use Rattle.logarithm.specs.Logarithm.{logLower, logUpper, inverseLogistic}
 use Rattle.force.specs.Force.{negated}
 use Rattle.force.proofs.Ends.{logLimit, under-lower, under-upper, exp-small, log-lower-small, log-upper-small, end-sum}
@@ -20,7 +18,7 @@ force-requires : tie.Need-force-to-90-requires
 force-requires c κs = search needs
 
 -- what H is worked from is the force
-forced : (c : tie.After-force-to-90) → gridEnds (c .force-to-90 .result) ≡ expBetween billionths (negated (endsOf (c .before .args .m)))
+forced : (c : tie.After-force-to-90) → c .force-to-90 .result ≡ expBetween billionths (negated (c .before .args .m))
 forced c = c .force-to-90 .ensures
 
 log-between-requires : tie.Need-log-between-requires

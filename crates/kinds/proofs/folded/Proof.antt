@@ -8,8 +8,7 @@ use mir.Syntax.{w64}
 use mir.Val.{SFits}
 use mir.Facts.{toZ-ofZ}
 use Rattle.expo.specs.Billionths.{billionths}
-use Rattle.expo.specs.Code.{endsOf}
-use Rattle.folds.specs.Code.{listOf, AtMost}
+use Rattle.folds.specs.Code.{AtMost}
 use Rattle.folds.specs.Bounds.{survival-at-most}
 use Rattle.force.specs.Force.{deathOf}
 use Rattle.paths.specs.Values.{foldOver}
@@ -31,7 +30,7 @@ death-of-requires : tie.Need-death-of-requires
 death-of-requires c κs =
     let e = c .before .before .before in
     let h = survival-at-most billionths (lit< tt) (e .pre .0 .each) in
-    let k : AtMost (billionths .unit) (endsOf (c .survival-over .result)) = rw (c .survival-over .ensures) h in
+    let k : AtMost (billionths .unit) (c .survival-over .result) = rw (c .survival-over .ensures) h in
     (k .lower, k .upper)
 
 enum-told-2 : tie.Need-enum-told-2
@@ -69,9 +68,9 @@ annuity-over-requires c κs = (c .before .before .before .pre .0, rw (toZ-ofZ (r
 
 -- the fold over the factors that the code's enum names
 at : (c : tie.Start) {f : Fold} → c .args .fold ≡ f
-    → foldOver (foldIs f) billionths (take (c .args .count) (listOf (c .args .factors)))
-    ≡ foldOver (foldIs (c .args .fold)) billionths (take (c .args .count) (listOf (c .args .factors)))
-at c e = ap (λ (f : Fold). foldOver (foldIs f) billionths (take (c .args .count) (listOf (c .args .factors)))) (sym e)
+    → foldOver (foldIs f) billionths (take (c .args .count) (c .args .factors))
+    ≡ foldOver (foldIs (c .args .fold)) billionths (take (c .args .count) (c .args .factors))
+at c e = ap (λ (f : Fold). foldOver (foldIs f) billionths (take (c .args .count) (c .args .factors))) (sym e)
 
 returns : tie.Need-returns
 unfolding foldIs foldOver

@@ -4,14 +4,13 @@ use mathlib.Core.Bool.{true}
 use borrow.Author.Needs.{needs}
 use borrow.Author.Tests.{not-true, not-false}
 use native.Mathlib.Omega.{arith}
-use Rattle.expo.specs.Grid.{Ends}
+use Rattle.expo.specs.declared.Ends.{Ends}
 use Rattle.expo.specs.Billionths.{billionths}
-use Rattle.expo.specs.Code.{endsOf}
 use Rattle.paths.specs.Values.{foldOver, gridValue}
 use Rattle.walks.specs.Code.{pathIs}
 use Rattle.kinds.specs.Kinds.{foldIs, stepOf}
 use Rattle.path_quotes.specs.Code.{pathAnswer}
-use Rattle.path_quotes.proofs.Value.{path-chances, first-of, value-fits, step-small, quoted}
+use Rattle.path_quotes.proofs.Value.{path-chances, value-fits, step-small, quoted}
 use Rattle.path_quotes.proofs.answer_along.Statement.{statement}
 use Rattle.path_quotes.proofs.answer_along.Tie as tie
 
@@ -37,7 +36,7 @@ folded-requires c κs =
 
 -- the fold's ends are the path's
 ends-read : (c : tie.After-folded) → let s = c .before .before .before .before .before in
-    endsOf (c .folded .result) ≡ gridValue (foldIs (s .args .fold)) billionths (s .args .p) (pathIs (s .args .path))
+    c .folded .result ≡ gridValue (foldIs (s .args .fold)) billionths (s .args .p) (pathIs (s .args .path))
 unfolding gridValue
 ends-read c =
     let e = c .before .before in
@@ -45,7 +44,7 @@ ends-read c =
     let s = f .before in
     c .folded .ensures
     ∙ ap (foldOver (foldIs (s .args .fold)) billionths)
-    (first-of (s .args .path .count) (f .factors-of .result .ends) ∙ f .factors-of .ensures .ends (rw (worked e) tt))
+    (f .factors-of .ensures .ends (rw (worked e) tt))
 
 step-of-requires : tie.Need-step-of-requires
 step-of-requires c κs = search needs

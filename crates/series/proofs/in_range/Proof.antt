@@ -6,8 +6,7 @@ use lib.IntN.{ℤ}
 use lib.Signed.{leZ}
 use mir.Facts.{toZ-ofZ}
 use Rattle.whole.specs.Bound.{bits}
-use Rattle.signed_ends.specs.Code.{endsOf}
-use Rattle.signed_ends.proofs.Signed.{EndsFit}
+use Rattle.whole.proofs.Signed.{EndsFit}
 use Rattle.series.specs.Series.{lowestForce, highestForce, inRange}
 use Rattle.series.proofs.in_range.Statement.{statement}
 use Rattle.series.proofs.in_range.Tie as tie
@@ -17,7 +16,7 @@ ends-fit s = record { lower = search needs; upper = search needs }
 
 -- the range, by the test of the lower end as the code has it
 tested : (s : tie.Start) {b : Bool} → leZ lowestForce (bits (s .args .m .lower)) ≡ b
-    → inRange (endsOf (s .args .m)) ≡ b && leZ (s .args .m .upper) highestForce
+    → inRange (s .args .m) ≡ b && leZ (s .args .m .upper) highestForce
 unfolding inRange
 tested s e = rw (← e, toZ-ofZ (ends-fit s .lower))
 

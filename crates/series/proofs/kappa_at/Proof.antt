@@ -8,14 +8,13 @@ use mir.Syntax.{w64}
 use mir.Val.{toZ}
 use Rattle.whole.specs.Bound.{bits, Under, back}
 use Rattle.params.specs.Limits.{aLimit, kappaLimit}
-use Rattle.signed_ends.specs.Code.{endsOf}
 use Rattle.series.specs.Series.{kappaIn}
 use Rattle.series.specs.BoundLaws.{kappa-under}
 use Rattle.series.proofs.kappa_at.Statement.{statement}
 use Rattle.series.proofs.kappa_at.Tie as tie
 
 abbrev Inv-loop : tie.InvT-loop
-Inv-loop a start n e₀ i₀ e i = (endsOf e ≡ kappaIn (toZ w64 a) (toZ w64 start) i) × (i ≤ n)
+Inv-loop a start n e₀ i₀ e i = (e ≡ kappaIn (toZ w64 a) (toZ w64 start) i) × (i ≤ n)
 
 abbrev μ-loop : tie.MeasureT-loop
 μ-loop a start n e₀ i₀ e i = n - i

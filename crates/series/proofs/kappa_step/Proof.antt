@@ -5,17 +5,16 @@ use mir.Val.{SFits}
 use mir.Facts.{toZ-ofZ}
 use Rattle.whole.specs.Bound.{fits}
 use Rattle.whole.specs.SignedEnds.{leastProduct, greatestProduct, outward}
-use Rattle.signed_ends.specs.Code.{endsOf}
-use Rattle.signed_ends.specs.EndLaws.{least-under, greatest-under}
-use Rattle.signed_ends.proofs.Signed.{read, read-floor, read-ceil, ends}
+use Rattle.whole.specs.EndLaws.{least-under, greatest-under}
+use Rattle.whole.proofs.Signed.{read, read-floor, read-ceil, ends}
 use Rattle.series.specs.Series.{rateUnit, kappaStep}
 use Rattle.series.proofs.kappa_step.Statement.{statement}
 use Rattle.series.proofs.kappa_step.Tie as tie
 
-least-fits : (s : tie.Start) → SFits w64 (leastProduct (s .args .a) (endsOf (s .args .e)))
+least-fits : (s : tie.Start) → SFits w64 (leastProduct (s .args .a) (s .args .e))
 least-fits s = fits (least-under (s .pre .0) (s .pre .1)) tt
 
-greatest-fits : (s : tie.Start) → SFits w64 (greatestProduct (s .args .a) (endsOf (s .args .e)))
+greatest-fits : (s : tie.Start) → SFits w64 (greatestProduct (s .args .a) (s .args .e))
 greatest-fits s = fits (greatest-under (s .pre .0) (s .pre .1)) tt
 
 least-product-requires : tie.Need-least-product-requires

@@ -1,6 +1,6 @@
 -- `log_force` meets its contract: for a cell in its limits nothing overflows, and the ends are those of the definition.
 use borrow.Author.Needs.{needs}
-use Rattle.signed_ends.proofs.Signed.{ends}
+use Rattle.whole.proofs.Signed.{ends}
 use Rattle.series.proofs.Cell.{fixed, trend, least-read-fits, greatest-read-fits, low, high, lower-end, upper-end}
 use Rattle.series.proofs.log_force.Statement.{statement}
 use Rattle.series.proofs.log_force.Tie as tie

@@ -6,7 +6,7 @@ use mir.Syntax.{w64}
 use mir.Val.{SFits}
 use mir.Facts.{toZ-ofZ}
 use Rattle.whole.specs.Bound.{bits, fits, back, under-pos, under-mul}
-use Rattle.signed_ends.proofs.Signed.{sum, product}
+use Rattle.whole.proofs.Signed.{sum, product}
 use Rattle.series.specs.Series.{periodIn}
 use Rattle.series.specs.BoundLaws.{period-under}
 use Rattle.series.proofs.period_index.Statement.{statement}

@@ -10,7 +10,7 @@ use mir.Syntax.{w64}
 use mir.Val.{SFits}
 use mir.Facts.{toZ-ofZ}
 use Rattle.whole.specs.Bound.{bits, under-lit, under-add, under-pos, fits, back}
-use Rattle.signed_ends.proofs.Signed.{sum}
+use Rattle.whole.proofs.Signed.{sum}
 use Rattle.params.specs.Limits.{startYear}
 use Rattle.weights.specs.Weights.{lastClosed}
 use Rattle.annuity.specs.Annuity.{mostRate}

@@ -4,9 +4,8 @@ use Prim.Native.Nat.{ℕ}
 use native.Mathlib.Omega.{arith}
 use borrow.Author.Needs.{needs}
 use borrow.Author.Tests.{eq-eqb, ne-eqb}
-use Rattle.expo.specs.Grid.{Ends}
+use Rattle.expo.specs.declared.Ends.{Ends}
 use Rattle.expo.specs.Billionths.{billionths}
-use Rattle.expo.specs.Code.{endsOf}
 use Rattle.exact.specs.declared.Figure.{Figure}
 use Rattle.exact.specs.declared.Figure.the-variants as figure
 use Rattle.exact.specs.Figure.{probabilityStep, figureOf}
@@ -47,7 +46,7 @@ figure-of-requires c κs =
 
 -- the figure is that of q
 figure-is : (c : tie.After-figure-of)
-    → c .figure-of .result ≡ figureOf probabilityStep (deathOf billionths (endsOf (c .before .before .args .p)))
+    → c .figure-of .result ≡ figureOf probabilityStep (deathOf billionths (c .before .before .args .p))
 figure-is c = c .figure-of .ensures ∙ ap (figureOf probabilityStep) (c .before .death-of .ensures)
 
 enum-known-figure : tie.Need-enum-known-figure

@@ -3,7 +3,7 @@ use mathlib.Core.Path.{refl}
 use native.Mathlib.Numerals.{add-one}
 use native.Mathlib.Omega.{arith}
 use Rattle.whole.specs.Bound.{fits, back}
-use Rattle.signed_ends.proofs.Signed.{sum}
+use Rattle.whole.proofs.Signed.{sum}
 use Rattle.years.proofs.next_year.Statement.{statement}
 use Rattle.years.proofs.next_year.Tie as tie
 

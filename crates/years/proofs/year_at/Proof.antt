@@ -2,7 +2,7 @@
 use mathlib.Core.Path.{_≡_, refl}
 use Rattle.whole.specs.Bound.{fits, back}
 use Rattle.params.specs.LimitsLaws.{SeriesWithin, in-limits-series}
-use Rattle.signed_ends.proofs.Signed.{read}
+use Rattle.whole.proofs.Signed.{read}
 use Rattle.series.specs.Series.{periodIndex}
 use Rattle.series.specs.BoundLaws.{period-under}
 use Rattle.years.proofs.year_at.Statement.{statement}

@@ -1,52 +1,20 @@
--- Two signed ends that hold a number: their products with a whole number and their quotients, the lower end rounded down
--- and the upper one up, hold the product and the quotient. How wide such ends are, and how far from zero they lie.
+-- Two signed ends: how wide their products with a whole number and their outward quotients are, and how far from zero these
+-- lie.
 use Prim.Native.Nat.{ℕ, suc, _+_, _*_, _≤_, _<_}
 use native.Mathlib.Nat.{mul-le-mul-left, mul-le-mul-right}
 use native.Mathlib.Omega.{arith}
 use lib.IntN.{ℤ, pos, negsuc, natAbs, _+ℤ_}
 use lib.Signed.{_≤ℤ_, nonNeg}
 use Rattle.whole.specs.Parts.{above, below}
 use Rattle.whole.specs.Split.{split, split-le, split-add}
 use Rattle.whole.specs.Difference.{Difference, difference, difference-pos, difference-add, difference-mul}
 use Rattle.whole.specs.Difference.{difference-le}
 use Rattle.whole.specs.Order.{≤ℤ-trans}
 use Rattle.whole.specs.Division.{floorDiv, ceilDiv}
-use Rattle.whole.specs.DivisionLaws.{split-floor, split-ceil, le-of-mul-lt}
-use Rattle.whole.specs.DivisionLaws.{floor-below, ceil-above, floor-mono, floor-le-ceil}
+use Rattle.whole.specs.DivisionLaws.{split-floor, split-ceil, le-of-mul-lt, floor-mono, floor-le-ceil}
 use Rattle.whole.specs.Bound.{Under, under-mul, under-cond, under-floor-to, under-ceil-to}
-use Rattle.whole.specs.SignedEnds.{SignedEnds, leastProduct, greatestProduct, outward}
-use Rattle.fraction.specs.Fraction.{Fraction, _≤ℚ_, wholeℚ, scaleℚ, quotientℚ}
-use Rattle.fraction.specs.FractionLaws.{≤ℚ-trans, scaleℚ-keeps, scaleℚ-exchanges, wholeℚ-≤ℚ, wholeℚ-*ℚ}
-use Rattle.fraction.specs.FractionLaws.{quotientℚ-≤ℚ, ≤ℚ-quotientℚ}
-
--- ---- a number between the ends
-
--- y lies between the ends
-pub record Holds (e : SignedEnds) (y : Fraction) : Type 0 where
-  pub low : wholeℚ (e .lower) ≤ℚ y
-  pub high : y ≤ℚ wholeℚ (e .upper)
-
--- c·y lies between the least and the greatest product, for c of either sign
-pub least-product : (c : ℤ) {e : SignedEnds} {y : Fraction} → Holds e y → wholeℚ (leastProduct c e) ≤ℚ scaleℚ c y
-unfolding leastProduct wholeℚ scaleℚ
-least-product (pos n) h = scaleℚ-keeps {k = pos n} (omega split) (h .low)
-least-product (negsuc n) h = scaleℚ-exchanges {k = negsuc n} (omega split) (h .high)
-
-pub greatest-product : (c : ℤ) {e : SignedEnds} {y : Fraction} → Holds e y → scaleℚ c y ≤ℚ wholeℚ (greatestProduct c e)
-unfolding greatestProduct wholeℚ scaleℚ
-greatest-product (pos n) h = scaleℚ-keeps {k = pos n} (omega split) (h .high)
-greatest-product (negsuc n) h = scaleℚ-exchanges {k = negsuc n} (omega split) (h .low)
-
--- y/m lies between the floor of least/m and the ceiling of greatest/m
-pub outward-holds : (least greatest : ℤ) {y : Fraction} {m : ℕ} (p : 0 < m) → wholeℚ least ≤ℚ y → y ≤ℚ wholeℚ greatest
-    → Holds (outward least greatest m) (quotientℚ y m p)
-unfolding outward
-outward-holds least greatest {y} {m} p h k = record {
-  low = ≤ℚ-quotientℚ m p .0 (≤ℚ-trans (wholeℚ-*ℚ (floorDiv least m) (pos m) .above)
-      (≤ℚ-trans (wholeℚ-≤ℚ .0 (floor-below least p)) h));
-  high = quotientℚ-≤ℚ m p .0 (≤ℚ-trans (≤ℚ-trans k (wholeℚ-≤ℚ .0 (ceil-above greatest p)))
-      (wholeℚ-*ℚ (ceilDiv greatest m) (pos m) .below));
-}
+use Rattle.whole.specs.declared.SignedEnds.{SignedEnds}
+use Rattle.whole.specs.SignedEnds.{leastProduct, greatestProduct, outward}
 
 -- ---- the width
 

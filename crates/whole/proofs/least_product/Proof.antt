@@ -1,9 +1,9 @@
 -- `least_product` meets its contract: a negative factor takes the upper end, any other the lower one.
 use borrow.Author.Needs.{needs}
 use Rattle.whole.specs.SignedEnds.{leastProduct}
-use Rattle.signed_ends.proofs.Signed.{EndsFit, choice}
-use Rattle.signed_ends.proofs.least_product.Statement.{statement}
-use Rattle.signed_ends.proofs.least_product.Tie as tie
+use Rattle.whole.proofs.Signed.{EndsFit, choice}
+use Rattle.whole.proofs.least_product.Statement.{statement}
+use Rattle.whole.proofs.least_product.Tie as tie
 
 ends-fit : (s : tie.Start) → EndsFit (s .args .e)
 ends-fit s = record { lower = search needs; upper = search needs }

@@ -7,11 +7,10 @@ use lib.Signed.{nonNeg, ltZ}
 use mir.Syntax.{w64}
 use mir.Val.{SFits}
 use mir.Facts.{toZ-ofZ}
 use Rattle.whole.specs.Division.{floorDiv, ceilDiv}
 use Rattle.whole.specs.Bound.{bits, fits-floor, fits-ceil}
 use Rattle.whole.specs.Sign.{Sign, minus, plain, sign}
-use Rattle.whole.specs.SignedEnds.{SignedEnds}
-use Rattle.signed_ends.specs.declared.SignedEnds as code
+use Rattle.whole.specs.declared.SignedEnds.{SignedEnds}
 
 -- a number that is z is read as z, and so are its floor and its ceiling
 pub read : {r z : ℤ} → r ≡ z → SFits w64 z → bits r ≡ z
@@ -35,7 +34,7 @@ pub ends : {l u : ℤ} {e : SignedEnds} → l ≡ e .lower → u ≡ e .upper �
 ends f g = rw (f, g)
 
 -- the code's two ends fit
-pub record EndsFit (e : code.SignedEnds) : Type 0 where
+pub record EndsFit (e : SignedEnds) : Type 0 where
   pub lower : SFits w64 (e .lower)
   pub upper : SFits w64 (e .upper)
 

@@ -2,9 +2,9 @@
 use mathlib.Core.Path.{_≡_}
 use mathlib.Core.Bool.{true, false}
 use mir.Facts.{toZ-ofZ}
-use Rattle.signed_ends.proofs.Signed.{read-floor, read-ceil}
-use Rattle.signed_ends.proofs.outward_div.Statement.{statement}
-use Rattle.signed_ends.proofs.outward_div.Tie as tie
+use Rattle.whole.proofs.Signed.{read-floor, read-ceil}
+use Rattle.whole.proofs.outward_div.Statement.{statement}
+use Rattle.whole.proofs.outward_div.Tie as tie
 
 ceil-div-requires : tie.Need-ceil-div-requires
 ceil-div-requires c κs = let s = c .before in rw (toZ-ofZ (s .fits .d)) (s .pre)
