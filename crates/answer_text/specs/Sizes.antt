@@ -18,9 +18,9 @@ use Rattle.exact.specs.Figure.{halfUp, figureOf}
 use Rattle.paths.specs.Answers.{path-length}
 use Rattle.paths.specs.Width.{value-small}
 use Rattle.kinds.specs.declared.Kind.{Kind}
-use Rattle.kinds.specs.declared.Fold.{Fold}
-use Rattle.kinds.specs.declared.Fold.the-variants.{Death, Survival, Expectancy, Annuity}
-use Rattle.kinds.specs.Kinds.{ruleOf, foldIs, countOf, stepOf}
+use Rattle.paths.specs.declared.Fold.{Fold}
+use Rattle.paths.specs.declared.Fold.the-variants.{Death, Survival, Expectancy, Annuity}
+use Rattle.kinds.specs.Kinds.{ruleOf, countOf, stepOf}
 use Rattle.path_quotes.specs.declared.Quote.{Quote}
 use Rattle.path_quotes.specs.declared.Answer.{Answer}
 use Rattle.path_quotes.specs.declared.Answer.the-variants.{Quoted, Refused}
@@ -69,7 +69,7 @@ quote-sized p k age year span e =
     let c = counted k (all-passed p k age year span e .table) in
     let f = ruleOf k .fold in
     let l = path-length (ruleOf k .cohort) (natAbs age) (natAbs year - startYear) (countOf f (natAbs year - startYear) (natAbs span)) in
-    let v = value-small billionths billionths-sound p (queryPath k age year span) (omega (arith, l, path-room k c)) (foldIs f) in
+    let v = value-small billionths billionths-sound p (queryPath k age year span) (omega (arith, l, path-room k c)) f in
     record {
       lower = omega (arith, v .lower);
       upper = omega (arith, v .upper);

@@ -18,7 +18,7 @@ use Rattle.series.specs.Series.{kappa, logForce}
 use Rattle.sheet.specs.Sheet.{sheetText}
 use Rattle.weights.specs.Weights.{firstFitted, firstClosed, lastClosed, weight, weightRow, rowTotal}
 use Rattle.exact.specs.Figure.{figureOf}
-use Rattle.kinds.specs.declared.Fold.the-variants.{Death}
+use Rattle.paths.specs.declared.Fold.the-variants.{Death}
 use Rattle.kinds.specs.Kinds.{stepOf, decimalsOf}
 use Rattle.figure_text.specs.FigureText.{figureText}
 use Rattle.sheet_quote.specs.SheetQuote.{kindOf, sheetAnswer, quoteLength, quoteNo}

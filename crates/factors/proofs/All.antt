@@ -17,7 +17,7 @@ use Rattle.folds.specs.Code.{mostFactors}
 use Rattle.mortality.specs.Cell.{survival}
 use Rattle.paths.specs.Path.{placeAt, pathOf, factors, pathInRange}
 use Rattle.paths.specs.Oldest.{range-stays, factors-stay, place-oldest}
-use Rattle.walks.specs.declared.Path.{Path}
+use Rattle.paths.specs.declared.Path.{Path}
 use Rattle.walks.specs.Code.{pathTo, pathIs, Worked}
 use Rattle.walks.proofs.Steps.{worked-last}
 use Rattle.factors.specs.Code.{workedCells, empty, Repeated, FactorsOf}

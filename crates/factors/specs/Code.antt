@@ -11,7 +11,7 @@ use Rattle.params.specs.declared.Params.{Params}
 use Rattle.weights.specs.Weights.{lastClosed}
 use Rattle.folds.specs.Code.{mostFactors}
 use Rattle.paths.specs.Path.{factors, pathInRange}
-use Rattle.walks.specs.declared.Path.{Path}
+use Rattle.paths.specs.declared.Path.{Path}
 use Rattle.walks.specs.Code.{pathIs}
 use Rattle.factors.specs.declared.Factors.{Factors}
 

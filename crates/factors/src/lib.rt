@@ -11,7 +11,7 @@ use cells::Cell;
 use expo::Ends;
 use folds::MOST_FACTORS;
 use params::Params;
-use walks::Path;
+use paths::Path;
 use walks::Walk;
 use weights::FIRST_CLOSED;
 use weights::LAST_CLOSED;

@@ -3,7 +3,7 @@ use mathlib.Core.Path.{_≡_}
 use Prim.Native.Nat.{_≤_}
 use lib.IntN.{pos, natAbs}
 use Rattle.annuity.specs.Annuity.{mostRate}
-use Rattle.kinds.specs.declared.Fold.{Fold}
+use Rattle.paths.specs.declared.Fold.{Fold}
 use Rattle.kinds.specs.Kinds.{rateOf}
 
 pub record RateWithin (fold : Fold) : Type 0 where

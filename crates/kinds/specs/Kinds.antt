@@ -4,15 +4,14 @@ use mathlib.Core.Bool.{Bool, true, false, cond}
 use mathlib.Core.Path.{_≡_}
 use Prim.Native.Nat.{ℕ, suc, _-_}
 use lib.Dec.{ltb}
-use lib.IntN.{ℤ, pos, natAbs}
+use lib.IntN.{ℤ, pos}
 use Rattle.params.specs.Limits.{quoteYears, lastYears}
 use Rattle.weights.specs.Weights.{firstClosed, lastClosed}
 use Rattle.exact.specs.Figure.{probabilityStep, expectancyStep}
-use Rattle.paths.specs.Values as path
 use Rattle.kinds.specs.declared.Kind.{Kind}
 use Rattle.kinds.specs.declared.Kind.the-variants as kind
-use Rattle.kinds.specs.declared.Fold.{Fold}
-use Rattle.kinds.specs.declared.Fold.the-variants.{Death, Survival, Expectancy, Annuity}
+use Rattle.paths.specs.declared.Fold.{Fold}
+use Rattle.paths.specs.declared.Fold.the-variants.{Death, Survival, Expectancy, Annuity}
 use Rattle.kinds.specs.declared.Rule.{Rule}
 
 -- "`q`: one-year death probability, .. year 2014 to 2184." "`coh`, `per`: chance to survive a span .., along the cohort or in
@@ -54,13 +53,6 @@ rateAside k = withRate k (pos 0)
 
 abbrev pub OneKind : Kind → Kind → Type 0
 OneKind k k′ = rateAside k ≡ rateAside k′
-
--- the fold that the code's enum names
-unfoldable pub foldIs : Fold → path.Fold
-foldIs Death = path.death
-foldIs Survival = path.survival
-foldIs Expectancy = path.expectancy
-foldIs (Annuity rate) = path.annuity (natAbs rate)
 
 -- the rate of an annuity; the others take none
 unfoldable pub rateOf : Fold → ℤ

@@ -9,7 +9,7 @@ ghost use Rattle.weights.specs.Weights.{lastClosed};
 ghost use Rattle.folds.specs.Code.{Chances};
 ghost use Rattle.paths.specs.Values.{foldOver};
 ghost use Rattle.params.specs.Limits.{lastYears};
-ghost use Rattle.kinds.specs.Kinds.{ruleOf, foldIs, rateOf, mostSpan, yearsOn, countOf, stepOf, decimalsOf};
+ghost use Rattle.kinds.specs.Kinds.{ruleOf, rateOf, mostSpan, yearsOn, countOf, stepOf, decimalsOf};
 ghost use Rattle.kinds.specs.Code.{RateWithin};
 use exact::EXPECTANCY_STEP;
 use exact::PROBABILITY_STEP;
@@ -17,6 +17,7 @@ use expo::Ends;
 use folds::MOST_FACTORS;
 use params::LAST_YEARS;
 use params::QUOTE_YEARS;
+use paths::Fold;
 use weights::LAST_CLOSED;
 
 // What may be asked of a life: `q`, `coh`, `per`, `ecoh` and `eper`, and with a rate `acoh` and `aper`.
@@ -28,14 +29,6 @@ pub enum Kind {
     PeriodExpectancy,
     CohortAnnuity(i64),
     PeriodAnnuity(i64),
-}
-
-// What is taken of a path's factors, an annuity's price with its rate.
-pub enum Fold {
-    Death,
-    Survival,
-    Expectancy,
-    Annuity(i64),
 }
 
 // A kind's fold, whether its path is the cohort's, and its last year, counted from the start year.
@@ -161,7 +154,7 @@ pub fn decimals_of(fold: Fold) -> usize
 // The fold over the first `count` factors.
 pub fn folded(fold: Fold, factors: [Ends; MOST_FACTORS], count: usize) -> Ends
     requires { ⌜ Chances factors count × RateWithin fold ⌝ }
-    ensures { λ r. ⌜ r ≡ foldOver (foldIs fold) billionths (take count factors) ⌝ }
+    ensures { λ r. ⌜ r ≡ foldOver fold billionths (take count factors) ⌝ }
 {
     match fold {
         Fold::Death => force::death_of(folds::survival_over(factors, count)),

@@ -16,11 +16,11 @@ use Rattle.paths.specs.Path.{factors}
 use Rattle.paths.specs.Values.{gridValue}
 use Rattle.paths.specs.Answers.{path-length}
 use Rattle.paths.specs.Width.{factors-chances, value-small}
-use Rattle.walks.specs.declared.Path.{Path}
+use Rattle.paths.specs.declared.Path.{Path}
 use Rattle.walks.specs.Code.{PathWithin, pathIs}
-use Rattle.kinds.specs.declared.Fold.{Fold}
-use Rattle.kinds.specs.declared.Fold.the-variants.{Death, Survival, Expectancy, Annuity}
-use Rattle.kinds.specs.Kinds.{foldIs, stepOf}
+use Rattle.paths.specs.declared.Fold.{Fold}
+use Rattle.paths.specs.declared.Fold.the-variants.{Death, Survival, Expectancy, Annuity}
+use Rattle.kinds.specs.Kinds.{stepOf}
 use Rattle.path_quotes.specs.declared.Answer.the-variants.{Quoted}
 
 -- its factors are chances, for which there is room
@@ -34,10 +34,10 @@ path-chances {p} {w} {es} h e =
 
 -- and its ends fit
 pub value-fits : {p : Params} {w : Path} (fold : Fold) → PathWithin p w
-    → let e = gridValue (foldIs fold) billionths p (pathIs w) in (e .lower < 2 ^ 62) × (e .upper < 2 ^ 62)
+    → let e = gridValue fold billionths p (pathIs w) in (e .lower < 2 ^ 62) × (e .upper < 2 ^ 62)
 value-fits {p} {w} fold h =
     let l : length (pathIs w) ≤ mostFactors = rw (path-length (w .cohort) (w .age) (w .year) (w .count)) (h .room) in
-    let v = value-small billionths billionths-sound p (pathIs w) l (foldIs fold) in
+    let v = value-small billionths billionths-sound p (pathIs w) l fold in
     (omega (arith, v .lower), omega (arith, v .upper))
 
 -- a step fits

@@ -6,15 +6,15 @@ use Rattle.params.specs.declared.Refusal.the-variants.{LogForceOutOfRange}
 use Rattle.exact.specs.Figure.{figureOf}
 use Rattle.paths.specs.Path.{pathInRange}
 use Rattle.paths.specs.Values.{gridValue}
-use Rattle.walks.specs.declared.Path.{Path}
+use Rattle.paths.specs.declared.Path.{Path}
 use Rattle.walks.specs.Code.{pathIs}
-use Rattle.kinds.specs.declared.Fold.{Fold}
-use Rattle.kinds.specs.Kinds.{foldIs, stepOf}
+use Rattle.paths.specs.declared.Fold.{Fold}
+use Rattle.kinds.specs.Kinds.{stepOf}
 use Rattle.path_quotes.specs.declared.Answer.{Answer}
 use Rattle.path_quotes.specs.declared.Answer.the-variants.{Quoted, Refused}
 
 unfoldable pub pathAnswer : Params → Fold → Path → Answer
 pathAnswer p fold w =
-    let e = gridValue (foldIs fold) billionths p (pathIs w) in
+    let e = gridValue fold billionths p (pathIs w) in
     cond (pathInRange p (pathIs w)) (Quoted (record { lower = e .lower; upper = e .upper; figure = figureOf (stepOf fold) e }))
     (Refused LogForceOutOfRange)

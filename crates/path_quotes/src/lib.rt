@@ -4,10 +4,10 @@ ghost use Rattle.walks.specs.Code.{PathWithin};
 ghost use Rattle.kinds.specs.Code.{RateWithin};
 ghost use Rattle.path_quotes.specs.Code.{pathAnswer};
 use exact::Figure;
-use kinds::Fold;
 use params::Params;
 use params::Refusal;
-use walks::Path;
+use paths::Fold;
+use paths::Path;
 
 // The two ends of a figure in units of 10^-9, with the figure: a number of steps, or open.
 pub struct Quote {

@@ -1,6 +1,7 @@
 -- The values along an answered path on the grid of 10^-9 hold every order's: their ends overlap its bracket.
 use mathlib.Core.List.{List, Forall₂}
 use Prim.Native.Nat.{ℕ, _≤_}
+use lib.IntN.{natAbs}
 use Rattle.fraction.specs.Ratio.{complement}
 use Rattle.fraction.specs.RatioLaws.{complement-reverse}
 use Rattle.fraction.specs.Bracket.{Bracket}
@@ -18,7 +19,9 @@ use Rattle.force.specs.Force.{deathOf}
 use Rattle.mortality.specs.Holds as cell
 use Rattle.mortality.specs.Billionths.{billionths-fit}
 use Rattle.paths.specs.Path.{Place, factors, orderFactors}
-use Rattle.paths.specs.Values.{Fold, death, survival, expectancy, annuity, foldOver, orderDeathOf, orderFoldOver, gridValue, exactValue}
+use Rattle.paths.specs.declared.Fold.{Fold}
+use Rattle.paths.specs.declared.Fold.the-variants.{Death, Survival, Expectancy, Annuity}
+use Rattle.paths.specs.Values.{foldOver, orderDeathOf, orderFoldOver, gridValue, exactValue}
 use Rattle.paths.specs.Answers.{AnsweredPath}
 
 module _ (g : Grid) where
@@ -31,10 +34,10 @@ module _ (g : Grid) where
   pub fold-holds : Even g → (f : Fold) {es : List Ends} {bs : List Bracket} → Forall₂ (Over g) es bs
       → Over g (foldOver f g es) (orderFoldOver f bs)
   unfolding foldOver orderFoldOver
-  fold-holds even death h = death-of-holds (survival-holds g h)
-  fold-holds even survival h = survival-holds g h
-  fold-holds even expectancy h = expectancy-holds g even h
-  fold-holds even (annuity rate) h = annuity-holds g rate h
+  fold-holds even Death h = death-of-holds (survival-holds g h)
+  fold-holds even Survival h = survival-holds g h
+  fold-holds even Expectancy h = expectancy-holds g even h
+  fold-holds even (Annuity rate) h = annuity-holds g (natAbs rate) h
 
 module _ {p : Params} {path : List Place} (a : AnsweredPath p path) (j : ℕ) (l : leastOrder ≤ j) where
   pub factors-hold : Forall₂ (Over billionths) (factors billionths p path) (orderFactors p path j)

@@ -5,6 +5,7 @@ use mathlib.Core.List.{List}
 use Prim.Native.Nat.{ℕ, suc, _*_, _≤_, _<_}
 use native.Mathlib.Nat.{le-refl, mul-pos}
 use native.Mathlib.Omega.{arith}
+use lib.IntN.{natAbs}
 use lib.ListN.{length, length-map}
 use Rattle.fraction.specs.Ratio.{Ratio, _≤/_, whole/, quotient/, _+/_}
 use Rattle.fraction.specs.RatioLaws.{≤/-refl, ≤/-trans, +/-mono}
@@ -19,7 +20,9 @@ use Rattle.annuity.specs.Exact.{orderAnnuityOver}
 use Rattle.annuity.specs.Narrowing.{annuity-narrow}
 use Rattle.mortality.specs.Narrowing.{deathOrder, deathOrder-counts, survival-least-one, survival-most-one, p-narrow, complement-narrow}
 use Rattle.paths.specs.Path.{Place, orderFactors}
-use Rattle.paths.specs.Values.{Fold, death, survival, expectancy, annuity, orderDeathOf, orderFoldOver, exactValue}
+use Rattle.paths.specs.declared.Fold.{Fold}
+use Rattle.paths.specs.declared.Fold.the-variants.{Death, Survival, Expectancy, Annuity}
+use Rattle.paths.specs.Values.{orderDeathOf, orderFoldOver, exactValue}
 use Rattle.paths.specs.Answers.{AnsweredPath}
 
 -- the parts that 1/M is divided into, for k factors
@@ -53,18 +56,18 @@ module _ {bs : List Bracket} (M : ℕ) (h : 0 < M) (e : Each (OrderChance (part 
 
   fold-narrow : (f : Fold) → orderFoldOver f bs .most ≤/ orderFoldOver f bs .least +/ quotient/ (whole/ 1) M h
   unfolding orderFoldOver orderDeathOf
-  fold-narrow death =
+  fold-narrow Death =
       complement-narrow (orderSurvivalOver bs .least) (orderSurvivalOver bs .most) (quotient/ (whole/ 1) M h)
       (survival-narrow (part (length bs) M h) e .least) (survival-narrow (part (length bs) M h) e .most) survival-most
-  fold-narrow survival = survival-most
-  fold-narrow expectancy =
+  fold-narrow Survival = survival-most
+  fold-narrow Expectancy =
       ≤/-trans (expectancy-narrow (part (length bs) M h) e)
       (+/-mono (≤/-refl (orderExpectancyOver bs .least))
       (times-part (length bs * length bs) (length bs * suc (length bs)) M h (parts-positive (length bs) M h)
       (expectancy-parts (length bs))))
-  fold-narrow (annuity rate) =
-      ≤/-trans (annuity-narrow rate (part (length bs) M h) e)
-      (+/-mono (≤/-refl (orderAnnuityOver rate bs .least))
+  fold-narrow (Annuity rate) =
+      ≤/-trans (annuity-narrow (natAbs rate) (part (length bs) M h) e)
+      (+/-mono (≤/-refl (orderAnnuityOver (natAbs rate) bs .least))
       (times-part (length bs * suc (length bs)) (length bs * suc (length bs)) M h (parts-positive (length bs) M h) (le-refl _)))
 
 module _ {p : Params} {path : List Place} (a : AnsweredPath p path) where

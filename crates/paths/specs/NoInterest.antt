@@ -2,6 +2,7 @@
 use mathlib.Core.List.{List}
 use Prim.Native.Nat.{ℕ}
 use native.Mathlib.Omega.{arith}
+use lib.IntN.{pos}
 use lib.ListN.{length}
 use Rattle.fraction.specs.Ratio.{whole/, quotient/, _+/_}
 use Rattle.params.specs.declared.Params.{Params}
@@ -9,14 +10,15 @@ use Rattle.folds.specs.Exact.{exactly, half/, orderSurvivalsOver, orderPlus, or
 use Rattle.annuity.specs.Same.{Same, same-refl, same-trans, same-plus, same-assoc}
 use Rattle.annuity.specs.NoInterest.{annuity-at-0}
 use Rattle.paths.specs.Path.{Place, orderFactors}
-use Rattle.paths.specs.Values.{expectancy, annuity, orderFoldOver, exactValue}
+use Rattle.paths.specs.declared.Fold.the-variants.{Expectancy, Annuity}
+use Rattle.paths.specs.Values.{orderFoldOver, exactValue}
 
 two-halves : Same (exactly (whole/ 1)) (orderPlus (exactly half/) (exactly half/))
 unfolding exactly orderPlus half/ quotient/ whole/ _+/_
 two-halves = record { least = omega arith; most = omega arith }
 
 pub annuity-without-interest : (p : Params) (path : List Place) (j : ℕ)
-    → Same (exactValue (annuity 0) p path j) (orderPlus (exactly half/) (exactValue expectancy p path j))
+    → Same (exactValue (Annuity (pos 0)) p path j) (orderPlus (exactly half/) (exactValue Expectancy p path j))
 unfolding exactValue orderFoldOver orderExpectancyOver
 annuity-without-interest p path j =
     let ps = orderFactors p path j in

@@ -1,6 +1,7 @@
 -- The values along an answered path agree at any two orders that count.
 use mathlib.Core.List.{List, Forall₂}
 use Prim.Native.Nat.{ℕ, _≤_}
+use lib.IntN.{natAbs}
 use Rattle.fraction.specs.RatioLaws.{complement-reverse}
 use Rattle.fraction.specs.Bracket.{Bracket, NotAbove}
 use Rattle.taylor.specs.Order.{leastOrder}
@@ -11,7 +12,9 @@ use Rattle.folds.specs.OrdersAgree.{survival-agrees, expectancy-agrees}
 use Rattle.annuity.specs.OrdersAgree.{annuity-agrees}
 use Rattle.mortality.specs.OrdersAgree as cell
 use Rattle.paths.specs.Path.{Place, orderFactors}
-use Rattle.paths.specs.Values.{Fold, death, survival, expectancy, annuity, orderDeathOf, orderFoldOver, exactValue}
+use Rattle.paths.specs.declared.Fold.{Fold}
+use Rattle.paths.specs.declared.Fold.the-variants.{Death, Survival, Expectancy, Annuity}
+use Rattle.paths.specs.Values.{orderDeathOf, orderFoldOver, exactValue}
 use Rattle.paths.specs.Answers.{AnsweredPath}
 
 -- 1 less two brackets, their ends exchanged
@@ -23,10 +26,10 @@ death-of-agrees h = record { reaches = complement-reverse (h .reaches) }
 fold-agrees : (f : Fold) {ps qs : List Bracket} → Forall₂ NotAbove ps qs → Forall₂ NotAbove qs ps
     → NotAbove (orderFoldOver f ps) (orderFoldOver f qs)
 unfolding orderFoldOver
-fold-agrees death h k = death-of-agrees (survival-agrees k)
-fold-agrees survival h k = survival-agrees h
-fold-agrees expectancy h k = expectancy-agrees h
-fold-agrees (annuity rate) h k = annuity-agrees rate h
+fold-agrees Death h k = death-of-agrees (survival-agrees k)
+fold-agrees Survival h k = survival-agrees h
+fold-agrees Expectancy h k = expectancy-agrees h
+fold-agrees (Annuity rate) h k = annuity-agrees (natAbs rate) h
 
 module _ {p : Params} {path : List Place} (a : AnsweredPath p path) where
   factors-agree : (i j : ℕ) → leastOrder ≤ i → leastOrder ≤ j

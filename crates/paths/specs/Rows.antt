@@ -4,24 +4,15 @@ use mathlib.Core.Path.{_≡_, refl}
 use mathlib.Core.Bool.{true, false}
 use mathlib.Core.List.{[], _∷_}
 use Rattle.whole.specs.Listed.{listed}
-use Rattle.paths.specs.Path.{placeAt, pathOf}
+use Rattle.paths.specs.Path.{placeAt, pathOf, Place}
+use Prim.Native.Nat.{ℕ}
 
-cohort-path : pathOf true 65 11 3
-    ≡ (record { age = 65; year = 11 }) ∷ (record { age = 66; year = 12 }) ∷ (record { age = 67; year = 13 }) ∷ []
-unfolding pathOf placeAt listed
-cohort-path = refl
+abbrev cell : ℕ → ℕ → Place
+cell x n = record { age = x; year = n }
 
-period-path : pathOf false 65 11 3
-    ≡ (record { age = 65; year = 11 }) ∷ (record { age = 66; year = 11 }) ∷ (record { age = 67; year = 11 }) ∷ []
+rows : (pathOf true 65 11 3 ≡ cell 65 11 ∷ cell 66 12 ∷ cell 67 13 ∷ [])
+    × (pathOf false 65 11 3 ≡ cell 65 11 ∷ cell 66 11 ∷ cell 67 11 ∷ [])
+    × (pathOf true 119 11 3 ≡ cell 119 11 ∷ cell 120 12 ∷ cell 120 13 ∷ [])
+    × (pathOf false 119 11 3 ≡ cell 119 11 ∷ cell 120 11 ∷ cell 120 11 ∷ [])
 unfolding pathOf placeAt listed
-period-path = refl
-
-cohort-past : pathOf true 119 11 3
-    ≡ (record { age = 119; year = 11 }) ∷ (record { age = 120; year = 12 }) ∷ (record { age = 120; year = 13 }) ∷ []
-unfolding pathOf placeAt listed
-cohort-past = refl
-
-period-past : pathOf false 119 11 3
-    ≡ (record { age = 119; year = 11 }) ∷ (record { age = 120; year = 11 }) ∷ (record { age = 120; year = 11 }) ∷ []
-unfolding pathOf placeAt listed
-period-past = refl
+rows = (refl, refl, refl, refl)

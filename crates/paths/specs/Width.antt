@@ -7,6 +7,7 @@ use native.Mathlib.Nat.{add-zero, zero-add, le-refl, mul-le-mul, mul-le-mul-righ
 use native.Mathlib.Decide.{decLt}
 use native.Mathlib.Omega.{arith}
 use lib.Dec.{ltb, lit≤}
+use lib.IntN.{ℤ, natAbs}
 use lib.ListN.{length, take, drop, length-map}
 use borrow.Author.Tests.{lt-ltb, le-ltb}
 use Rattle.whole.specs.Listed.{listed}
@@ -34,7 +35,9 @@ use Rattle.mortality.specs.Answered.{Answered}
 use Rattle.mortality.specs.Width.{Narrowed, death-narrowed}
 use Rattle.mortality.specs.Billionths.{youngLimit, oldLimit, p-width-young, p-width-old}
 use Rattle.paths.specs.Path.{Place, placeAt, pathOf, factors}
-use Rattle.paths.specs.Values.{Fold, death, survival, expectancy, annuity, foldOver, gridValue}
+use Rattle.paths.specs.declared.Fold.{Fold}
+use Rattle.paths.specs.declared.Fold.the-variants.{Death, Survival, Expectancy, Annuity}
+use Rattle.paths.specs.Values.{foldOver, gridValue}
 use Rattle.paths.specs.Answers.{AnsweredPath, factors-length}
 use Rattle.paths.specs.Oldest.{place-age}
 
@@ -85,14 +88,14 @@ one-place false x n l = ap (λ (y : ℕ). record { age = y; year = n } ∷ []) (
 
 -- its chance to die is the cell's q
 pub one-cell : (g : Grid) → 0 < g .unit → (p : Params) (cohort : Bool) (x n : ℕ) → x ≤ lastClosed
-    → gridValue death g p (pathOf cohort x n 1) ≡ cell.death g p x n
+    → gridValue Death g p (pathOf cohort x n 1) ≡ cell.death g p x n
 unfolding gridValue foldOver factors cell.death
 one-cell g positive p cohort x n l =
     rw (one-place cohort x n l) (ap (deathOf g) (survival-one g positive (cell.survival g p x n)))
 
 pub death-limit : {p : Params} (cohort : Bool) (x n : ℕ) → x ≤ lastClosed → AnsweredPath p (pathOf cohort x n 1)
-    → gridValue death billionths p (pathOf cohort x n 1) .upper
-    ≤ gridValue death billionths p (pathOf cohort x n 1) .lower + ageLimit x
+    → gridValue Death billionths p (pathOf cohort x n 1) .upper
+    ≤ gridValue Death billionths p (pathOf cohort x n 1) .lower + ageLimit x
 death-limit {p} cohort x n l a =
     rw (one-cell billionths (billionths .positive) p cohort x n l)
     (death-narrowed billionths p x n (ageLimit x) (p-narrowed (first (rw (one-place cohort x n l) at a))) .width)
@@ -134,8 +137,8 @@ limits-part cohort x n k h =
     ∙ ap (λ (y : ℕ). listed ageLimit y k) (add-zero x ∙ sym (zero-add x)) ∙ sym (listed-part ageLimit 0 (suc lastClosed) x k h)
 
 pub survival-limit : {p : Params} (cohort : Bool) (x n k : ℕ) → x + k ≤ suc lastClosed → AnsweredPath p (pathOf cohort x n k)
-    → gridValue survival billionths p (pathOf cohort x n k) .upper
-    ≤ gridValue survival billionths p (pathOf cohort x n k) .lower + survivalLimit
+    → gridValue Survival billionths p (pathOf cohort x n k) .upper
+    ≤ gridValue Survival billionths p (pathOf cohort x n k) .lower + survivalLimit
 unfolding gridValue foldOver
 survival-limit cohort x n k h a =
     omega (
@@ -162,13 +165,13 @@ pub path-spreads : (path : List Place) → length path ≤ mostFactors → sprea
 path-spreads path h = omega (arith, spreads-plain oldLimit (limits-widest path) {k = mostFactors} (rw (length-map path _) h))
 
 pub expectancy-limit : {p : Params} {path : List Place} → length path ≤ mostFactors → AnsweredPath p path
-    → gridValue expectancy billionths p path .upper ≤ gridValue expectancy billionths p path .lower + expectancyLimit
+    → gridValue Expectancy billionths p path .upper ≤ gridValue Expectancy billionths p path .lower + expectancyLimit
 unfolding gridValue foldOver
 expectancy-limit {path = path} h a =
     omega (arith, expectancy-width billionths (billionths .positive) (path-chances a), path-spreads path h)
 
-pub annuity-limit : {p : Params} {path : List Place} → length path ≤ mostFactors → AnsweredPath p path → (rate : ℕ)
-    → gridValue (annuity rate) billionths p path .upper ≤ gridValue (annuity rate) billionths p path .lower + expectancyLimit
+pub annuity-limit : {p : Params} {path : List Place} → length path ≤ mostFactors → AnsweredPath p path → (rate : ℤ)
+    → gridValue (Annuity rate) billionths p path .upper ≤ gridValue (Annuity rate) billionths p path .lower + expectancyLimit
 unfolding gridValue foldOver priceSpread
 annuity-limit {path = path} h a rate =
     let n = length (pathLimits path) in
@@ -176,7 +179,7 @@ annuity-limit {path = path} h a rate =
     let a₁ : suc n ≤ suc mostFactors = omega arith in
     let a₂ : n + 2 ≤ mostFactors + 2 = omega arith in
     let m = mul-le-mul a₁ a₂ in
-    omega (arith, annuity-width billionths (billionths .positive) rate (path-chances a), path-spreads path h)
+    omega (arith, annuity-width billionths (billionths .positive) (natAbs rate) (path-chances a), path-spreads path h)
 
 -- ---- sizes
 
@@ -184,18 +187,18 @@ annuity-limit {path = path} h a rate =
 pub value-small : (g : Grid) (s : Sound g) (p : Params) (path : List Place) → length path ≤ mostFactors → (f : Fold)
     → AtMost (suc mostFactors * g .unit) (gridValue f g p path)
 unfolding gridValue foldOver deathOf
-value-small g s p path h death = record { lower = omega arith; upper = omega arith }
-value-small g s p path h survival =
+value-small g s p path h Death = record { lower = omega arith; upper = omega arith }
+value-small g s p path h Survival =
     let a = survival-at-most g (g .positive) (factors-chances g s p path) in
     record { lower = omega (arith, a .lower); upper = omega (arith, a .upper) }
-value-small g s p path h expectancy =
+value-small g s p path h Expectancy =
     let a = expectancy-at-most g (g .positive) (factors-chances g s p path) in
     let m = mul-le-mul-right (g .unit) h in
     let e = ap (λ (k : ℕ). k * g .unit) (factors-length g p path) in
     let d = div-le-self (g .unit) 2 in
     record { lower = omega (arith, a .lower); upper = omega (arith, a .upper) }
-value-small g s p path h (annuity rate) =
-    let a = annuity-at-most g (g .positive) rate (factors-chances g s p path) in
+value-small g s p path h (Annuity rate) =
+    let a = annuity-at-most g (g .positive) (natAbs rate) (factors-chances g s p path) in
     let m = mul-le-mul-right (g .unit) h in
     let e = ap (λ (k : ℕ). k * g .unit) (factors-length g p path) in
     record { lower = omega (arith, a .lower); upper = omega (arith, a .upper) }

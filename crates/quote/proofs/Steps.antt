@@ -16,7 +16,7 @@ use Rattle.params.specs.declared.Refusal.the-variants.{Accepted, OutOfLimits, L
 use Rattle.params.specs.Limits.{inLimits, startYear, lastYears}
 use Rattle.params.specs.Refusals.{refusalNumber}
 use Rattle.paths.specs.Path.{pathInRange}
-use Rattle.walks.specs.declared.Path.{Path}
+use Rattle.paths.specs.declared.Path.{Path}
 use Rattle.walks.specs.Code.{pathIs}
 use Rattle.kinds.specs.declared.Kind.{Kind}
 use Rattle.kinds.specs.Kinds.{ruleOf}

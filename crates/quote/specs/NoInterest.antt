@@ -6,16 +6,16 @@ use Rattle.folds.specs.Exact.{exactly, half/, orderPlus}
 use Rattle.annuity.specs.Same.{Same}
 use Rattle.paths.specs.NoInterest.{annuity-without-interest}
 use Rattle.kinds.specs.declared.Kind.the-variants.{CohortExpectancy, PeriodExpectancy, CohortAnnuity, PeriodAnnuity}
-use Rattle.kinds.specs.Kinds.{ruleOf, foldIs, countOf}
+use Rattle.kinds.specs.Kinds.{ruleOf, countOf}
 use Rattle.quote.specs.Quote.{queryPath, exactQuery}
 
 module _ (p : Params) (age year span : ℤ) (j : ℕ) where
   pub cohort-without-interest : Same (exactQuery p (CohortAnnuity (pos 0)) age year span j)
       (orderPlus (exactly half/) (exactQuery p CohortExpectancy age year span j))
-  unfolding exactQuery queryPath ruleOf foldIs countOf
+  unfolding exactQuery queryPath ruleOf countOf
   cohort-without-interest = annuity-without-interest p _ j
 
   pub period-without-interest : Same (exactQuery p (PeriodAnnuity (pos 0)) age year span j)
       (orderPlus (exactly half/) (exactQuery p PeriodExpectancy age year span j))
-  unfolding exactQuery queryPath ruleOf foldIs countOf
+  unfolding exactQuery queryPath ruleOf countOf
   period-without-interest = annuity-without-interest p _ j

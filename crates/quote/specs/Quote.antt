@@ -17,7 +17,7 @@ use Rattle.exact.specs.Figure.{figureOf}
 use Rattle.paths.specs.Path.{Place, pathOf, pathInRange}
 use Rattle.paths.specs.Values.{gridValue, exactValue}
 use Rattle.kinds.specs.declared.Kind.{Kind}
-use Rattle.kinds.specs.Kinds.{ruleOf, foldIs, countOf, stepOf}
+use Rattle.kinds.specs.Kinds.{ruleOf, countOf, stepOf}
 use Rattle.table_tests.specs.TableTests.{firstFailed, tableTests}
 use Rattle.path_quotes.specs.declared.Quote.{Quote}
 use Rattle.path_quotes.specs.declared.Answer.{Answer}
@@ -33,10 +33,10 @@ queryPath kind age year span =
     pathOf (r .cohort) (natAbs age) n (countOf (r .fold) n (natAbs span))
 
 unfoldable pub queryEnds : Params → Kind → ℤ → ℤ → ℤ → Ends
-queryEnds p kind age year span = gridValue (foldIs (ruleOf kind .fold)) billionths p (queryPath kind age year span)
+queryEnds p kind age year span = gridValue (ruleOf kind .fold) billionths p (queryPath kind age year span)
 
 unfoldable pub exactQuery : Params → Kind → ℤ → ℤ → ℤ → Exact
-exactQuery p kind age year span = exactValue (foldIs (ruleOf kind .fold)) p (queryPath kind age year span)
+exactQuery p kind age year span = exactValue (ruleOf kind .fold) p (queryPath kind age year span)
 
 -- ---- the answer
 

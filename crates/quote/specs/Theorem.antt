@@ -31,9 +31,9 @@ use Rattle.paths.specs.Narrowing.{value-narrows}
 use Rattle.paths.specs.OrdersAgree.{value-agrees}
 use Rattle.paths.specs.Width.{ageLimit, death-limit, survival-limit, expectancy-limit, annuity-limit}
 use Rattle.kinds.specs.declared.Kind.{Kind}
-use Rattle.kinds.specs.declared.Fold.{Fold}
-use Rattle.kinds.specs.declared.Fold.the-variants.{Death, Survival, Expectancy, Annuity}
-use Rattle.kinds.specs.Kinds.{OneKind, ruleOf, foldIs, mostSpan, yearsOn, countOf, stepOf, widthOf}
+use Rattle.paths.specs.declared.Fold.{Fold}
+use Rattle.paths.specs.declared.Fold.the-variants.{Death, Survival, Expectancy, Annuity}
+use Rattle.kinds.specs.Kinds.{OneKind, ruleOf, mostSpan, yearsOn, countOf, stepOf, widthOf}
 use Rattle.kinds.specs.KindLaws.{one-step-of}
 use Rattle.path_quotes.specs.declared.Quote.{Quote}
 use Rattle.path_quotes.specs.declared.Answer.{Answer}
@@ -98,12 +98,12 @@ step-positive (Annuity rate) = lit< tt
 -- its ends lie no further apart than its fold allows
 fold-width : (f : Fold) {p : Params} (cohort : Bool) (x n span : ℕ) → x ≤ lastClosed → span ≤ mostSpan f x
     → countOf f n span ≤ mostFactors → AnsweredPath p (pathOf cohort x n (countOf f n span))
-    → let e = path.gridValue (foldIs f) billionths p (pathOf cohort x n (countOf f n span)) in e .upper ≤ e .lower + widthOf f x
-unfolding foldIs countOf mostSpan widthOf ageLimit
+    → let e = path.gridValue f billionths p (pathOf cohort x n (countOf f n span)) in e .upper ≤ e .lower + widthOf f x
+unfolding countOf mostSpan widthOf ageLimit
 fold-width Death cohort x n span l m r a = death-limit cohort x n l a
 fold-width Survival cohort x n span l m r a = survival-limit cohort x n span (omega arith) a
 fold-width Expectancy cohort x n span l m r a = expectancy-limit (rw (path-length cohort x n (yearsOn n)) r) a
-fold-width (Annuity rate) cohort x n span l m r a = annuity-limit (rw (path-length cohort x n (yearsOn n)) r) a (natAbs rate)
+fold-width (Annuity rate) cohort x n span l m r a = annuity-limit (rw (path-length cohort x n (yearsOn n)) r) a rate
 
 module _ {p : Params} {k : Kind} {age year span : ℤ} (h : Passed p k age year span) where
   query-width : queryEnds p k age year span .upper ≤ queryEnds p k age year span .lower + widthOf (ruleOf k .fold) (natAbs age)
@@ -117,7 +117,7 @@ module _ {p : Params} {k : Kind} {age year span : ℤ} (h : Passed p k age year 
   unfolding lowerOf upperOf figureShown quoteOf queryEnds exactQuery
   query-kept =
       let a = query-answered h in
-      let f = foldIs (ruleOf k .fold) in
+      let f = ruleOf k .fold in
       let o = figure-open (step k) (queryEnds p k age year span) in
       let w = open-figure (figureOf (step k) (queryEnds p k age year span)) in
       record {
@@ -135,7 +135,7 @@ module _ {p : Params} {k : Kind} {age year span : ℤ} (h : Passed p k age year 
   unfolding queryEnds exactQuery
   query-rounds e =
       let a = query-answered h in
-      let f = foldIs (ruleOf k .fold) in
+      let f = ruleOf k .fold in
       let g = figure-printed (step k) (queryEnds p k age year span) e in
       printed-rounds (queryEnds p k age year span) (step-positive (ruleOf k .fold)) (overlap-at-least (λ j l. value-holds a j l f))
       (overlap-at-most (λ j l. value-holds a j l f)) (value-narrows a f) (g .0) (g .1)

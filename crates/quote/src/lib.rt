@@ -10,7 +10,7 @@ use params::Params;
 use params::Refusal;
 use params::START_YEAR;
 use path_quotes::Answer;
-use walks::Path;
+use paths::Path;
 
 // The answer to a query of a set in its limits.
 pub fn quote_within(p: Params, kind: Kind, age: i64, year: i64, span: i64) -> Answer

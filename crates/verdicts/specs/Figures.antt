@@ -28,7 +28,7 @@ use Rattle.paths.specs.Answers.{range-out}
 use Rattle.paths.specs.Width.{one-place, one-cell}
 use Rattle.kinds.specs.declared.Kind.{Kind}
 use Rattle.kinds.specs.declared.Kind.the-variants.{Death}
-use Rattle.kinds.specs.Kinds.{ruleOf, foldIs, countOf, stepOf, mostSpan, rateOf}
+use Rattle.kinds.specs.Kinds.{ruleOf, countOf, stepOf, mostSpan, rateOf}
 use Rattle.table_tests.specs.TableTests.{ageInTable, yearInTable, spanInTable, rateInTable, firstFailed, tableTests}
 use Rattle.table_tests.specs.TableLaws.{InTable}
 use Rattle.quote.specs.Quote.{queryPath, queryEnds, refusalOf, quoteOf, answerBy, answerOf}
@@ -98,7 +98,7 @@ q-accepted {p} {year} x l h =
 
 pub figure-here : {p : Params} {year : ℤ} (x : ℕ) → x < columnAges → Worked p year
     → figureHere p year x ≡ figureBy (cell.survival billionths p x (natAbs year - startYear))
-unfolding figureHere answerOf answerBy refusalNumber figureShown quoteOf queryEnds queryPath ruleOf foldIs countOf stepOf figureBy cell.death
+unfolding figureHere answerOf answerBy refusalNumber figureShown quoteOf queryEnds queryPath ruleOf countOf stepOf figureBy cell.death
 figure-here {p} {year} x l h =
     rw (q-accepted x l h)
     (ap (λ (e : Ends). shownOf (figureOf probabilityStep e))

@@ -18,7 +18,7 @@ use kinds::Kind;
 use params::Params;
 use params::Refusal;
 use params::START_YEAR;
-use walks::Path;
+use paths::Path;
 use weights::LAST_CLOSED;
 
 // Ages 0 to 120.

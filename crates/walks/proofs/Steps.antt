@@ -27,7 +27,7 @@ use Rattle.years.specs.YearLaws.{year-within, year-next}
 use Rattle.folds.specs.Code.{mostFactors}
 use Rattle.paths.specs.Path.{placeAt, pathOf, factors, pathInRange}
 use Rattle.paths.specs.Answers.{path-length, factors-length, path-more, factors-append, in-range-more, range-out}
-use Rattle.walks.specs.declared.Path.{Path}
+use Rattle.paths.specs.declared.Path.{Path}
 use Rattle.walks.specs.Code.{placeOf, pathTo, pathIs, PathWithin, Advanced, Worked, YearAt}
 
 -- the path of a function's locals

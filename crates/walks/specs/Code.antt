@@ -16,7 +16,7 @@ use Rattle.years.specs.declared.Year.{Year}
 use Rattle.years.specs.Code.{YearOf, NextOf}
 use Rattle.folds.specs.Code.{mostFactors}
 use Rattle.paths.specs.Path.{Place, placeAt, pathOf, factors, pathInRange}
-use Rattle.walks.specs.declared.Path.{Path}
+use Rattle.paths.specs.declared.Path.{Path}
 use Rattle.walks.specs.declared.Walk.{Walk}
 
 -- the cell at s, the first s cells, and the whole path

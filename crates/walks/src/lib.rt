@@ -1,4 +1,4 @@
-// A path, and the walk along it at ages to 90 on the grid of 10^-9: p's ends at each of its cells, into an array by value.
+// The walk along a path at ages to 90 on the grid of 10^-9: p's ends at each of its cells, into an array by value.
 ghost use mathlib.Core.Path.{_≡_};
 ghost use mathlib.Core.Bool.{_&&_};
 ghost use Prim.Native.Nat.{_-_, min};
@@ -10,16 +10,9 @@ use cells::Cell;
 use expo::Ends;
 use folds::MOST_FACTORS;
 use params::Params;
+use paths::Path;
 use weights::FIRST_CLOSED;
 use years::Year;
-
-// A path over `count` years from an age in a year, counted from the start year: along the cohort, or in that one year.
-pub struct Path {
-    pub cohort: bool,
-    pub age: usize,
-    pub year: u64,
-    pub count: usize,
-}
 
 // The factors of a path's first `done` cells, where those are in range, and the year of the next.
 pub struct Walk {

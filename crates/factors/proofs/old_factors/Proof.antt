@@ -21,7 +21,7 @@ use Rattle.fitted_ages.specs.Code.{FittedOf, lent}
 use Rattle.cells.specs.Code.{cellOf}
 use Rattle.cells.specs.Answers.{old-cell}
 use Rattle.paths.specs.Path.{placeAt}
-use Rattle.walks.specs.declared.Path.{Path}
+use Rattle.paths.specs.declared.Path.{Path}
 use Rattle.walks.specs.Code.{PathWithin, Worked, YearAt}
 use Rattle.walks.proofs.Steps.{along, cellAt, worked-more, worked-out, year-may, year-step}
 use Rattle.factors.proofs.All.{cells-most, cells-left, cells-some, out-all, worked-rest}

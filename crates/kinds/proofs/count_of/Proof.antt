@@ -1,7 +1,7 @@
 -- `count_of` meets its contract, case by case.
 use borrow.Author.Needs.{needs}
 use mathlib.Core.Path.{sym, ap, _∙_}
-use Rattle.kinds.specs.declared.Fold.{Fold}
+use Rattle.paths.specs.declared.Fold.{Fold}
 use Rattle.kinds.specs.Kinds.{countOf}
 use Rattle.kinds.proofs.count_of.Statement.{statement}
 use Rattle.kinds.proofs.count_of.Tie as tie

@@ -12,9 +12,9 @@ use Rattle.folds.specs.Code.{AtMost}
 use Rattle.folds.specs.Bounds.{survival-at-most}
 use Rattle.force.specs.Force.{deathOf}
 use Rattle.paths.specs.Values.{foldOver}
-use Rattle.kinds.specs.declared.Fold.{Fold}
-use Rattle.kinds.specs.declared.Fold.the-variants.{Annuity}
-use Rattle.kinds.specs.Kinds.{foldIs, rateOf}
+use Rattle.paths.specs.declared.Fold.{Fold}
+use Rattle.paths.specs.declared.Fold.the-variants.{Annuity}
+use Rattle.kinds.specs.Kinds.{rateOf}
 use Rattle.kinds.specs.Code.{RateWithin}
 use Rattle.kinds.proofs.Casts.{cast-whole}
 use Rattle.kinds.proofs.folded.Statement.{statement}
@@ -68,27 +68,27 @@ annuity-over-requires c κs = (c .before .before .before .pre .0, rw (toZ-ofZ (r
 
 -- the fold over the factors that the code's enum names
 at : (c : tie.Start) {f : Fold} → c .args .fold ≡ f
-    → foldOver (foldIs f) billionths (take (c .args .count) (c .args .factors))
-    ≡ foldOver (foldIs (c .args .fold)) billionths (take (c .args .count) (c .args .factors))
-at c e = ap (λ (f : Fold). foldOver (foldIs f) billionths (take (c .args .count) (c .args .factors))) (sym e)
+    → foldOver f billionths (take (c .args .count) (c .args .factors))
+    ≡ foldOver (c .args .fold) billionths (take (c .args .count) (c .args .factors))
+at c e = ap (λ (f : Fold). foldOver f billionths (take (c .args .count) (c .args .factors))) (sym e)
 
 returns : tie.Need-returns
-unfolding foldIs foldOver
+unfolding foldOver
 returns c =
     let v = c .before in
     c .death-of .ensures ∙ ap (deathOf billionths) (v .survival-over .ensures)
     ∙ at (v .before .before .before) (v .before .enum-told .given .1)
 
 returns-2 : tie.Need-returns-2
-unfolding foldIs foldOver
+unfolding foldOver
 returns-2 c = c .survival-over2 .ensures ∙ at (c .before .before .before) (c .before .enum-told2 .given .1)
 
 returns-3 : tie.Need-returns-3
-unfolding foldIs foldOver
+unfolding foldOver
 returns-3 c = c .expectancy-over .ensures ∙ at (c .before .before .before) (c .before .enum-told3 .given .1)
 
 returns-4 : tie.Need-returns-4
-unfolding foldIs foldOver
+unfolding foldOver
 returns-4 c =
     let k = c .before in
     rw (toZ-ofZ (rate-fits k)) at (c .annuity-over .ensures) ∙ at (k .before .before .before) (k .before .fold .given .1)

@@ -1,7 +1,7 @@
 -- `most_span` meets its contract, case by case.
 use borrow.Author.Needs.{needs}
 use mathlib.Core.Path.{sym, ap}
-use Rattle.kinds.specs.declared.Fold.{Fold}
+use Rattle.paths.specs.declared.Fold.{Fold}
 use Rattle.kinds.specs.Kinds.{mostSpan}
 use Rattle.kinds.proofs.most_span.Statement.{statement}
 use Rattle.kinds.proofs.most_span.Tie as tie

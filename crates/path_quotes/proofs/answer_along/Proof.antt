@@ -8,7 +8,7 @@ use Rattle.expo.specs.declared.Ends.{Ends}
 use Rattle.expo.specs.Billionths.{billionths}
 use Rattle.paths.specs.Values.{foldOver, gridValue}
 use Rattle.walks.specs.Code.{pathIs}
-use Rattle.kinds.specs.Kinds.{foldIs, stepOf}
+use Rattle.kinds.specs.Kinds.{stepOf}
 use Rattle.path_quotes.specs.Code.{pathAnswer}
 use Rattle.path_quotes.proofs.Value.{path-chances, value-fits, step-small, quoted}
 use Rattle.path_quotes.proofs.answer_along.Statement.{statement}
@@ -36,14 +36,14 @@ folded-requires c κs =
 
 -- the fold's ends are the path's
 ends-read : (c : tie.After-folded) → let s = c .before .before .before .before .before in
-    c .folded .result ≡ gridValue (foldIs (s .args .fold)) billionths (s .args .p) (pathIs (s .args .path))
+    c .folded .result ≡ gridValue (s .args .fold) billionths (s .args .p) (pathIs (s .args .path))
 unfolding gridValue
 ends-read c =
     let e = c .before .before in
     let f = e .before .before in
     let s = f .before in
     c .folded .ensures
-    ∙ ap (foldOver (foldIs (s .args .fold)) billionths)
+    ∙ ap (foldOver (s .args .fold) billionths)
     (f .factors-of .ensures .ends (rw (worked e) tt))
 
 step-of-requires : tie.Need-step-of-requires

@@ -14,8 +14,8 @@ use Rattle.whole.proofs.Signed.{sum}
 use Rattle.params.specs.Limits.{startYear}
 use Rattle.weights.specs.Weights.{lastClosed}
 use Rattle.annuity.specs.Annuity.{mostRate}
-use Rattle.kinds.specs.declared.Fold.{Fold}
-use Rattle.kinds.specs.declared.Fold.the-variants.{Death, Survival, Expectancy, Annuity}
+use Rattle.paths.specs.declared.Fold.{Fold}
+use Rattle.paths.specs.declared.Fold.the-variants.{Death, Survival, Expectancy, Annuity}
 use Rattle.kinds.specs.Kinds.{mostSpan}
 use Rattle.table_tests.specs.TableTests.{between, ageInTable, yearInTable, spanInTable, rateInTable, firstFailed, tableTests}
 use Rattle.table_tests.specs.TableLaws.{within}

@@ -15,7 +15,7 @@ use Rattle.whole.specs.Clash.{clash}
 use Rattle.params.specs.Limits.{startYear, lastYears}
 use Rattle.params.specs.RefusalLaws.{accepted}
 use Rattle.paths.specs.Answers.{path-years}
-use Rattle.walks.specs.declared.Path.{Path}
+use Rattle.paths.specs.declared.Path.{Path}
 use Rattle.walks.specs.Code.{PathWithin}
 use Rattle.factors.specs.Code.{FactorsOf}
 use Rattle.kinds.specs.declared.Kind.the-variants.{Death}

@@ -16,7 +16,7 @@ use Rattle.cells.specs.Answers.{young-cell}
 use Rattle.cells.specs.Code.{cellOf}
 use Rattle.paths.specs.Path.{placeAt}
 use Rattle.paths.specs.Oldest.{place-age}
-use Rattle.walks.specs.declared.Path.{Path}
+use Rattle.paths.specs.declared.Path.{Path}
 use Rattle.walks.specs.Code.{PathWithin, Worked, YearAt}
 use Rattle.walks.proofs.Steps.{along, cellAt, worked-none, worked-more, worked-out, first-year, year-may, year-step}
 use Rattle.walks.proofs.young_factors.Statement.{statement}
