@@ -64,9 +64,6 @@ loop-holds : tie.Need-loop-holds Inv-loop μ-loop
 unfolding emptyTable
 loop-holds c = (omega arith, sym (walk-column (c .before .args .bytes .now)))
 
-line-end-requires : tie.Need-line-end-requires Inv-loop μ-loop
-line-end-requires c κs = search needs
-
 sub-place-line : tie.Need-sub-place-line Inv-loop μ-loop
 sub-place-line c = omega (arith, end (c .before))
 
@@ -75,9 +72,6 @@ part-place-line-start c = omega (arith, end (c .before))
 
 part-place-line-end : tie.Need-part-place-line-end Inv-loop μ-loop
 part-place-line-end c = inside (c .before)
-
-place-line-requires : tie.Need-place-line-requires Inv-loop μ-loop
-place-line-requires c κs = search needs
 
 returns : tie.Need-returns Inv-loop μ-loop
 returns c =
@@ -100,9 +94,6 @@ loop-again c =
           ∙ ap (λ (n : ℕ). walk (c .before .place-line .last .0) (lines (drop n (bytes (turn w))))) (sym (end w)),
     )
 
-table-steps-requires : tie.Need-table-steps-requires Inv-loop μ-loop
-table-steps-requires c κs = search needs
-
 returns-2 : tie.Need-returns-2 Inv-loop μ-loop
 returns-2 c =
     let l = c .before .before .loop in
@@ -111,17 +102,5 @@ returns-2 c =
 pub column-of-spec : {M : Type 1} → statement M
 column-of-spec =
     tie.close
-    (tie.spec
-    Inv-loop
-    μ-loop
-    loop-holds
-    line-end-requires
-    sub-place-line
-    part-place-line-start
-    part-place-line-end
-    place-line-requires
-    returns
-    loop-less
-    loop-again
-    table-steps-requires
-    returns-2)
+    (tie.spec Inv-loop μ-loop loop-holds (search needs) sub-place-line part-place-line-start part-place-line-end
+    (search needs) returns loop-less loop-again (search needs) returns-2)

@@ -29,9 +29,6 @@ returns c =
     let l = c .before .before .loop in
     sym (l .inv .1 ∙ place-past _ (l .value) (l .left) (l .next) (omega arith) (omega arith))
 
-shared-slice-read-digit : tie.Need-shared-slice-read-digit Inv-loop μ-loop
-shared-slice-read-digit c = search needs
-
 returns-2 : tie.Need-returns-2 Inv-loop μ-loop
 returns-2 c =
     let l = c .before .before .before .before .loop in
@@ -48,15 +45,6 @@ cast-value c = omega (arith, ltb-false)
 
 add-value : tie.Need-add-value Inv-loop μ-loop
 add-value c = omega (arith, ltb-false, room-bound (c .before .before .before .before .before .loop .inv .0))
-
-add-next : tie.Need-add-next Inv-loop μ-loop
-add-next c = search needs
-
-sub-left : tie.Need-sub-left Inv-loop μ-loop
-sub-left c = search needs
-
-loop-less : tie.Need-loop-less Inv-loop μ-loop
-loop-less c = search needs
 
 loop-again : tie.Need-loop-again Inv-loop μ-loop
 loop-again c =
@@ -76,18 +64,5 @@ returns-3 c =
 pub digits-at-spec : {M : Type 1} → statement M
 digits-at-spec =
     tie.close
-    (tie.spec
-    Inv-loop
-    μ-loop
-    loop-holds
-    returns
-    shared-slice-read-digit
-    returns-2
-    mul-value
-    cast-value
-    add-value
-    add-next
-    sub-left
-    loop-less
-    loop-again
-    returns-3)
+    (tie.spec Inv-loop μ-loop loop-holds returns (search needs) returns-2 mul-value cast-value add-value (search needs)
+    (search needs) (search needs) loop-again returns-3)

@@ -73,27 +73,9 @@ after-end c =
 
 -- ---- the needs
 
-slice-aggregate-field-at : tie.Need-slice-aggregate-field-at
-slice-aggregate-field-at c = search needs
-
-field-at-requires : tie.Need-field-at-requires
-field-at-requires c κs = search needs
-
-enum-known-age : tie.Need-enum-known-age
-enum-known-age c = search needs
-
-enum-told : tie.Need-enum-told
-enum-told c = search needs
-
 returns : tie.Need-returns
 unfolding bytesOf
 returns c = sym (age-malformed _ (read-malformed _ (c .before .before .field-at .ensures) (c .enum-told .given .1)))
-
-slice-aggregate-text-at : tie.Need-slice-aggregate-text-at
-slice-aggregate-text-at c = search needs
-
-text-at-requires : tie.Need-text-at-requires
-text-at-requires c κs = search needs
 
 returns-2 : tie.Need-returns-2
 unfolding bytesOf
@@ -106,25 +88,10 @@ add-q-at c =
     let t = c .before in
     omega (arith, entry (told t) .good .0, text-room _ _ _ (has (t .text-at .ensures) (c .if1 .left)))
 
-q-at-requires : tie.Need-q-at-requires
-q-at-requires c κs = search needs
-
-enum-known-steps : tie.Need-enum-known-steps
-enum-known-steps c = search needs
-
-enum-told-2 : tie.Need-enum-told-2
-enum-told-2 c = search needs
-
 returns-3 : tie.Need-returns-3
 returns-3 c =
     let q = c .before .before in
     sym (after-name (q .before) ∙ stops _ (unsigned-malformed _ (q .q-at .ensures) (c .enum-told2 .given .1)))
-
-slice-aggregate-text-at-2 : tie.Need-slice-aggregate-text-at-2
-slice-aggregate-text-at-2 c = search needs
-
-text-at-requires-2 : tie.Need-text-at-requires-2
-text-at-requires-2 c κs = search needs
 
 returns-4 : tie.Need-returns-4
 unfolding bytesOf
@@ -152,23 +119,6 @@ returns-6 c =
 pub entry-of-spec : {M : Type 1} → statement M
 entry-of-spec =
     tie.close
-    (tie.spec
-    slice-aggregate-field-at
-    field-at-requires
-    enum-known-age
-    enum-told
-    returns
-    slice-aggregate-text-at
-    text-at-requires
-    returns-2
-    add-q-at
-    q-at-requires
-    enum-known-steps
-    enum-told-2
-    returns-3
-    slice-aggregate-text-at-2
-    text-at-requires-2
-    returns-4
-    add-if3
-    returns-5
-    returns-6)
+    (tie.spec (search needs) (search needs) (search needs) (search needs) returns (search needs) (search needs)
+    returns-2 add-q-at (search needs) (search needs) (search needs) returns-3 (search needs) (search needs) returns-4
+    add-if3 returns-5 returns-6)

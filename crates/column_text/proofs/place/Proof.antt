@@ -20,9 +20,6 @@ has-place c = let e = age-back (c .before .before) in inside _ (rw e at (c .befo
 returns : tie.Need-returns
 returns c = let s = c .before in sym (too-low _ (s .args .age) _ (rw (age-back s) at (c .if1 .taken)))
 
-cast-if2 : tie.Need-cast-if2
-cast-if2 c = search needs
-
 returns-2 : tie.Need-returns-2
 returns-2 c =
     let s = c .before .before in
@@ -43,9 +40,6 @@ returns-3 c =
     let e = age-back (c .before .before .before .before) in
     sym (twice _ _ _ (has-place (c .before .before)) (rw e at (c .if3 .taken)))
 
-add-table : tie.Need-add-table
-add-table c = search needs
-
 mul-table : tie.Need-mul-table
 mul-table c =
     rw (age-back (c .before .before .before .before)) (record { fits = omega (arith, has-place (c .before .before) .most) })
@@ -62,15 +56,5 @@ returns-4 c =
 pub place-spec : {M : Type 1} → statement M
 place-spec =
     tie.close
-    (tie.spec
-    returns
-    cast-if2
-    returns-2
-    cast-x
-    mul-if3
-    element-copy-out-if3
-    returns-3
-    add-table
-    mul-table
-    element-write-table
-    returns-4)
+    (tie.spec returns (search needs) returns-2 cast-x mul-if3 element-copy-out-if3 returns-3 (search needs) mul-table
+    element-write-table returns-4)

@@ -19,15 +19,6 @@ entry-taken : (c : tie.After-entry) → let s = c .before .before .before .befor
     readEntry (s .line .now) ≡ taken (c .entry .given .0 .0) []
 entry-taken c = sym (c .before .before .entry-of .ensures) ∙ ap entryRead (c .entry .given .1)
 
-entry-of-requires : tie.Need-entry-of-requires
-entry-of-requires c κs = search needs
-
-enum-known-entry : tie.Need-enum-known-entry
-enum-known-entry c = search needs
-
-enum-told : tie.Need-enum-told
-enum-told c = search needs
-
 returns : tie.Need-returns
 unfolding withLine
 returns c = sym (stops _ (sym (c .before .before .entry-of .ensures) ∙ ap entryRead (c .enum-told .given .1)))
@@ -47,6 +38,4 @@ returns-2 c =
     ∙ sym (goes _ (entry-taken e))
 
 pub place-line-spec : {M : Type 1} → statement M
-place-line-spec =
-    tie.close
-    (tie.spec entry-of-requires enum-known-entry enum-told returns place-requires returns-2)
+place-line-spec = tie.close (tie.spec (search needs) (search needs) (search needs) returns place-requires returns-2)

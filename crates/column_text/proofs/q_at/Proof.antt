@@ -32,23 +32,8 @@ after-first c = digit-taken _ (first-taken c)
 
 -- ---- the needs
 
-digits-at-requires : tie.Need-digits-at-requires
-digits-at-requires c κs = search needs
-
-enum-known-first : tie.Need-enum-known-first
-enum-known-first c = search needs
-
-enum-told : tie.Need-enum-told
-enum-told c = search needs
-
 returns : tie.Need-returns
 returns c = sym (digit-malformed _ (unsigned-malformed _ (c .before .before .digits-at .ensures) (c .enum-told .given .1)))
-
-slice-aggregate-text-at : tie.Need-slice-aggregate-text-at
-slice-aggregate-text-at c = search needs
-
-text-at-requires : tie.Need-text-at-requires
-text-at-requires c κs = search needs
 
 returns-2 : tie.Need-returns-2
 unfolding bytesOf
@@ -74,14 +59,5 @@ returns-3 c =
 pub q-at-spec : {M : Type 1} → statement M
 q-at-spec =
     tie.close
-    (tie.spec
-    digits-at-requires
-    enum-known-first
-    enum-told
-    returns
-    slice-aggregate-text-at
-    text-at-requires
-    returns-2
-    add-digits-at
-    digits-at-requires-2
-    returns-3)
+    (tie.spec (search needs) (search needs) (search needs) returns (search needs) (search needs) returns-2 add-digits-at
+    digits-at-requires-2 returns-3)

@@ -26,34 +26,10 @@ long c = good-length (eInt w64) columnLines (c .args .table) _ (c .good .0)
 loop-holds : tie.Need-loop-holds Inv-loop μ-loop
 loop-holds c = (omega arith, stepped-start _)
 
-mul-if1 : tie.Need-mul-if1 Inv-loop μ-loop
-mul-if1 c = search needs
-
-array-read-if1 : tie.Need-array-read-if1 Inv-loop μ-loop
-array-read-if1 c = search needs
-
 returns : tie.Need-returns Inv-loop μ-loop
 returns c =
     let l = c .before .before .loop in
     sym (stepped-malformed (l .inv .1) (omega (arith, long (c .before .before .before))) (c .if1 .taken))
-
-mul-steps : tie.Need-mul-steps Inv-loop μ-loop
-mul-steps c = search needs
-
-array-read-steps : tie.Need-array-read-steps Inv-loop μ-loop
-array-read-steps c = search needs
-
-sub-steps : tie.Need-sub-steps Inv-loop μ-loop
-sub-steps c = search needs
-
-array-write-steps : tie.Need-array-write-steps Inv-loop μ-loop
-array-write-steps c = search needs
-
-add-x : tie.Need-add-x Inv-loop μ-loop
-add-x c = search needs
-
-loop-less : tie.Need-loop-less Inv-loop μ-loop
-loop-less c = search needs
 
 loop-again : tie.Need-loop-again Inv-loop μ-loop
 loop-again c =
@@ -70,18 +46,5 @@ returns-2 c =
 pub table-steps-spec : {M : Type 1} → statement M
 table-steps-spec =
     tie.close
-    (tie.spec
-    Inv-loop
-    μ-loop
-    loop-holds
-    mul-if1
-    array-read-if1
-    returns
-    mul-steps
-    array-read-steps
-    sub-steps
-    array-write-steps
-    add-x
-    loop-less
-    loop-again
-    returns-2)
+    (tie.spec Inv-loop μ-loop loop-holds (search needs) (search needs) returns (search needs) (search needs)
+    (search needs) (search needs) (search needs) (search needs) loop-again returns-2)

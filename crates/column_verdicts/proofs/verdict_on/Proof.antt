@@ -19,12 +19,6 @@ unfolding columnRead
 same-read true steps = refl
 same-read false steps = refl
 
-column-of-requires : tie.Need-column-of-requires
-column-of-requires c κs = search needs
-
-judge-requires : tie.Need-judge-requires
-judge-requires c κs = search needs
-
 -- the answer is the definition's
 answered : (c : tie.After-judge) → let s = c .before .before .before .before in
     c .judge .result ≡ columnVerdict (s .args .p) (s .args .year) (s .args .bytes .now)
@@ -42,4 +36,4 @@ returns c =
     (e, subst (HonestOn (s .p) (s .year) (s .bytes .now)) (sym e) (honest-on (s .p) (s .year) (s .bytes .now)))
 
 pub verdict-on-spec : {M : Type 1} → statement M
-verdict-on-spec = tie.close (tie.spec column-of-requires judge-requires returns)
+verdict-on-spec = tie.close (tie.spec (search needs) (search needs) returns)

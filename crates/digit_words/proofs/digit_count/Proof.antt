@@ -10,9 +10,6 @@ use Rattle.digit_words.specs.MarkLaws.{digits-counted}
 use Rattle.digit_words.proofs.digit_count.Statement.{statement}
 use Rattle.digit_words.proofs.digit_count.Tie as tie
 
-marks-requires : tie.Need-marks-requires
-marks-requires c κs = search needs
-
 cast-result : tie.Need-cast-result
 cast-result c = record { fits = omega (arith, trailing-le 64 (c .marks .result)) }
 
@@ -23,4 +20,4 @@ returns c =
     ∙ (rw (lanes-length byteBits wordBytes word) at (digits-counted (bytesIn wordBytes word)))
 
 pub digit-count-spec : {M : Type 1} → statement M
-digit-count-spec = tie.close (tie.spec marks-requires cast-result returns)
+digit-count-spec = tie.close (tie.spec (search needs) cast-result returns)

@@ -34,5 +34,4 @@ unfolding laneSum
 returns c = eight-is (c .args .t) (omega arith) (c .pre)
 
 pub packed-spec : {M : Type 1} → statement M
-packed-spec =
-    tie.close (tie.spec mul-twos add-twos mul-fours add-fours mul-result add-result returns)
+packed-spec = tie.close (tie.spec mul-twos add-twos mul-fours add-fours mul-result add-result returns)

@@ -18,9 +18,6 @@ mul-packed c = record { fits = omega (arith, within (c .before .args .word) (c .
 sub-packed : tie.Need-sub-packed
 sub-packed c = omega (arith, within (c .before .args .word) (c .before .args .n) (c .before .pre))
 
-shl-packed : tie.Need-shl-packed
-shl-packed c = search needs
-
 packed-requires : tie.Need-packed-requires
 unfolding laneSum
 packed-requires c κs = cut-below (c .before .args .word) (c .before .args .n) (c .before .pre)
@@ -35,5 +32,4 @@ returns-2 c =
     }
 
 pub value-of-spec : {M : Type 1} → statement M
-value-of-spec =
-    tie.close (tie.spec returns mul-packed sub-packed shl-packed packed-requires returns-2)
+value-of-spec = tie.close (tie.spec returns mul-packed sub-packed (search needs) packed-requires returns-2)

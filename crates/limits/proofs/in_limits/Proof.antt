@@ -29,9 +29,6 @@ judged : (c : tie.After-age-in-limits Inv-loop μ-loop) → let l = turn (c .bef
     c .age-in-limits .result ≡ ageInLimits (ageOf (l .before .before .before .args .t1) (l .loop .x))
 judged c = c .age-in-limits .ensures ∙ ap ageInLimits (c .before .age-of-runs .ensures ∙ four-age _ _)
 
-series-in-limits-requires : tie.Need-series-in-limits-requires Inv-loop μ-loop
-series-in-limits-requires c κs = search needs
-
 returns : tie.Need-returns Inv-loop μ-loop
 unfolding inLimits
 returns c = fails _ (c .if1 .taken) (c .before .series-in-limits .ensures)
@@ -39,12 +36,6 @@ returns c = fails _ (c .if1 .taken) (c .before .series-in-limits .ensures)
 loop-holds : tie.Need-loop-holds Inv-loop μ-loop
 unfolding agesInLimits
 loop-holds c = (omega arith, refl)
-
-age-of-runs-requires : tie.Need-age-of-runs-requires Inv-loop μ-loop
-age-of-runs-requires c κs = search needs
-
-age-in-limits-requires : tie.Need-age-in-limits-requires Inv-loop μ-loop
-age-in-limits-requires c κs = search needs
 
 returns-2 : tie.Need-returns-2 Inv-loop μ-loop
 unfolding inLimits
@@ -55,12 +46,6 @@ returns-2 c =
     let h : l .loop .x < ages = omega arith in
     let out = age-out _ _ ages h e in
     passes (l .before .if1 .left) (l .before .before .series-in-limits .ensures) (sym out)
-
-add-x : tie.Need-add-x Inv-loop μ-loop
-add-x c = search needs
-
-loop-less : tie.Need-loop-less Inv-loop μ-loop
-loop-less c = search needs
 
 loop-again : tie.Need-loop-again Inv-loop μ-loop
 unfolding agesInLimits
@@ -79,16 +64,5 @@ returns-3 c =
 pub in-limits-spec : {M : Type 1} → statement M
 in-limits-spec =
     tie.close
-    (tie.spec
-    Inv-loop
-    μ-loop
-    series-in-limits-requires
-    returns
-    loop-holds
-    age-of-runs-requires
-    age-in-limits-requires
-    returns-2
-    add-x
-    loop-less
-    loop-again
-    returns-3)
+    (tie.spec Inv-loop μ-loop (search needs) returns loop-holds (search needs) (search needs) returns-2 (search needs)
+    (search needs) loop-again returns-3)

@@ -6,11 +6,8 @@ use mir.Facts.{toZ-pos}
 use Rattle.line_writer.proofs.age_number.Statement.{statement}
 use Rattle.line_writer.proofs.age_number.Tie as tie
 
-cast-result : tie.Need-cast-result
-cast-result c = search needs
-
 returns : tie.Need-returns
 returns c = toZ-pos w64 (omega arith)
 
 pub age-number-spec : {M : Type 1} → statement M
-age-number-spec = tie.close (tie.spec cast-result returns)
+age-number-spec = tie.close (tie.spec (search needs) returns)

@@ -60,9 +60,6 @@ number c = put-as (age-text (first c .before .before)) (put-of (c .put-number .e
 
 -- ---- the needs
 
-age-number-requires : tie.Need-age-number-requires
-age-number-requires c κs = search needs
-
 put-text-requires : tie.Need-put-text-requires
 put-text-requires c κs = three-first (texts (c .before .before .before .before)) .fits
 
@@ -81,9 +78,6 @@ put-value-requires c κs =
     let e = value s in
     (small-as e (s .pre .1), room-as (sym (ap valueText e)) (three-third (texts s) (run c₁) (number c₂)))
 
-same-length : tie.Need-same-length
-same-length c = search needs
-
 returns : tie.Need-returns
 returns c =
     let c₂ = c .before .before .before .before .before .before in
@@ -93,11 +87,4 @@ returns c =
 
 pub put-age-line-spec : {M : Type 1} → statement M
 put-age-line-spec =
-    tie.close
-    (tie.spec
-    age-number-requires
-    put-text-requires
-    put-number-requires
-    put-value-requires
-    same-length
-    returns)
+    tie.close (tie.spec (search needs) put-text-requires put-number-requires put-value-requires (search needs) returns)

@@ -15,35 +15,17 @@ use Rattle.line_writer.proofs.put_head.Tie as tie
 fits : (s : tie.Start) → headBytes ≤ length (s .args .buffer .now)
 fits s = omega (arith, s .pre .fits, head-length (s .args .sex))
 
-enum-told : tie.Need-enum-told
-enum-told c = search needs
-
-slice-aggregate-put-text : tie.Need-slice-aggregate-put-text
-slice-aggregate-put-text c = search needs
-
 put-text-requires : tie.Need-put-text-requires
 put-text-requires c κs = fits (c .before .before .before .before .before)
 
-enum-told-2 : tie.Need-enum-told-2
-enum-told-2 c = search needs
-
-slice-aggregate-put-text-2 : tie.Need-slice-aggregate-put-text-2
-slice-aggregate-put-text-2 c = search needs
-
 put-text-requires-2 : tie.Need-put-text-requires-2
 put-text-requires-2 c κs = fits (c .before .before .before .before .before)
-
-same-length : tie.Need-same-length
-same-length c = search needs
 
 returns : tie.Need-returns
 unfolding headText bytesOf
 returns c =
     let t = c .before .before .before .before .before in
     put-as (sym (ap headText (t .enum-told .given .1))) (put-of (c .before .before .put-text .ensures))
-
-same-length-2 : tie.Need-same-length-2
-same-length-2 c = search needs
 
 returns-2 : tie.Need-returns-2
 unfolding headText bytesOf
@@ -54,14 +36,5 @@ returns-2 c =
 pub put-head-spec : {M : Type 1} → statement M
 put-head-spec =
     tie.close
-    (tie.spec
-    enum-told
-    slice-aggregate-put-text
-    put-text-requires
-    enum-told-2
-    slice-aggregate-put-text-2
-    put-text-requires-2
-    same-length
-    returns
-    same-length-2
-    returns-2)
+    (tie.spec (search needs) (search needs) put-text-requires (search needs) (search needs) put-text-requires-2
+    (search needs) returns (search needs) returns-2)

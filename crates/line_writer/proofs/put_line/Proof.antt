@@ -44,9 +44,6 @@ put-value-requires c κs =
     let e = value s in
     (small-as e (s .pre .0), room-as (sym (ap valueText e)) (room-value (c .before .before .before)))
 
-same-length : tie.Need-same-length
-same-length c = search needs
-
 returns : tie.Need-returns
 unfolding lineText valueText
 returns c =
@@ -55,4 +52,4 @@ returns c =
     put-join (key (c .before .before .before .before .before .before)) last (room s)
 
 pub put-line-spec : {M : Type 1} → statement M
-put-line-spec = tie.close (tie.spec put-text-requires put-value-requires same-length returns)
+put-line-spec = tie.close (tie.spec put-text-requires put-value-requires (search needs) returns)

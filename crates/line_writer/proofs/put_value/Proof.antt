@@ -52,9 +52,6 @@ end c = put-of (c .put-text2 .ensures)
 
 -- ---- the needs
 
-slice-aggregate-put-text : tie.Need-slice-aggregate-put-text
-slice-aggregate-put-text c = search needs
-
 put-text-requires : tie.Need-put-text-requires
 unfolding bytesOf
 put-text-requires c κs = three-first (texts (c .before .before .before)) .fits
@@ -66,18 +63,12 @@ put-number-requires c κs =
     let e = value s in
     (small-as e (s .pre .0), room-as (sym (ap numberText e)) (three-second (texts s) (sign c₁)) .fits)
 
-slice-aggregate-put-text-2 : tie.Need-slice-aggregate-put-text-2
-slice-aggregate-put-text-2 c = search needs
-
 put-text-requires-2 : tie.Need-put-text-requires-2
 unfolding bytesOf
 put-text-requires-2 c κs =
     let c₂ = c .before .before .before .before in
     let c₁ = first c₂ in
     three-third (texts (start c₁)) (sign c₁) (number c₂) .fits
-
-same-length : tie.Need-same-length
-same-length c = search needs
 
 returns : tie.Need-returns
 unfolding valueText
@@ -90,11 +81,5 @@ returns c =
 pub put-value-spec : {M : Type 1} → statement M
 put-value-spec =
     tie.close
-    (tie.spec
-    slice-aggregate-put-text
-    put-text-requires
-    put-number-requires
-    slice-aggregate-put-text-2
-    put-text-requires-2
-    same-length
+    (tie.spec (search needs) put-text-requires put-number-requires (search needs) put-text-requires-2 (search needs)
     returns)

@@ -37,18 +37,6 @@ unfolding firstLines
 none bytes at zero h = refl
 none bytes at (suc left) h = absurd (omega arith)
 
-loop-holds : tie.Need-loop-holds Inv-loop μ-loop
-loop-holds c = (omega arith, omega arith)
-
-line-end-requires : tie.Need-line-end-requires Inv-loop μ-loop
-line-end-requires c κs = search needs
-
-sub-left : tie.Need-sub-left Inv-loop μ-loop
-sub-left c = search needs
-
-loop-less : tie.Need-loop-less Inv-loop μ-loop
-loop-less c = search needs
-
 loop-again : tie.Need-loop-again Inv-loop μ-loop
 loop-again c =
     let l = c .before .before .loop in
@@ -65,4 +53,5 @@ returns c =
 pub lines-end-spec : {M : Type 1} → statement M
 lines-end-spec =
     tie.close
-    (tie.spec Inv-loop μ-loop loop-holds line-end-requires sub-left loop-less loop-again returns)
+    (tie.spec Inv-loop μ-loop (λ c. (omega arith, omega arith)) (search needs) (search needs) (search needs) loop-again
+    returns)

@@ -12,42 +12,12 @@ use Rattle.numbers.proofs.digits_at.Tie as tie
 most : (c : tie.After-digit-count2) → c .digit-count2 .result ≤ wordBytes
 most c = omega (arith, c .digit-count2 .ensures, count-most (c .before .word-at2 .result))
 
-room-requires : tie.Need-room-requires
-room-requires c κs = search needs
-
-mul-if1 : tie.Need-mul-if1
-mul-if1 c = search needs
-
-digits-walk-requires : tie.Need-digits-walk-requires
-digits-walk-requires c κs = search needs
-
-returns : tie.Need-returns
-returns c = search needs
-
-word-at-requires : tie.Need-word-at-requires
-word-at-requires c κs = search needs
-
-digit-count-requires : tie.Need-digit-count-requires
-digit-count-requires c κs = search needs
-
-value-of-requires : tie.Need-value-of-requires
-value-of-requires c κs = search needs
-
 returns-2 : tie.Need-returns-2
 returns-2 c =
     let counted = c .before .before in
     let read = counted .before in
     words-few _ _ _ (read .word-at .ensures) (omega arith) (counted .digit-count .ensures) (omega arith)
     (c .value-of .ensures .value)
-
-add-word-at : tie.Need-add-word-at
-add-word-at c = search needs
-
-word-at-requires-2 : tie.Need-word-at-requires-2
-word-at-requires-2 c κs = search needs
-
-digit-count-requires-2 : tie.Need-digit-count-requires-2
-digit-count-requires-2 c κs = search needs
 
 value-of-requires-2 : tie.Need-value-of-requires-2
 value-of-requires-2 c κs =
@@ -71,12 +41,6 @@ value-of-requires-3 c κs =
 add-t9 : tie.Need-add-t9
 add-t9 c = omega (arith, most (c .before .before .before))
 
-mul-t13 : tie.Need-mul-t13
-mul-t13 c = search needs
-
-add-t14 : tie.Need-add-t14
-add-t14 c = search needs
-
 returns-3 : tie.Need-returns-3
 returns-3 c =
     let second = c .before .before .before in
@@ -89,23 +53,6 @@ returns-3 c =
 pub digits-at-spec : {M : Type 1} → statement M
 digits-at-spec =
     tie.close
-    (tie.spec
-    room-requires
-    mul-if1
-    digits-walk-requires
-    returns
-    word-at-requires
-    digit-count-requires
-    value-of-requires
-    returns-2
-    add-word-at
-    word-at-requires-2
-    digit-count-requires-2
-    value-of-requires-2
-    add-word-at-2
-    word-at-requires-3
-    value-of-requires-3
-    add-t9
-    mul-t13
-    add-t14
-    returns-3)
+    (tie.spec (search needs) (search needs) (search needs) (search needs) (search needs) (search needs) (search needs)
+    returns-2 (search needs) (search needs) (search needs) value-of-requires-2 add-word-at-2 word-at-requires-3
+    value-of-requires-3 add-t9 (search needs) (search needs) returns-3)

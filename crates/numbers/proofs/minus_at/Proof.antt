@@ -5,9 +5,6 @@ use Rattle.tokens.proofs.NumberSteps.{minus-one, minus-none}
 use Rattle.numbers.proofs.minus_at.Statement.{statement}
 use Rattle.numbers.proofs.minus_at.Tie as tie
 
-shared-slice-read-if1 : tie.Need-shared-slice-read-if1
-shared-slice-read-if1 c = search needs
-
 returns : tie.Need-returns
 returns c = sym (minus-one _ (c .if1 .taken))
 
@@ -15,4 +12,4 @@ returns-2 : tie.Need-returns-2
 returns-2 c = sym (minus-none _ (c .if1 .left))
 
 pub minus-at-spec : {M : Type 1} → statement M
-minus-at-spec = tie.close (tie.spec shared-slice-read-if1 returns returns-2)
+minus-at-spec = tie.close (tie.spec (search needs) returns returns-2)

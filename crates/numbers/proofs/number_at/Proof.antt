@@ -20,22 +20,10 @@ small c =
 returns : tie.Need-returns
 returns c = sym (number-past _ _ (omega arith))
 
-minus-at-requires : tie.Need-minus-at-requires
-minus-at-requires c κs = search needs
-
 add-unsigned-at : tie.Need-add-unsigned-at
 add-unsigned-at c =
     let start = c .before .before .before in
     omega (arith, c .minus-at .ensures, minus-most (getD (start .args .bytes .now) (start .args .at) 0))
-
-unsigned-at-requires : tie.Need-unsigned-at-requires
-unsigned-at-requires c κs = search needs
-
-enum-known-value : tie.Need-enum-known-value
-enum-known-value c = search needs
-
-enum-told : tie.Need-enum-told
-enum-told c = search needs
 
 returns-2 : tie.Need-returns-2
 returns-2 c =
@@ -80,17 +68,5 @@ returns-5 c =
 pub number-at-spec : {M : Type 1} → statement M
 number-at-spec =
     tie.close
-    (tie.spec
-    returns
-    minus-at-requires
-    add-unsigned-at
-    unsigned-at-requires
-    enum-known-value
-    enum-told
-    returns-2
-    cast-t9
-    returns-3
-    returns-4
-    cast-t10
-    sub-t11
-    returns-5)
+    (tie.spec returns (search needs) add-unsigned-at (search needs) (search needs) (search needs) returns-2 cast-t9
+    returns-3 returns-4 cast-t10 sub-t11 returns-5)

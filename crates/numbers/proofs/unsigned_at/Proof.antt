@@ -9,9 +9,6 @@ use Rattle.tokens.proofs.NumberSteps.{count-within, malformed-none, malformed-l
 use Rattle.numbers.proofs.unsigned_at.Statement.{statement}
 use Rattle.numbers.proofs.unsigned_at.Tie as tie
 
-digits-at-requires : tie.Need-digits-at-requires
-digits-at-requires c κs = search needs
-
 returns : tie.Need-returns
 returns c =
     let read = c .before .before .digits-at .ensures in
@@ -40,6 +37,4 @@ returns-3 c =
     (c .before .if3 .came))
 
 pub unsigned-at-spec : {M : Type 1} → statement M
-unsigned-at-spec =
-    tie.close
-    (tie.spec digits-at-requires returns shared-slice-read-if4 returns-2 add-t10 returns-3)
+unsigned-at-spec = tie.close (tie.spec (search needs) returns shared-slice-read-if4 returns-2 add-t10 returns-3)

@@ -86,18 +86,12 @@ whole c =
 
 -- ---- the needs
 
-slice-aggregate-put-age-line : tie.Need-slice-aggregate-put-age-line
-slice-aggregate-put-age-line c = search needs
-
 put-age-line-requires : tie.Need-put-age-line-requires
 unfolding bytesOf
 put-age-line-requires c κs =
     let s = c .before .before .before .before in
     let h = values s .level in
     (s .pre .1, h .small, line-room (key (bytesOf "A.") s) h (room-one (lines s)))
-
-slice-aggregate-put-age-line-2 : tie.Need-slice-aggregate-put-age-line-2
-slice-aggregate-put-age-line-2 c = search needs
 
 put-age-line-requires-2 : tie.Need-put-age-line-requires-2
 unfolding bytesOf
@@ -106,9 +100,6 @@ put-age-line-requires-2 c κs =
     let s = start c₁ in
     let h = values s .slope in
     (s .pre .1, h .small, line-room (key (bytesOf "B.") s) h (room-two (lines s) (level-put c₁)))
-
-slice-aggregate-put-age-line-3 : tie.Need-slice-aggregate-put-age-line-3
-slice-aggregate-put-age-line-3 c = search needs
 
 put-age-line-requires-3 : tie.Need-put-age-line-requires-3
 unfolding bytesOf
@@ -119,9 +110,6 @@ put-age-line-requires-3 c κs =
     let room = room-three (lines s) (level-put c₁) (slope-put c₂) in
     let h = values s .alpha in
     (s .pre .1, h .small, line-room (key (bytesOf "al.") s) h room)
-
-slice-aggregate-put-age-line-4 : tie.Need-slice-aggregate-put-age-line-4
-slice-aggregate-put-age-line-4 c = search needs
 
 put-age-line-requires-4 : tie.Need-put-age-line-requires-4
 unfolding bytesOf
@@ -134,23 +122,11 @@ put-age-line-requires-4 c κs =
     let h = values s .beta in
     (s .pre .1, h .small, line-room (key (bytesOf "be.") s) h room)
 
-same-length : tie.Need-same-length
-same-length c = search needs
-
 returns : tie.Need-returns
 returns c = whole (c .before .before)
 
 pub put-age-spec : {M : Type 1} → statement M
 put-age-spec =
     tie.close
-    (tie.spec
-    slice-aggregate-put-age-line
-    put-age-line-requires
-    slice-aggregate-put-age-line-2
-    put-age-line-requires-2
-    slice-aggregate-put-age-line-3
-    put-age-line-requires-3
-    slice-aggregate-put-age-line-4
-    put-age-line-requires-4
-    same-length
-    returns)
+    (tie.spec (search needs) put-age-line-requires (search needs) put-age-line-requires-2 (search needs)
+    put-age-line-requires-3 (search needs) put-age-line-requires-4 (search needs) returns)

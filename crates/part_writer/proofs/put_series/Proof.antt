@@ -79,18 +79,12 @@ whole c =
 
 -- ---- the needs
 
-slice-aggregate-put-line : tie.Need-slice-aggregate-put-line
-slice-aggregate-put-line c = search needs
-
 put-line-requires : tie.Need-put-line-requires
 unfolding bytesOf
 put-line-requires c κs =
     let s = c .before .before .before .before in
     let h = values s .a in
     (h .small, line-room (bytesOf "a") h (room-one (lines s)))
-
-slice-aggregate-put-line-2 : tie.Need-slice-aggregate-put-line-2
-slice-aggregate-put-line-2 c = search needs
 
 put-line-requires-2 : tie.Need-put-line-requires-2
 unfolding bytesOf
@@ -100,9 +94,6 @@ put-line-requires-2 c κs =
     let h = values s .theta in
     (h .small, line-room (bytesOf "theta") h (room-two (lines s) (a-put c₁)))
 
-slice-aggregate-put-line-3 : tie.Need-slice-aggregate-put-line-3
-slice-aggregate-put-line-3 c = search needs
-
 put-line-requires-3 : tie.Need-put-line-requires-3
 unfolding bytesOf
 put-line-requires-3 c κs =
@@ -110,9 +101,6 @@ put-line-requires-3 c κs =
     let s = start2 c₂ in
     let h = values s .period in
     (h .small, line-room (bytesOf "K") h (room-three (lines s) (a-put (first c₂)) (theta-put c₂)))
-
-slice-aggregate-put-line-4 : tie.Need-slice-aggregate-put-line-4
-slice-aggregate-put-line-4 c = search needs
 
 put-line-requires-4 : tie.Need-put-line-requires-4
 unfolding bytesOf
@@ -133,14 +121,5 @@ returns c = whole (c .before .before)
 pub put-series-spec : {M : Type 1} → statement M
 put-series-spec =
     tie.close
-    (tie.spec
-    slice-aggregate-put-line
-    put-line-requires
-    slice-aggregate-put-line-2
-    put-line-requires-2
-    slice-aggregate-put-line-3
-    put-line-requires-3
-    slice-aggregate-put-line-4
-    put-line-requires-4
-    same-length
-    returns)
+    (tie.spec (search needs) put-line-requires (search needs) put-line-requires-2 (search needs) put-line-requires-3
+    (search needs) put-line-requires-4 same-length returns)

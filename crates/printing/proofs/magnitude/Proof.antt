@@ -32,8 +32,5 @@ cast-result-2 c =
     let h = less-false (simp (v, sealed) at (c .if1 .left)) in
     simp v (natural h, omega (arith, c .before .pre))
 
-returns-2 : tie.Need-returns-2
-returns-2 c = search needs
-
 pub magnitude-spec : {M : Type 1} → statement M
-magnitude-spec = tie.close (tie.spec sub-result cast-result returns cast-result-2 returns-2)
+magnitude-spec = tie.close (tie.spec sub-result cast-result returns cast-result-2 (λ c. search needs))

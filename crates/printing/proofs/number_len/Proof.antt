@@ -12,9 +12,6 @@ use Rattle.printing.specs.NumberLengths.{text-negative, text-natural, un
 use Rattle.printing.proofs.number_len.Statement.{statement}
 use Rattle.printing.proofs.number_len.Tie as tie
 
-magnitude-requires : tie.Need-magnitude-requires
-magnitude-requires c κs = search needs
-
 -- the distance of v from 0, and the number of its digits
 distance : (c : tie.After-magnitude) → c .magnitude .result ≡ natAbs (c .before .args .v)
 distance c = c .magnitude .ensures ∙ ap natAbs (toZ-ofZ (c .before .fits .v))
@@ -42,5 +39,4 @@ returns-2 c =
     omega (arith, count (c .before), ap length (text-natural h))
 
 pub number-len-spec : {M : Type 1} → statement M
-number-len-spec =
-    tie.close (tie.spec magnitude-requires digit-count-requires add-result returns returns-2)
+number-len-spec = tie.close (tie.spec (λ c κs. search needs) digit-count-requires add-result returns returns-2)

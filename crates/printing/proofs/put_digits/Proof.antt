@@ -15,12 +15,6 @@ abbrev μ-loop : tie.MeasureT-loop
 abbrev start : tie.At-loop Inv-loop μ-loop → tie.Start Inv-loop μ-loop
 start c = c .before .before .before
 
-digit-count-requires : tie.Need-digit-count-requires Inv-loop μ-loop
-digit-count-requires c κs = c .before .pre .0
-
-add-end : tie.Need-add-end Inv-loop μ-loop
-add-end c = omega arith
-
 sub-place : tie.Need-sub-place Inv-loop μ-loop
 sub-place c = omega (arith, unsigned-length (c .before .before .args .n))
 
@@ -30,29 +24,14 @@ loop-holds c =
     let l = unsigned-length (s .args .n) in
     tail-none (s .args .buffer .now) (s .args .at) (s .args .n) _ (s .pre .0) (omega arith)
 
-cast-buffer : tie.Need-cast-buffer Inv-loop μ-loop
-cast-buffer c = omega arith
-
-add-buffer : tie.Need-add-buffer Inv-loop μ-loop
-add-buffer c = omega arith
-
 slice-write-buffer : tie.Need-slice-write-buffer Inv-loop μ-loop
 slice-write-buffer c = tail-within (c .before .loop .inv) (start (c .before) .pre .1)
 
 sub-place-2 : tie.Need-sub-place-2 Inv-loop μ-loop
 sub-place-2 c = tail-further (c .before .loop .inv) (start (c .before) .pre .1) (c .loop-test .taken)
 
-loop-less : tie.Need-loop-less Inv-loop μ-loop
-loop-less c = omega arith
-
 loop-again : tie.Need-loop-again Inv-loop μ-loop
 loop-again c = tail-more (c .before .loop .inv) (start (c .before) .pre .1) (c .loop-test .taken)
-
-cast-buffer-2 : tie.Need-cast-buffer-2 Inv-loop μ-loop
-cast-buffer-2 c = omega arith
-
-add-buffer-2 : tie.Need-add-buffer-2 Inv-loop μ-loop
-add-buffer-2 c = omega arith
 
 slice-write-buffer-2 : tie.Need-slice-write-buffer-2 Inv-loop μ-loop
 slice-write-buffer-2 c = tail-within (c .before .loop .inv) (start (c .before) .pre .1)
@@ -67,21 +46,6 @@ returns c =
 pub put-digits-spec : {M : Type 1} → statement M
 put-digits-spec =
     tie.close
-    (tie.spec
-    Inv-loop
-    μ-loop
-    digit-count-requires
-    add-end
-    sub-place
-    loop-holds
-    cast-buffer
-    add-buffer
-    slice-write-buffer
-    sub-place-2
-    loop-less
-    loop-again
-    cast-buffer-2
-    add-buffer-2
-    slice-write-buffer-2
-    same-length
-    returns)
+    (tie.spec Inv-loop μ-loop (λ c κs. c .before .pre .0) (λ c. omega arith) sub-place loop-holds (λ c. omega arith)
+    (λ c. omega arith) slice-write-buffer sub-place-2 (λ c. omega arith) loop-again (λ c. omega arith)
+    (λ c. omega arith) slice-write-buffer-2 same-length returns)

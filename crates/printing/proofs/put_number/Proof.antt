@@ -32,14 +32,8 @@ natural c =
     let h = less-false (simp (v, sealed) at (c .if1 .left)) in
     text-natural h ∙ ap unsignedText (sym (distance (c .before)))
 
-magnitude-requires : tie.Need-magnitude-requires
-magnitude-requires c κs = search needs
-
 slice-write-buffer : tie.Need-slice-write-buffer
 slice-write-buffer c = omega (arith, ap length (negative c))
-
-add-put-digits : tie.Need-add-put-digits
-add-put-digits c = search needs
 
 put-digits-requires : tie.Need-put-digits-requires
 put-digits-requires c κs =
@@ -60,9 +54,6 @@ returns c =
 put-digits-requires-2 : tie.Need-put-digits-requires-2
 put-digits-requires-2 c κs = omega (arith, distance (c .before .before), ap length (natural (c .before)))
 
-same-length-2 : tie.Need-same-length-2
-same-length-2 c = search needs
-
 returns-2 : tie.Need-returns-2
 returns-2 c =
     let w = c .before .before .before .before in
@@ -72,13 +63,5 @@ returns-2 c =
 pub put-number-spec : {M : Type 1} → statement M
 put-number-spec =
     tie.close
-    (tie.spec
-    magnitude-requires
-    slice-write-buffer
-    add-put-digits
-    put-digits-requires
-    same-length
-    returns
-    put-digits-requires-2
-    same-length-2
-    returns-2)
+    (tie.spec (λ c κs. search needs) slice-write-buffer (search needs) put-digits-requires same-length returns
+    put-digits-requires-2 (search needs) returns-2)

@@ -8,17 +8,11 @@ use Rattle.query.proofs.WordSteps.{name-missing, number-follows}
 use Rattle.query.proofs.field_at.Statement.{statement}
 use Rattle.query.proofs.field_at.Tie as tie
 
-text-at-requires : tie.Need-text-at-requires
-text-at-requires c κs = search needs
-
 returns : tie.Need-returns
 returns c = sym (name-missing _ _ _ (lacks (c .before .text-at .ensures) (c .if1 .taken)))
 
 add-number-at : tie.Need-add-number-at
 add-number-at c = omega (arith, text-room _ _ _ (has (c .before .text-at .ensures) (c .if1 .left)))
-
-number-at-requires : tie.Need-number-at-requires
-number-at-requires c κs = search needs
 
 returns-2 : tie.Need-returns-2
 returns-2 c =
@@ -26,5 +20,4 @@ returns-2 c =
     number-follows _ _ _ (has (e .before .text-at .ensures) (e .if1 .left)) (c .number-at .ensures)
 
 pub field-at-spec : {M : Type 1} → statement M
-field-at-spec =
-    tie.close (tie.spec text-at-requires returns add-number-at number-at-requires returns-2)
+field-at-spec = tie.close (tie.spec (search needs) returns add-number-at (search needs) returns-2)

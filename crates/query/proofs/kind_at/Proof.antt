@@ -86,24 +86,12 @@ left₇ c =
 
 -- ---- the needs
 
-slice-aggregate-text-at : tie.Need-slice-aggregate-text-at
-slice-aggregate-text-at c = search needs
-
-text-at-requires : tie.Need-text-at-requires
-text-at-requires c κs = search needs
-
 add-t14 : tie.Need-add-t14
 add-t14 c = omega (arith, text-room _ _ _ (sym (c .before .text-at .ensures) ∙ c .if1 .taken))
 
 returns : tie.Need-returns
 unfolding onOffer wordOf bytesOf
 returns c = sym (word-found _ _ Death _ (c .before .text-at .ensures) (c .if1 .taken))
-
-slice-aggregate-text-at-2 : tie.Need-slice-aggregate-text-at-2
-slice-aggregate-text-at-2 c = search needs
-
-text-at-requires-2 : tie.Need-text-at-requires-2
-text-at-requires-2 c κs = search needs
 
 add-t19 : tie.Need-add-t19
 add-t19 c = omega (arith, text-room _ _ _ (sym (c .before .text-at2 .ensures) ∙ c .if2 .taken))
@@ -115,12 +103,6 @@ returns-2 c =
     (left₁ (c .before .before .before)
     ∙ word-found _ _ CohortSurvival _ (c .before .text-at2 .ensures) (c .if2 .taken))
 
-slice-aggregate-text-at-3 : tie.Need-slice-aggregate-text-at-3
-slice-aggregate-text-at-3 c = search needs
-
-text-at-requires-3 : tie.Need-text-at-requires-3
-text-at-requires-3 c κs = search needs
-
 add-t24 : tie.Need-add-t24
 add-t24 c = omega (arith, text-room _ _ _ (sym (c .before .text-at3 .ensures) ∙ c .if3 .taken))
 
@@ -130,12 +112,6 @@ returns-3 c =
     sym
     (left₂ (c .before .before .before)
     ∙ word-found _ _ PeriodSurvival _ (c .before .text-at3 .ensures) (c .if3 .taken))
-
-slice-aggregate-text-at-4 : tie.Need-slice-aggregate-text-at-4
-slice-aggregate-text-at-4 c = search needs
-
-text-at-requires-4 : tie.Need-text-at-requires-4
-text-at-requires-4 c κs = search needs
 
 add-t29 : tie.Need-add-t29
 add-t29 c = omega (arith, text-room _ _ _ (sym (c .before .text-at4 .ensures) ∙ c .if4 .taken))
@@ -147,12 +123,6 @@ returns-4 c =
     (left₃ (c .before .before .before)
     ∙ word-found _ _ CohortExpectancy _ (c .before .text-at4 .ensures) (c .if4 .taken))
 
-slice-aggregate-text-at-5 : tie.Need-slice-aggregate-text-at-5
-slice-aggregate-text-at-5 c = search needs
-
-text-at-requires-5 : tie.Need-text-at-requires-5
-text-at-requires-5 c κs = search needs
-
 add-t34 : tie.Need-add-t34
 add-t34 c = omega (arith, text-room _ _ _ (sym (c .before .text-at5 .ensures) ∙ c .if5 .taken))
 
@@ -163,12 +133,6 @@ returns-5 c =
     (left₄ (c .before .before .before)
     ∙ word-found _ _ PeriodExpectancy _ (c .before .text-at5 .ensures) (c .if5 .taken))
 
-slice-aggregate-text-at-6 : tie.Need-slice-aggregate-text-at-6
-slice-aggregate-text-at-6 c = search needs
-
-text-at-requires-6 : tie.Need-text-at-requires-6
-text-at-requires-6 c κs = search needs
-
 add-t39 : tie.Need-add-t39
 add-t39 c = omega (arith, text-room _ _ _ (sym (c .before .text-at6 .ensures) ∙ c .if6 .taken))
 
@@ -178,12 +142,6 @@ returns-6 c =
     sym
     (left₅ (c .before .before .before)
     ∙ word-found _ _ (CohortAnnuity (pos 0)) _ (c .before .text-at6 .ensures) (c .if6 .taken))
-
-slice-aggregate-text-at-7 : tie.Need-slice-aggregate-text-at-7
-slice-aggregate-text-at-7 c = search needs
-
-text-at-requires-7 : tie.Need-text-at-requires-7
-text-at-requires-7 c κs = search needs
 
 add-t44 : tie.Need-add-t44
 add-t44 c = omega (arith, text-room _ _ _ (sym (c .before .text-at7 .ensures) ∙ c .if7 .taken))
@@ -202,33 +160,7 @@ returns-8 c = sym (left₇ c)
 pub kind-at-spec : {M : Type 1} → statement M
 kind-at-spec =
     tie.close
-    (tie.spec
-    slice-aggregate-text-at
-    text-at-requires
-    add-t14
-    returns
-    slice-aggregate-text-at-2
-    text-at-requires-2
-    add-t19
-    returns-2
-    slice-aggregate-text-at-3
-    text-at-requires-3
-    add-t24
-    returns-3
-    slice-aggregate-text-at-4
-    text-at-requires-4
-    add-t29
-    returns-4
-    slice-aggregate-text-at-5
-    text-at-requires-5
-    add-t34
-    returns-5
-    slice-aggregate-text-at-6
-    text-at-requires-6
-    add-t39
-    returns-6
-    slice-aggregate-text-at-7
-    text-at-requires-7
-    add-t44
-    returns-7
-    returns-8)
+    (tie.spec (search needs) (search needs) add-t14 returns (search needs) (search needs) add-t19 returns-2
+    (search needs) (search needs) add-t24 returns-3 (search needs) (search needs) add-t29 returns-4 (search needs)
+    (search needs) add-t34 returns-5 (search needs) (search needs) add-t39 returns-6 (search needs) (search needs)
+    add-t44 returns-7 returns-8)

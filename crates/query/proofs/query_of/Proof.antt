@@ -118,41 +118,14 @@ after-end c =
 
 -- ---- the needs
 
-slice-aggregate-text-at : tie.Need-slice-aggregate-text-at
-slice-aggregate-text-at c = search needs
-
-text-at-requires : tie.Need-text-at-requires
-text-at-requires c κs = search needs
-
 returns : tie.Need-returns
 unfolding bytesOf
 returns c = sym (start-malformed _ (text-missing _ 0 (bytesOf "kind=") (lacks (c .before .text-at .ensures) (c .if1 .taken))))
-
-kind-at-requires : tie.Need-kind-at-requires
-kind-at-requires c κs = search needs
-
-enum-known-word : tie.Need-enum-known-word
-enum-known-word c = search needs
-
-enum-told : tie.Need-enum-told
-enum-told c = search needs
 
 returns-2 : tie.Need-returns-2
 returns-2 c =
     let k = c .before .before in
     sym (after-start (k .before) ∙ stops _ (kind-malformed _ (k .kind-at .ensures) (c .enum-told .given .1)))
-
-slice-aggregate-field-at : tie.Need-slice-aggregate-field-at
-slice-aggregate-field-at c = search needs
-
-field-at-requires : tie.Need-field-at-requires
-field-at-requires c κs = search needs
-
-enum-known-age : tie.Need-enum-known-age
-enum-known-age c = search needs
-
-enum-told-2 : tie.Need-enum-told-2
-enum-told-2 c = search needs
 
 returns-3 : tie.Need-returns-3
 unfolding bytesOf
@@ -160,35 +133,11 @@ returns-3 c =
     let f = c .before .before in
     sym (after-word (f .before .before) ∙ stops _ (read-malformed _ (f .field-at .ensures) (c .enum-told2 .given .1)))
 
-slice-aggregate-field-at-2 : tie.Need-slice-aggregate-field-at-2
-slice-aggregate-field-at-2 c = search needs
-
-field-at-requires-2 : tie.Need-field-at-requires-2
-field-at-requires-2 c κs = search needs
-
-enum-known-year : tie.Need-enum-known-year
-enum-known-year c = search needs
-
-enum-told-3 : tie.Need-enum-told-3
-enum-told-3 c = search needs
-
 returns-4 : tie.Need-returns-4
 unfolding bytesOf
 returns-4 c =
     let f = c .before .before in
     sym (after-age (f .before .before) ∙ stops _ (read-malformed _ (f .field-at2 .ensures) (c .enum-told3 .given .1)))
-
-slice-aggregate-field-at-3 : tie.Need-slice-aggregate-field-at-3
-slice-aggregate-field-at-3 c = search needs
-
-field-at-requires-3 : tie.Need-field-at-requires-3
-field-at-requires-3 c κs = search needs
-
-enum-known-span : tie.Need-enum-known-span
-enum-known-span c = search needs
-
-enum-told-4 : tie.Need-enum-told-4
-enum-told-4 c = search needs
 
 returns-5 : tie.Need-returns-5
 unfolding bytesOf
@@ -196,25 +145,10 @@ returns-5 c =
     let f = c .before .before in
     sym (after-year (f .before .before) ∙ stops _ (read-malformed _ (f .field-at3 .ensures) (c .enum-told4 .given .1)))
 
-rate-at-requires : tie.Need-rate-at-requires
-rate-at-requires c κs = search needs
-
-enum-known-kind : tie.Need-enum-known-kind
-enum-known-kind c = search needs
-
-enum-told-5 : tie.Need-enum-told-5
-enum-told-5 c = search needs
-
 returns-6 : tie.Need-returns-6
 returns-6 c =
     let k = c .before .before in
     sym (after-span (k .before) ∙ stops _ (kind-malformed _ (k .rate-at .ensures) (c .enum-told5 .given .1)))
-
-slice-aggregate-text-at-2 : tie.Need-slice-aggregate-text-at-2
-slice-aggregate-text-at-2 c = search needs
-
-text-at-requires-2 : tie.Need-text-at-requires-2
-text-at-requires-2 c κs = search needs
 
 returns-7 : tie.Need-returns-7
 unfolding bytesOf
@@ -246,36 +180,7 @@ returns-9 c =
 pub query-of-spec : {M : Type 1} → statement M
 query-of-spec =
     tie.close
-    (tie.spec
-    slice-aggregate-text-at
-    text-at-requires
-    returns
-    kind-at-requires
-    enum-known-word
-    enum-told
-    returns-2
-    slice-aggregate-field-at
-    field-at-requires
-    enum-known-age
-    enum-told-2
-    returns-3
-    slice-aggregate-field-at-2
-    field-at-requires-2
-    enum-known-year
-    enum-told-3
-    returns-4
-    slice-aggregate-field-at-3
-    field-at-requires-3
-    enum-known-span
-    enum-told-4
-    returns-5
-    rate-at-requires
-    enum-known-kind
-    enum-told-5
-    returns-6
-    slice-aggregate-text-at-2
-    text-at-requires-2
-    returns-7
-    add-if3
-    returns-8
-    returns-9)
+    (tie.spec (search needs) (search needs) returns (search needs) (search needs) (search needs) returns-2
+    (search needs) (search needs) (search needs) (search needs) returns-3 (search needs) (search needs) (search needs)
+    (search needs) returns-4 (search needs) (search needs) (search needs) (search needs) returns-5 (search needs)
+    (search needs) (search needs) returns-6 (search needs) (search needs) returns-7 add-if3 returns-8 returns-9)

@@ -10,23 +10,8 @@ use Rattle.query.proofs.QuerySteps.{rate-none, rate-malformed, rate-tak
 use Rattle.query.proofs.rate_at.Statement.{statement}
 use Rattle.query.proofs.rate_at.Tie as tie
 
-takes-rate-requires : tie.Need-takes-rate-requires
-takes-rate-requires c κs = search needs
-
 returns : tie.Need-returns
 returns c = sym (rate-none _ _ (lacks (c .before .takes-rate .ensures) (c .if1 .taken)))
-
-slice-aggregate-field-at : tie.Need-slice-aggregate-field-at
-slice-aggregate-field-at c = search needs
-
-field-at-requires : tie.Need-field-at-requires
-field-at-requires c κs = search needs
-
-enum-known-rate : tie.Need-enum-known-rate
-enum-known-rate c = search needs
-
-enum-told : tie.Need-enum-told
-enum-told c = search needs
 
 returns-2 : tie.Need-returns-2
 unfolding bytesOf
@@ -36,9 +21,6 @@ returns-2 c =
     sym
     (rate-malformed _ _ (has (t .before .takes-rate .ensures) (t .if1 .left))
     (read-malformed _ (f .field-at .ensures) (c .enum-told .given .1)))
-
-with-rate-requires : tie.Need-with-rate-requires
-with-rate-requires c κs = search needs
 
 returns-3 : tie.Need-returns-3
 unfolding bytesOf
@@ -56,13 +38,5 @@ returns-3 c =
 pub rate-at-spec : {M : Type 1} → statement M
 rate-at-spec =
     tie.close
-    (tie.spec
-    takes-rate-requires
-    returns
-    slice-aggregate-field-at
-    field-at-requires
-    enum-known-rate
-    enum-told
-    returns-2
-    with-rate-requires
-    returns-3)
+    (tie.spec (search needs) returns (search needs) (search needs) (search needs) (search needs) returns-2
+    (search needs) returns-3)

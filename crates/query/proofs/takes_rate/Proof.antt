@@ -5,27 +5,6 @@ use Rattle.kinds.specs.Kinds.{takesRate}
 use Rattle.query.proofs.takes_rate.Statement.{statement}
 use Rattle.query.proofs.takes_rate.Tie as tie
 
-enum-told : tie.Need-enum-told
-enum-told c = search needs
-
-enum-told-2 : tie.Need-enum-told-2
-enum-told-2 c = search needs
-
-enum-told-3 : tie.Need-enum-told-3
-enum-told-3 c = search needs
-
-enum-told-4 : tie.Need-enum-told-4
-enum-told-4 c = search needs
-
-enum-told-5 : tie.Need-enum-told-5
-enum-told-5 c = search needs
-
-enum-told-6 : tie.Need-enum-told-6
-enum-told-6 c = search needs
-
-enum-told-7 : tie.Need-enum-told-7
-enum-told-7 c = search needs
-
 returns : tie.Need-returns
 unfolding takesRate
 returns c = sym (ap takesRate (c .enum-told .given .1))
@@ -57,18 +36,5 @@ returns-7 c = sym (ap takesRate (c .enum-told7 .given .1))
 pub takes-rate-spec : {M : Type 1} → statement M
 takes-rate-spec =
     tie.close
-    (tie.spec
-    enum-told
-    enum-told-2
-    enum-told-3
-    enum-told-4
-    enum-told-5
-    enum-told-6
-    enum-told-7
-    returns
-    returns-2
-    returns-3
-    returns-4
-    returns-5
-    returns-6
-    returns-7)
+    (tie.spec (search needs) (search needs) (search needs) (search needs) (search needs) (search needs) (search needs)
+    returns returns-2 returns-3 returns-4 returns-5 returns-6 returns-7)

@@ -8,27 +8,6 @@ use Rattle.kinds.specs.Kinds.{withRate}
 use Rattle.query.proofs.with_rate.Statement.{statement}
 use Rattle.query.proofs.with_rate.Tie as tie
 
-enum-told : tie.Need-enum-told
-enum-told c = search needs
-
-enum-told-2 : tie.Need-enum-told-2
-enum-told-2 c = search needs
-
-enum-told-3 : tie.Need-enum-told-3
-enum-told-3 c = search needs
-
-enum-told-4 : tie.Need-enum-told-4
-enum-told-4 c = search needs
-
-enum-told-5 : tie.Need-enum-told-5
-enum-told-5 c = search needs
-
-enum-told-6 : tie.Need-enum-told-6
-enum-told-6 c = search needs
-
-enum-told-7 : tie.Need-enum-told-7
-enum-told-7 c = search needs
-
 -- the kind that the code's enum holds, with the rate
 at : (s : tie.Start) {k : Kind} → s .args .kind ≡ k → withRate k (s .args .rate) ≡ withRate (s .args .kind) (s .args .rate)
 at s e = sym (ap (λ (k : Kind). withRate k (s .args .rate)) e)
@@ -68,18 +47,5 @@ returns-7 c =
 pub with-rate-spec : {M : Type 1} → statement M
 with-rate-spec =
     tie.close
-    (tie.spec
-    enum-told
-    enum-told-2
-    enum-told-3
-    enum-told-4
-    enum-told-5
-    enum-told-6
-    enum-told-7
-    returns
-    returns-2
-    returns-3
-    returns-4
-    returns-5
-    returns-6
-    returns-7)
+    (tie.spec (search needs) (search needs) (search needs) (search needs) (search needs) (search needs) (search needs)
+    returns returns-2 returns-3 returns-4 returns-5 returns-6 returns-7)

@@ -5,22 +5,10 @@ use borrow.Author.Needs.{needs}
 use Rattle.round_trip.proofs.read_then_write.Statement.{statement}
 use Rattle.round_trip.proofs.read_then_write.Tie as tie
 
-read-requires : tie.Need-read-requires
-read-requires c κs = search needs
-
-refusal-number-requires : tie.Need-refusal-number-requires
-refusal-number-requires c κs = search needs
-
 returns : tie.Need-returns
 returns c =
     let read = c .before .before .read in
     not-copied _ _ (read .ensures) (λ e. c .if1 .taken (c .before .refusal-number .ensures ∙ e))
-
-write-requires : tie.Need-write-requires
-write-requires c κs = search needs
-
-same-length : tie.Need-same-length
-same-length c = search needs
 
 returns-2 : tie.Need-returns-2
 returns-2 c =
@@ -31,5 +19,4 @@ returns-2 c =
 
 pub read-then-write-spec : {M : Type 1} → statement M
 read-then-write-spec =
-    tie.close
-    (tie.spec read-requires refusal-number-requires returns write-requires same-length returns-2)
+    tie.close (tie.spec (search needs) (search needs) returns (search needs) (search needs) returns-2)

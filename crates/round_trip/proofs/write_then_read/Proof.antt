@@ -11,20 +11,11 @@ whole : (c : tie.Start) → Whole (c .args .p)
 whole c =
     record { level = search needs; slope = search needs; alpha = search needs; beta = search needs }
 
-write-requires : tie.Need-write-requires
-write-requires c κs = search needs
-
 slice-reshare-prefix-read : tie.Need-slice-reshare-prefix-read
 slice-reshare-prefix-read c = written-within _ _ (c .before .before .write .ensures)
 
 slice-aggregate-read : tie.Need-slice-aggregate-read
 slice-aggregate-read c = sym (length-take-le _ _ (written-within _ _ (c .before .before .before .write .ensures)))
-
-read-requires : tie.Need-read-requires
-read-requires c κs = search needs
-
-same-length : tie.Need-same-length
-same-length c = search needs
 
 returns : tie.Need-returns
 returns c =
@@ -35,10 +26,4 @@ returns c =
 pub write-then-read-spec : {M : Type 1} → statement M
 write-then-read-spec =
     tie.close
-    (tie.spec
-    write-requires
-    slice-reshare-prefix-read
-    slice-aggregate-read
-    read-requires
-    same-length
-    returns)
+    (tie.spec (search needs) slice-reshare-prefix-read slice-aggregate-read (search needs) (search needs) returns)

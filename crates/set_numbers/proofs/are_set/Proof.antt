@@ -9,14 +9,8 @@ use Rattle.set_numbers.proofs.are_set.Tie as tie
 returns : tie.Need-returns
 returns c = sym (not-as-many _ (λ e. omega (arith, e, c .if1 .taken)))
 
-shared-slice-copy-out-if2 : tie.Need-shared-slice-copy-out-if2
-shared-slice-copy-out-if2 c = search needs
-
 returns-2 : tie.Need-returns-2
 returns-2 c = let n = c .before .before in sym (first-zero _ (omega (arith, n .if1 .left)) (search needs) (c .if2 .taken))
-
-shared-slice-copy-out-result : tie.Need-shared-slice-copy-out-result
-shared-slice-copy-out-result c = search needs
 
 returns-3 : tie.Need-returns-3
 returns-3 c =
@@ -24,6 +18,4 @@ returns-3 c =
     sym (first-other _ (omega (arith, n .if1 .left)) (search needs) (c .before .if2 .left))
 
 pub are-set-spec : {M : Type 1} → statement M
-are-set-spec =
-    tie.close
-    (tie.spec returns shared-slice-copy-out-if2 returns-2 shared-slice-copy-out-result returns-3)
+are-set-spec = tie.close (tie.spec returns (search needs) returns-2 (search needs) returns-3)

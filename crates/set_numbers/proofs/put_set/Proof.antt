@@ -57,26 +57,11 @@ all c =
 
 -- ---- the needs
 
-sex-number-requires : tie.Need-sex-number-requires Inv-loop μ-loop
-sex-number-requires c κs = search needs
-
-slice-set-from-put-four : tie.Need-slice-set-from-put-four Inv-loop μ-loop
-slice-set-from-put-four c = search needs
-
 put-four-requires : tie.Need-put-four-requires Inv-loop μ-loop
 put-four-requires c κs = simp length-set (omega (arith, c .before .before .before .before .before .before .pre))
 
 loop-holds : tie.Need-loop-holds Inv-loop μ-loop
 loop-holds c = (omega arith, front-self (head (c .before)))
-
-age-of-runs-requires : tie.Need-age-of-runs-requires Inv-loop μ-loop
-age-of-runs-requires c κs = search needs
-
-mul-put-four : tie.Need-mul-put-four Inv-loop μ-loop
-mul-put-four c = search needs
-
-add-put-four : tie.Need-add-put-four Inv-loop μ-loop
-add-put-four c = search needs
 
 put-four-requires-2 : tie.Need-put-four-requires-2 Inv-loop μ-loop
 put-four-requires-2 c κs =
@@ -87,12 +72,6 @@ put-four-requires-2 c κs =
     let h = front-length (omega (arith, s .pre)) (head (entered l)) in
     let k = front-length (omega (arith, s .pre)) (l .loop .inv .1) in
     omega (arith, s .pre)
-
-add-x : tie.Need-add-x Inv-loop μ-loop
-add-x c = search needs
-
-loop-less : tie.Need-loop-less Inv-loop μ-loop
-loop-less c = search needs
 
 loop-again : tie.Need-loop-again Inv-loop μ-loop
 loop-again c =
@@ -117,19 +96,5 @@ returns c = ages-all _ (all c)
 pub put-set-spec : {M : Type 1} → statement M
 put-set-spec =
     tie.close
-    (tie.spec
-    Inv-loop
-    μ-loop
-    sex-number-requires
-    slice-set-from-put-four
-    put-four-requires
-    loop-holds
-    age-of-runs-requires
-    mul-put-four
-    add-put-four
-    put-four-requires-2
-    add-x
-    loop-less
-    loop-again
-    same-length
-    returns)
+    (tie.spec Inv-loop μ-loop (search needs) (search needs) put-four-requires loop-holds (search needs) (search needs)
+    (search needs) put-four-requires-2 (search needs) (search needs) loop-again same-length returns)

@@ -5,20 +5,11 @@ use borrow.Author.Needs.{needs}
 use Rattle.set_numbers.proofs.read_into.Statement.{statement}
 use Rattle.set_numbers.proofs.read_into.Tie as tie
 
-read-requires : tie.Need-read-requires
-read-requires c κs = search needs
-
-refusal-number-requires : tie.Need-refusal-number-requires
-refusal-number-requires c κs = search needs
-
 returns : tie.Need-returns
 returns c =
     let n = c .before in
     let r = n .before .before in
     read-refused _ _ (r .read .ensures) (n .refusal-number .ensures) (λ e. omega (arith, e, c .if1 .taken))
-
-refusal-number-requires-2 : tie.Need-refusal-number-requires-2
-refusal-number-requires-2 c κs = search needs
 
 returns-2 : tie.Need-returns-2
 returns-2 c =
@@ -27,12 +18,6 @@ returns-2 c =
     let r = n .before .before in
     read-short _ _ (r .read .ensures) (n .refusal-number .ensures) (omega (arith, t .before .if1 .left))
     (omega (arith, t .if2 .taken)) (c .refusal-number2 .ensures)
-
-put-set-requires : tie.Need-put-set-requires
-put-set-requires c κs = search needs
-
-same-length : tie.Need-same-length
-same-length c = search needs
 
 returns-3 : tie.Need-returns-3
 returns-3 c =
@@ -46,12 +31,4 @@ returns-3 c =
 pub read-into-spec : {M : Type 1} → statement M
 read-into-spec =
     tie.close
-    (tie.spec
-    read-requires
-    refusal-number-requires
-    returns
-    refusal-number-requires-2
-    returns-2
-    put-set-requires
-    same-length
-    returns-3)
+    (tie.spec (search needs) (search needs) returns (search needs) returns-2 (search needs) (search needs) returns-3)

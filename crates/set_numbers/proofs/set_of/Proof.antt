@@ -11,36 +11,6 @@ use borrow.Author.Needs.{needs}
 use Rattle.set_numbers.proofs.set_of.Statement.{statement}
 use Rattle.set_numbers.proofs.set_of.Tie as tie
 
-shared-slice-copy-out-sex-of : tie.Need-shared-slice-copy-out-sex-of
-shared-slice-copy-out-sex-of c = search needs
-
-sex-of-requires : tie.Need-sex-of-requires
-sex-of-requires c κs = search needs
-
-run-requires : tie.Need-run-requires
-run-requires c κs = search needs
-
-run-requires-2 : tie.Need-run-requires-2
-run-requires-2 c κs = search needs
-
-run-requires-3 : tie.Need-run-requires-3
-run-requires-3 c κs = search needs
-
-run-requires-4 : tie.Need-run-requires-4
-run-requires-4 c κs = search needs
-
-shared-slice-copy-out-t8 : tie.Need-shared-slice-copy-out-t8
-shared-slice-copy-out-t8 c = search needs
-
-shared-slice-copy-out-t11 : tie.Need-shared-slice-copy-out-t11
-shared-slice-copy-out-t11 c = search needs
-
-shared-slice-copy-out-t13 : tie.Need-shared-slice-copy-out-t13
-shared-slice-copy-out-t13 c = search needs
-
-shared-slice-copy-out-t15 : tie.Need-shared-slice-copy-out-t15
-shared-slice-copy-out-t15 c = search needs
-
 returns : tie.Need-returns
 returns c =
     let r₄ = c .before .before .before .before in
@@ -61,15 +31,5 @@ returns c =
 pub set-of-spec : {M : Type 1} → statement M
 set-of-spec =
     tie.close
-    (tie.spec
-    shared-slice-copy-out-sex-of
-    sex-of-requires
-    run-requires
-    run-requires-2
-    run-requires-3
-    run-requires-4
-    shared-slice-copy-out-t8
-    shared-slice-copy-out-t11
-    shared-slice-copy-out-t13
-    shared-slice-copy-out-t15
-    returns)
+    (tie.spec (search needs) (search needs) (search needs) (search needs) (search needs) (search needs) (search needs)
+    (search needs) (search needs) (search needs) returns)

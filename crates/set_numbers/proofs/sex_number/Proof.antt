@@ -5,12 +5,6 @@ use Rattle.set_numbers.specs.SetNumbers.{sexNumber}
 use Rattle.set_numbers.proofs.sex_number.Statement.{statement}
 use Rattle.set_numbers.proofs.sex_number.Tie as tie
 
-enum-told : tie.Need-enum-told
-enum-told c = search needs
-
-enum-told-2 : tie.Need-enum-told-2
-enum-told-2 c = search needs
-
 returns : tie.Need-returns
 unfolding sexNumber
 returns c = sym (ap sexNumber (c .enum-told .given .1))
@@ -20,4 +14,4 @@ unfolding sexNumber
 returns-2 c = sym (ap sexNumber (c .enum-told2 .given .1))
 
 pub sex-number-spec : {M : Type 1} → statement M
-sex-number-spec = tie.close (tie.spec enum-told enum-told-2 returns returns-2)
+sex-number-spec = tie.close (tie.spec (search needs) (search needs) returns returns-2)

@@ -5,9 +5,6 @@ use Rattle.set_numbers.specs.AnswerLaws.{told-accepted, told-refused}
 use Rattle.set_numbers.proofs.tell.Statement.{statement}
 use Rattle.set_numbers.proofs.tell.Tie as tie
 
-refusal-number-requires : tie.Need-refusal-number-requires
-refusal-number-requires c κs = search needs
-
 returns : tie.Need-returns
 returns c = told-accepted _ _ (c .before .refusal-number .ensures) (omega (arith, c .if1 .taken))
 
@@ -15,4 +12,4 @@ returns-2 : tie.Need-returns-2
 returns-2 c = told-refused _ _ (c .before .refusal-number .ensures) (λ e. omega (arith, e, c .if1 .left))
 
 pub tell-spec : {M : Type 1} → statement M
-tell-spec = tie.close (tie.spec refusal-number-requires returns returns-2)
+tell-spec = tie.close (tie.spec (search needs) returns returns-2)

@@ -12,12 +12,6 @@ use Rattle.set_numbers.proofs.write_from.Tie as tie
 a-set : (c : tie.Else1) → areSet (c .before .before .before .args .values .now) ≡ true
 a-set c = let t = c .before .are-set in sym (t .ensures) ∙ not-false (t .result) (c .if1 .left)
 
-are-set-requires : tie.Need-are-set-requires
-are-set-requires c κs = search needs
-
-refusal-number-requires : tie.Need-refusal-number-requires
-refusal-number-requires c κs = search needs
-
 returns : tie.Need-returns
 returns c =
     let t = c .before in
@@ -26,15 +20,6 @@ returns c =
 
 set-of-requires : tie.Need-set-of-requires
 set-of-requires c κs = as-many _ (a-set c)
-
-write-requires : tie.Need-write-requires
-write-requires c κs = search needs
-
-tell-requires : tie.Need-tell-requires
-tell-requires c κs = search needs
-
-same-length : tie.Need-same-length
-same-length c = search needs
 
 returns-2 : tie.Need-returns-2
 returns-2 c =
@@ -45,12 +30,5 @@ returns-2 c =
 pub write-from-spec : {M : Type 1} → statement M
 write-from-spec =
     tie.close
-    (tie.spec
-    are-set-requires
-    refusal-number-requires
-    returns
-    set-of-requires
-    write-requires
-    tell-requires
-    same-length
+    (tie.spec (search needs) (search needs) returns set-of-requires (search needs) (search needs) (search needs)
     returns-2)

@@ -8,39 +8,24 @@ use borrow.Author.Needs.{needs}
 use Rattle.sheet_ages.proofs.age_at.Statement.{statement}
 use Rattle.sheet_ages.proofs.age_at.Tie as tie
 
-age-text-requires : tie.Need-age-text-requires
-age-text-requires c κs = search needs
-
 -- the age has at most two digits
 below : (c : tie.After-age-text) → c .before .before .args .x < 100
 below c = omega arith
-
-two-requires : tie.Need-two-requires
-two-requires c κs = search needs
 
 joined-requires : tie.Need-joined-requires
 joined-requires c κs =
     let a = c .before in
     age-joins _ (below a) (a .age-text .ensures) (c .two .ensures) (omega arith)
 
-two-requires-2 : tie.Need-two-requires-2
-two-requires-2 c κs = search needs
-
 joined-requires-2 : tie.Need-joined-requires-2
 joined-requires-2 c κs =
     let a = c .before .before .before in
     age-joins _ (below a) (a .age-text .ensures) (c .two2 .ensures) (omega arith)
 
-three-requires : tie.Need-three-requires
-three-requires c κs = search needs
-
 joined-requires-3 : tie.Need-joined-requires-3
 joined-requires-3 c κs =
     let a = c .before .before .before .before .before in
     age-joins _ (below a) (a .age-text .ensures) (c .three .ensures) (omega arith)
-
-three-requires-2 : tie.Need-three-requires-2
-three-requires-2 c κs = search needs
 
 joined-requires-4 : tie.Need-joined-requires-4
 joined-requires-4 c κs =
@@ -78,15 +63,5 @@ returns c =
 pub age-at-spec : {M : Type 1} → statement M
 age-at-spec =
     tie.close
-    (tie.spec
-    age-text-requires
-    two-requires
-    joined-requires
-    two-requires-2
-    joined-requires-2
-    three-requires
-    joined-requires-3
-    three-requires-2
-    joined-requires-4
-    four-at-requires
-    returns)
+    (tie.spec (search needs) (search needs) joined-requires (search needs) joined-requires-2 (search needs)
+    joined-requires-3 (search needs) joined-requires-4 four-at-requires returns)

@@ -9,30 +9,12 @@ use borrow.Author.Needs.{needs}
 use Rattle.sheet_ages.proofs.age_text.Statement.{statement}
 use Rattle.sheet_ages.proofs.age_text.Tie as tie
 
-cast-units : tie.Need-cast-units
-cast-units c = search needs
-
-add-units : tie.Need-add-units
-add-units c = search needs
-
-two-requires : tie.Need-two-requires
-two-requires c κs = search needs
-
 returns : tie.Need-returns
 unfolding bytesOf
 returns c =
     let x = c .before .before .args .x in
     let m : x % 10 ≡ x = omega arith in
     rw (text-small x (omega arith)) (rw m at (c .two .ensures))
-
-cast-three : tie.Need-cast-three
-cast-three c = search needs
-
-add-three : tie.Need-add-three
-add-three c = search needs
-
-three-requires : tie.Need-three-requires
-three-requires c κs = search needs
 
 returns-2 : tie.Need-returns-2
 unfolding bytesOf
@@ -43,12 +25,5 @@ returns-2 c =
 pub age-text-spec : {M : Type 1} → statement M
 age-text-spec =
     tie.close
-    (tie.spec
-    cast-units
-    add-units
-    two-requires
-    returns
-    cast-three
-    add-three
-    three-requires
+    (tie.spec (search needs) (search needs) (search needs) returns (search needs) (search needs) (search needs)
     returns-2)

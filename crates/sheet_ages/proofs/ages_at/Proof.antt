@@ -22,15 +22,6 @@ abbrev μ-loop : tie.MeasureT-loop
 loop-holds : tie.Need-loop-holds Inv-loop μ-loop
 loop-holds c = (omega arith, fill-start _ _ (c .before .pre))
 
-age-at-requires : tie.Need-age-at-requires Inv-loop μ-loop
-age-at-requires c κs = search needs
-
-enum-known-after : tie.Need-enum-known-after Inv-loop μ-loop
-enum-known-after c = search needs
-
-enum-told : tie.Need-enum-told Inv-loop μ-loop
-enum-told c = search needs
-
 returns : tie.Need-returns Inv-loop μ-loop
 returns c =
     let called = c .before .before in
@@ -38,36 +29,6 @@ returns c =
     sym
     (fill-malformed (called .before .loop-test .taken) (four-malformed _ (called .age-at .ensures) (c .enum-told .given .1))
     (head .loop .inv .1))
-
-mul-level : tie.Need-mul-level Inv-loop μ-loop
-mul-level c = search needs
-
-element-set-from-level : tie.Need-element-set-from-level Inv-loop μ-loop
-element-set-from-level c = search needs
-
-mul-slope : tie.Need-mul-slope Inv-loop μ-loop
-mul-slope c = search needs
-
-element-set-from-slope : tie.Need-element-set-from-slope Inv-loop μ-loop
-element-set-from-slope c = search needs
-
-mul-alpha : tie.Need-mul-alpha Inv-loop μ-loop
-mul-alpha c = search needs
-
-element-set-from-alpha : tie.Need-element-set-from-alpha Inv-loop μ-loop
-element-set-from-alpha c = search needs
-
-mul-beta : tie.Need-mul-beta Inv-loop μ-loop
-mul-beta c = search needs
-
-element-set-from-beta : tie.Need-element-set-from-beta Inv-loop μ-loop
-element-set-from-beta c = search needs
-
-add-x : tie.Need-add-x Inv-loop μ-loop
-add-x c = search needs
-
-loop-less : tie.Need-loop-less Inv-loop μ-loop
-loop-less c = search needs
 
 loop-again : tie.Need-loop-again Inv-loop μ-loop
 loop-again c =
@@ -97,23 +58,6 @@ returns-2 c =
 pub ages-at-spec : {M : Type 1} → statement M
 ages-at-spec =
     tie.close
-    (tie.spec
-    Inv-loop
-    μ-loop
-    loop-holds
-    age-at-requires
-    enum-known-after
-    enum-told
-    returns
-    mul-level
-    element-set-from-level
-    mul-slope
-    element-set-from-slope
-    mul-alpha
-    element-set-from-alpha
-    mul-beta
-    element-set-from-beta
-    add-x
-    loop-less
-    loop-again
-    returns-2)
+    (tie.spec Inv-loop μ-loop loop-holds (search needs) (search needs) (search needs) returns (search needs)
+    (search needs) (search needs) (search needs) (search needs) (search needs) (search needs) (search needs)
+    (search needs) (search needs) loop-again returns-2)

@@ -72,35 +72,17 @@ line-len-requires : tie.Need-line-len-requires
 line-len-requires c κs =
     let j = c .before .before in (omega (arith, digits j .1), values j .level .small)
 
-add-line-len-2 : tie.Need-add-line-len-2
-add-line-len-2 c = search needs
-
 line-len-requires-2 : tie.Need-line-len-requires-2
 line-len-requires-2 c κs =
     let j = joined (c .before) in (omega (arith, digits j .1), values j .slope .small)
-
-add-first : tie.Need-add-first
-add-first c = search needs
-
-add-line-len-3 : tie.Need-add-line-len-3
-add-line-len-3 c = search needs
 
 line-len-requires-3 : tie.Need-line-len-requires-3
 line-len-requires-3 c κs =
     let j = joined2 (c .before) in (omega (arith, digits j .1), values j .alpha .small)
 
-add-result : tie.Need-add-result
-add-result c = search needs
-
-add-line-len-4 : tie.Need-add-line-len-4
-add-line-len-4 c = search needs
-
 line-len-requires-4 : tie.Need-line-len-requires-4
 line-len-requires-4 c κs =
     let j = joined3 (c .before) in (omega (arith, digits j .1), values j .beta .small)
-
-add-result-2 : tie.Need-add-result-2
-add-result-2 c = search needs
 
 returns : tie.Need-returns
 returns c =
@@ -112,16 +94,5 @@ returns c =
 pub age-len-spec : {M : Type 1} → statement M
 age-len-spec =
     tie.close
-    (tie.spec
-    add-line-len
-    line-len-requires
-    add-line-len-2
-    line-len-requires-2
-    add-first
-    add-line-len-3
-    line-len-requires-3
-    add-result
-    add-line-len-4
-    line-len-requires-4
-    add-result-2
-    returns)
+    (tie.spec add-line-len line-len-requires (search needs) line-len-requires-2 (search needs) (search needs)
+    line-len-requires-3 (search needs) (search needs) line-len-requires-4 (search needs) returns)

@@ -14,9 +14,6 @@ use Rattle.sheet_length.proofs.line_len.Tie as tie
 number : (c : tie.After-number-len) → c .number-len .result ≡ length (numberText (c .before .args .v))
 number c = c .number-len .ensures ∙ ap (λ (v : ℤ). length (numberText v)) (toZ-ofZ (c .before .fits .v))
 
-number-len-requires : tie.Need-number-len-requires
-number-len-requires c κs = search needs
-
 add-result : tie.Need-add-result
 add-result c = omega (arith, number c, number-length (c .before .args .v))
 
@@ -27,4 +24,4 @@ returns : tie.Need-returns
 returns c = omega (arith, number c, number-length (c .before .args .v))
 
 pub line-len-spec : {M : Type 1} → statement M
-line-len-spec = tie.close (tie.spec number-len-requires add-result add-result-2 returns)
+line-len-spec = tie.close (tie.spec (λ c κs. search needs) add-result add-result-2 returns)

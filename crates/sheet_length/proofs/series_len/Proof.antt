@@ -47,20 +47,11 @@ line-len-requires c κs = (omega arith, values (c .before) .a .small)
 line-len-requires-2 : tie.Need-line-len-requires-2
 line-len-requires-2 c κs = (omega arith, values (start (c .before)) .theta .small)
 
-add-result : tie.Need-add-result
-add-result c = search needs
-
 line-len-requires-3 : tie.Need-line-len-requires-3
 line-len-requires-3 c κs = (omega arith, values (start2 (c .before)) .period .small)
 
-add-result-2 : tie.Need-add-result-2
-add-result-2 c = search needs
-
 line-len-requires-4 : tie.Need-line-len-requires-4
 line-len-requires-4 c κs = (omega arith, values (start3 (c .before)) .kappa .small)
-
-add-result-3 : tie.Need-add-result-3
-add-result-3 c = search needs
 
 returns : tie.Need-returns
 returns c =
@@ -72,12 +63,5 @@ returns c =
 pub series-len-spec : {M : Type 1} → statement M
 series-len-spec =
     tie.close
-    (tie.spec
-    line-len-requires
-    line-len-requires-2
-    add-result
-    line-len-requires-3
-    add-result-2
-    line-len-requires-4
-    add-result-3
-    returns)
+    (tie.spec line-len-requires line-len-requires-2 (search needs) line-len-requires-3 (search needs)
+    line-len-requires-4 (search needs) returns)

@@ -44,17 +44,11 @@ told c =
 
 -- ---- the needs
 
-series-len-requires : tie.Need-series-len-requires Inv-loop μ-loop
-series-len-requires c κs = search needs
-
 add-len : tie.Need-add-len Inv-loop μ-loop
 add-len c = let p = c .before .args .t1 in omega (arith, c .series-len .ensures, sheet-length p, sheet-sum p)
 
 loop-holds : tie.Need-loop-holds Inv-loop μ-loop
 loop-holds c = omega (arith, c .series-len .ensures, ap length (ages-none (c .before .args .t1)))
-
-age-of-runs-requires : tie.Need-age-of-runs-requires Inv-loop μ-loop
-age-of-runs-requires c κs = search needs
 
 age-len-requires : tie.Need-age-len-requires Inv-loop μ-loop
 age-len-requires c κs =
@@ -67,12 +61,6 @@ add-len-2 c =
     let l = turn (c .before) in
     let n = ages-grow (set l) (suc (l .loop .x)) ages (omega arith) in
     omega (arith, told c, ages-step (set l) (l .loop .x), sheet-length (set l), sheet-sum (set l))
-
-add-x : tie.Need-add-x Inv-loop μ-loop
-add-x c = search needs
-
-loop-less : tie.Need-loop-less Inv-loop μ-loop
-loop-less c = search needs
 
 loop-again : tie.Need-loop-again Inv-loop μ-loop
 loop-again c =
@@ -89,16 +77,5 @@ returns c =
 pub sheet-len-spec : {M : Type 1} → statement M
 sheet-len-spec =
     tie.close
-    (tie.spec
-    Inv-loop
-    μ-loop
-    series-len-requires
-    add-len
-    loop-holds
-    age-of-runs-requires
-    age-len-requires
-    add-len-2
-    add-x
-    loop-less
-    loop-again
-    returns)
+    (tie.spec Inv-loop μ-loop (λ c κs. search needs) add-len loop-holds (search needs) age-len-requires add-len-2
+    (search needs) (search needs) loop-again returns)

@@ -6,28 +6,10 @@ use borrow.Author.Needs.{needs}
 use Rattle.sheet_lines.proofs.four_at.Statement.{statement}
 use Rattle.sheet_lines.proofs.four_at.Tie as tie
 
-line-at-requires : tie.Need-line-at-requires
-line-at-requires c κs = search needs
-
-enum-known-v0 : tie.Need-enum-known-v0
-enum-known-v0 c = search needs
-
-enum-told : tie.Need-enum-told
-enum-told c = search needs
-
 returns : tie.Need-returns
 returns c k₀ k₁ k₂ k₃ e₀ e₁ e₂ e₃ =
     let l₀ = c .before .before in
     sym (four-malformed₀ _ _ _ _ _ (read-malformed _ (l₀ .line-at .ensures k₀ e₀) (c .enum-told .given .1)))
-
-line-at-requires-2 : tie.Need-line-at-requires-2
-line-at-requires-2 c κs = search needs
-
-enum-known-v1 : tie.Need-enum-known-v1
-enum-known-v1 c = search needs
-
-enum-told-2 : tie.Need-enum-told-2
-enum-told-2 c = search needs
 
 returns-2 : tie.Need-returns-2
 returns-2 c k₀ k₁ k₂ k₃ e₀ e₁ e₂ e₃ =
@@ -37,15 +19,6 @@ returns-2 c k₀ k₁ k₂ k₃ e₀ e₁ e₂ e₃ =
     sym
     (four-malformed₁ _ _ _ _ _ (read-taken _ (l₀ .line-at .ensures k₀ e₀) (r₀ .v0 .given .1))
     (read-malformed _ (l₁ .line-at2 .ensures k₁ e₁) (c .enum-told2 .given .1)))
-
-line-at-requires-3 : tie.Need-line-at-requires-3
-line-at-requires-3 c κs = search needs
-
-enum-known-v2 : tie.Need-enum-known-v2
-enum-known-v2 c = search needs
-
-enum-told-3 : tie.Need-enum-told-3
-enum-told-3 c = search needs
 
 returns-3 : tie.Need-returns-3
 returns-3 c k₀ k₁ k₂ k₃ e₀ e₁ e₂ e₃ =
@@ -58,15 +31,6 @@ returns-3 c k₀ k₁ k₂ k₃ e₀ e₁ e₂ e₃ =
     (four-malformed₂ _ _ _ _ _ (read-taken _ (l₀ .line-at .ensures k₀ e₀) (r₀ .v0 .given .1))
     (read-taken _ (l₁ .line-at2 .ensures k₁ e₁) (r₁ .v1 .given .1))
     (read-malformed _ (l₂ .line-at3 .ensures k₂ e₂) (c .enum-told3 .given .1)))
-
-line-at-requires-4 : tie.Need-line-at-requires-4
-line-at-requires-4 c κs = search needs
-
-enum-known-v3 : tie.Need-enum-known-v3
-enum-known-v3 c = search needs
-
-enum-told-4 : tie.Need-enum-told-4
-enum-told-4 c = search needs
 
 returns-4 : tie.Need-returns-4
 returns-4 c k₀ k₁ k₂ k₃ e₀ e₁ e₂ e₃ =
@@ -108,21 +72,6 @@ returns-5 c k₀ k₁ k₂ k₃ e₀ e₁ e₂ e₃ =
 pub four-at-spec : {M : Type 1} → statement M
 four-at-spec =
     tie.close
-    (tie.spec
-    line-at-requires
-    enum-known-v0
-    enum-told
-    returns
-    line-at-requires-2
-    enum-known-v1
-    enum-told-2
-    returns-2
-    line-at-requires-3
-    enum-known-v2
-    enum-told-3
-    returns-3
-    line-at-requires-4
-    enum-known-v3
-    enum-told-4
-    returns-4
-    returns-5)
+    (tie.spec (search needs) (search needs) (search needs) returns (search needs) (search needs) (search needs)
+    returns-2 (search needs) (search needs) (search needs) returns-3 (search needs) (search needs) (search needs)
+    returns-4 returns-5)

@@ -12,9 +12,6 @@ use borrow.Author.Needs.{needs}
 use Rattle.sheet_lines.proofs.line_at.Statement.{statement}
 use Rattle.sheet_lines.proofs.line_at.Tie as tie
 
-short-at-requires : tie.Need-short-at-requires
-short-at-requires c κs = search needs
-
 returns : tie.Need-returns
 returns c key e = sym (key-malformed _ _ _ e (lacks (c .before .short-at .ensures) (c .if1 .taken)))
 
@@ -28,15 +25,6 @@ add-number-at c =
       text-room _ _ (textOf head) (has (found .short-at .ensures) (c .before .if1 .left)),
     )
 
-number-at-requires : tie.Need-number-at-requires
-number-at-requires c κs = search needs
-
-enum-known-v : tie.Need-enum-known-v
-enum-known-v c = search needs
-
-enum-told : tie.Need-enum-told
-enum-told c = search needs
-
 returns-2 : tie.Need-returns-2
 returns-2 c key e =
     let called = c .before .before in
@@ -44,9 +32,6 @@ returns-2 c key e =
     sym
     (no-number _ _ _ e (has (headed .before .short-at .ensures) (headed .if1 .left))
     (sym (called .number-at .ensures) ∙ c .enum-told .given .1))
-
-byte-at-requires : tie.Need-byte-at-requires
-byte-at-requires c κs = search needs
 
 returns-3 : tie.Need-returns-3
 unfolding bytesOf
@@ -75,15 +60,5 @@ returns-4 c key e =
 pub line-at-spec : {M : Type 1} → statement M
 line-at-spec =
     tie.close
-    (tie.spec
-    short-at-requires
-    returns
-    add-number-at
-    number-at-requires
-    enum-known-v
-    enum-told
-    returns-2
-    byte-at-requires
-    returns-3
-    add-t9
-    returns-4)
+    (tie.spec (search needs) returns add-number-at (search needs) (search needs) (search needs) returns-2 (search needs)
+    returns-3 add-t9 returns-4)

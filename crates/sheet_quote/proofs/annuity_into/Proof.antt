@@ -5,15 +5,6 @@ use Rattle.sheet_quote.specs.AnswerLaws.{put-read}
 use Rattle.sheet_quote.proofs.annuity_into.Statement.{statement}
 use Rattle.sheet_quote.proofs.annuity_into.Tie as tie
 
-rated-kind-of-requires : tie.Need-rated-kind-of-requires
-rated-kind-of-requires c κs = search needs
-
-answer-into-requires : tie.Need-answer-into-requires
-answer-into-requires c κs = search needs
-
-same-length : tie.Need-same-length
-same-length c = search needs
-
 returns : tie.Need-returns
 returns c =
     let a = c .before .before in
@@ -24,5 +15,4 @@ returns c =
     (rw (toZ-ofZ (f .age), toZ-ofZ (f .year), toZ-ofZ (f .span)) at (a .answer-into .ensures))
 
 pub annuity-into-spec : {M : Type 1} → statement M
-annuity-into-spec =
-    tie.close (tie.spec rated-kind-of-requires answer-into-requires same-length returns)
+annuity-into-spec = tie.close (tie.spec (search needs) (search needs) (search needs) returns)

@@ -5,12 +5,6 @@ use Rattle.sheet_quote.specs.SheetQuote.{printedNumber}
 use Rattle.sheet_quote.proofs.printed_number.Statement.{statement}
 use Rattle.sheet_quote.proofs.printed_number.Tie as tie
 
-enum-told : tie.Need-enum-told
-enum-told c = search needs
-
-enum-told-2 : tie.Need-enum-told-2
-enum-told-2 c = search needs
-
 returns : tie.Need-returns
 unfolding printedNumber
 returns c = sym (ap printedNumber (c .enum-told .given .1))
@@ -20,4 +14,4 @@ unfolding printedNumber
 returns-2 c = sym (ap printedNumber (c .enum-told2 .given .1))
 
 pub printed-number-spec : {M : Type 1} → statement M
-printed-number-spec = tie.close (tie.spec enum-told enum-told-2 returns returns-2)
+printed-number-spec = tie.close (tie.spec (search needs) (search needs) returns returns-2)

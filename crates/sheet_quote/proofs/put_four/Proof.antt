@@ -6,26 +6,14 @@ use Rattle.sheet_quote.specs.AnswerLaws.{four-put}
 use Rattle.sheet_quote.proofs.put_four.Statement.{statement}
 use Rattle.sheet_quote.proofs.put_four.Tie as tie
 
-slice-write-numbers : tie.Need-slice-write-numbers
-slice-write-numbers c = search needs
-
 slice-write-numbers-2 : tie.Need-slice-write-numbers-2
 slice-write-numbers-2 c = simp length-set (omega arith)
-
-printed-number-requires : tie.Need-printed-number-requires
-printed-number-requires c κs = search needs
 
 slice-write-numbers-3 : tie.Need-slice-write-numbers-3
 slice-write-numbers-3 c = simp length-set (omega arith)
 
-steps-number-requires : tie.Need-steps-number-requires
-steps-number-requires c κs = search needs
-
 slice-write-numbers-4 : tie.Need-slice-write-numbers-4
 slice-write-numbers-4 c = simp length-set (omega arith)
-
-same-length : tie.Need-same-length
-same-length c = search needs
 
 returns : tie.Need-returns
 returns c =
@@ -35,12 +23,5 @@ returns c =
 pub put-four-spec : {M : Type 1} → statement M
 put-four-spec =
     tie.close
-    (tie.spec
-    slice-write-numbers
-    slice-write-numbers-2
-    printed-number-requires
-    slice-write-numbers-3
-    steps-number-requires
-    slice-write-numbers-4
-    same-length
-    returns)
+    (tie.spec (search needs) slice-write-numbers-2 (search needs) slice-write-numbers-3 (search needs)
+    slice-write-numbers-4 (search needs) returns)

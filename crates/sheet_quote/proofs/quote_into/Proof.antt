@@ -5,15 +5,6 @@ use Rattle.sheet_quote.specs.AnswerLaws.{put-read}
 use Rattle.sheet_quote.proofs.quote_into.Statement.{statement}
 use Rattle.sheet_quote.proofs.quote_into.Tie as tie
 
-kind-of-requires : tie.Need-kind-of-requires
-kind-of-requires c κs = search needs
-
-answer-into-requires : tie.Need-answer-into-requires
-answer-into-requires c κs = search needs
-
-same-length : tie.Need-same-length
-same-length c = search needs
-
 returns : tie.Need-returns
 returns c =
     let a = c .before .before in
@@ -24,4 +15,4 @@ returns c =
     (rw (toZ-ofZ (f .age), toZ-ofZ (f .year), toZ-ofZ (f .span)) at (a .answer-into .ensures))
 
 pub quote-into-spec : {M : Type 1} → statement M
-quote-into-spec = tie.close (tie.spec kind-of-requires answer-into-requires same-length returns)
+quote-into-spec = tie.close (tie.spec (search needs) (search needs) (search needs) returns)

@@ -6,20 +6,11 @@ use Rattle.sheet_quote.specs.AnswerLaws.{answer-refused, answer-given}
 use Rattle.sheet_quote.proofs.sheet_answer.Statement.{statement}
 use Rattle.sheet_quote.proofs.sheet_answer.Tie as tie
 
-read-requires : tie.Need-read-requires
-read-requires c κs = search needs
-
-refusal-number-requires : tie.Need-refusal-number-requires
-refusal-number-requires c κs = search needs
-
 returns : tie.Need-returns
 returns c =
     let n = c .before in
     let r = n .before .before in
     answer-refused _ _ _ _ _ (r .read .ensures) (n .refusal-number .ensures) (λ e. omega (arith, e, c .if1 .taken))
-
-quote-of-requires : tie.Need-quote-of-requires
-quote-of-requires c κs = search needs
 
 returns-2 : tie.Need-returns-2
 returns-2 c =
@@ -30,4 +21,4 @@ returns-2 c =
     (rw (toZ-ofZ (f .age), toZ-ofZ (f .year), toZ-ofZ (f .span)) at (c .quote-of .ensures .0))
 
 pub sheet-answer-spec : {M : Type 1} → statement M
-sheet-answer-spec = tie.close (tie.spec read-requires refusal-number-requires returns quote-of-requires returns-2)
+sheet-answer-spec = tie.close (tie.spec (search needs) (search needs) returns (search needs) returns-2)

@@ -5,12 +5,6 @@ use Rattle.sheet_quote.specs.SheetQuote.{stepsNumber}
 use Rattle.sheet_quote.proofs.steps_number.Statement.{statement}
 use Rattle.sheet_quote.proofs.steps_number.Tie as tie
 
-enum-known-figure : tie.Need-enum-known-figure
-enum-known-figure c = search needs
-
-enum-told : tie.Need-enum-told
-enum-told c = search needs
-
 returns : tie.Need-returns
 unfolding stepsNumber
 returns c = sym (ap stepsNumber (c .before .figure .given .1))
@@ -20,4 +14,4 @@ unfolding stepsNumber
 returns-2 c = sym (ap stepsNumber (c .enum-told .given .1))
 
 pub steps-number-spec : {M : Type 1} → statement M
-steps-number-spec = tie.close (tie.spec enum-known-figure enum-told returns returns-2)
+steps-number-spec = tie.close (tie.spec (search needs) (search needs) returns returns-2)

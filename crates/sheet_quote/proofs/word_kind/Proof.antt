@@ -23,15 +23,6 @@ word-taken : (c : tie.After-known-told) → let w = called c .before .before .ar
     readWord onOffer w ≡ taken (c .before .kind .given .0 .0) (drop (after c) w)
 word-taken c = kind-taken _ (called c .kind-at .ensures) (c .before .kind .given .1)
 
-kind-at-requires : tie.Need-kind-at-requires
-kind-at-requires c κs = search needs
-
-enum-known-kind : tie.Need-enum-known-kind
-enum-known-kind c = search needs
-
-enum-told : tie.Need-enum-told
-enum-told c = search needs
-
 returns : tie.Need-returns
 returns c =
     let k = c .before .before in
@@ -44,4 +35,4 @@ returns-3 : tie.Need-returns-3
 returns-3 c = let k = c .before in sym (word-ends _ (after k) (word-taken k) (omega (arith, c .if1 .left)))
 
 pub word-kind-spec : {M : Type 1} → statement M
-word-kind-spec = tie.close (tie.spec kind-at-requires enum-known-kind enum-told returns returns-2 returns-3)
+word-kind-spec = tie.close (tie.spec (search needs) (search needs) (search needs) returns returns-2 returns-3)

@@ -4,12 +4,9 @@ use borrow.Author.Needs.{needs}
 use Rattle.sheet_reader.proofs.malformed.Statement.{statement}
 use Rattle.sheet_reader.proofs.malformed.Tie as tie
 
-blank-requires : tie.Need-blank-requires
-blank-requires c κs = search needs
-
 returns : tie.Need-returns
 unfolding refused
 returns c = rw (c .blank .ensures)
 
 pub malformed-spec : {M : Type 1} → statement M
-malformed-spec = tie.close (tie.spec blank-requires returns)
+malformed-spec = tie.close (tie.spec (search needs) returns)

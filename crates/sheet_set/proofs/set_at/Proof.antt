@@ -16,23 +16,8 @@ use borrow.Author.Needs.{needs}
 use Rattle.sheet_set.proofs.set_at.Statement.{statement}
 use Rattle.sheet_set.proofs.set_at.Tie as tie
 
-two-requires : tie.Need-two-requires
-two-requires c κs = search needs
-
-three-requires : tie.Need-three-requires
-three-requires c κs = search needs
-
-three-requires-2 : tie.Need-three-requires-2
-three-requires-2 c κs = search needs
-
 joined-requires : tie.Need-joined-requires
 joined-requires c κs = holds-joins (c .before .three .ensures) (c .three2 .ensures) (omega arith) (omega arith)
-
-two-requires-2 : tie.Need-two-requires-2
-two-requires-2 c κs = search needs
-
-two-requires-3 : tie.Need-two-requires-3
-two-requires-3 c κs = search needs
 
 -- `theta=`, whose two parts are joined
 theta : (c : tie.After-joined) → textOf (c .joined .result) ≡ bytesOf "theta="
@@ -62,21 +47,9 @@ series c =
     (record { text = theta j }) (record { text = k .before .two2 .ensures .holds })
     (record { text = k .two3 .ensures .holds })
 
-enum-known-next : tie.Need-enum-known-next
-enum-known-next c = search needs
-
-enum-told : tie.Need-enum-told
-enum-told c = search needs
-
-blank-requires : tie.Need-blank-requires
-blank-requires c κs = search needs
-
 returns : tie.Need-returns
 returns c =
     sym (series-malformed _ _ (four-malformed _ (series (c .before .before .before)) (c .before .enum-told .given .1)))
-
-ages-at-requires : tie.Need-ages-at-requires
-ages-at-requires c κs = search needs
 
 returns-2 : tie.Need-returns-2
 returns-2 c =
@@ -97,17 +70,5 @@ returns-2 c =
 pub set-at-spec : {M : Type 1} → statement M
 set-at-spec =
     tie.close
-    (tie.spec
-    two-requires
-    three-requires
-    three-requires-2
-    joined-requires
-    two-requires-2
-    two-requires-3
-    four-at-requires
-    enum-known-next
-    enum-told
-    blank-requires
-    returns
-    ages-at-requires
-    returns-2)
+    (tie.spec (search needs) (search needs) (search needs) joined-requires (search needs) (search needs)
+    four-at-requires (search needs) (search needs) (search needs) returns (search needs) returns-2)

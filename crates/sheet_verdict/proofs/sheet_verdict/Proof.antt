@@ -6,20 +6,11 @@ use Rattle.sheet_verdict.specs.VerdictLaws.{verdict-refused, verdict-giv
 use Rattle.sheet_verdict.proofs.sheet_verdict.Statement.{statement}
 use Rattle.sheet_verdict.proofs.sheet_verdict.Tie as tie
 
-read-requires : tie.Need-read-requires
-read-requires c κs = search needs
-
-refusal-number-requires : tie.Need-refusal-number-requires
-refusal-number-requires c κs = search needs
-
 returns : tie.Need-returns
 returns c =
     let n = c .before in
     let r = n .before .before in
     verdict-refused _ _ _ (r .read .ensures) (n .refusal-number .ensures) (λ e. omega (arith, e, c .if1 .taken))
-
-verdict-on-requires : tie.Need-verdict-on-requires
-verdict-on-requires c κs = search needs
 
 returns-2 : tie.Need-returns-2
 returns-2 c =
@@ -30,4 +21,4 @@ returns-2 c =
     (rw (toZ-ofZ (f .year)) at (c .verdict-on .ensures .0))
 
 pub sheet-verdict-spec : {M : Type 1} → statement M
-sheet-verdict-spec = tie.close (tie.spec read-requires refusal-number-requires returns verdict-on-requires returns-2)
+sheet-verdict-spec = tie.close (tie.spec (search needs) (search needs) returns (search needs) returns-2)

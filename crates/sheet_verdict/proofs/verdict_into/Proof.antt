@@ -5,12 +5,6 @@ use Rattle.sheet_verdict.specs.VerdictLaws.{put-same}
 use Rattle.sheet_verdict.proofs.verdict_into.Statement.{statement}
 use Rattle.sheet_verdict.proofs.verdict_into.Tie as tie
 
-sheet-verdict-requires : tie.Need-sheet-verdict-requires
-sheet-verdict-requires c κs = search needs
-
-put-judged-requires : tie.Need-put-judged-requires
-put-judged-requires c κs = search needs
-
 returns : tie.Need-returns
 returns c =
     let a = c .before in
@@ -18,4 +12,4 @@ returns c =
     put-same _ (rw (toZ-ofZ (f .year)) at (a .sheet-verdict .ensures)) (c .put-judged .ensures)
 
 pub verdict-into-spec : {M : Type 1} → statement M
-verdict-into-spec = tie.close (tie.spec sheet-verdict-requires put-judged-requires returns)
+verdict-into-spec = tie.close (tie.spec (search needs) (search needs) returns)

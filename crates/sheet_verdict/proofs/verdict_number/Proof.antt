@@ -5,15 +5,6 @@ use Rattle.sheet_verdict.specs.SheetVerdict.{verdictNumber}
 use Rattle.sheet_verdict.proofs.verdict_number.Statement.{statement}
 use Rattle.sheet_verdict.proofs.verdict_number.Tie as tie
 
-enum-told : tie.Need-enum-told
-enum-told c = search needs
-
-enum-told-2 : tie.Need-enum-told-2
-enum-told-2 c = search needs
-
-enum-told-3 : tie.Need-enum-told-3
-enum-told-3 c = search needs
-
 returns : tie.Need-returns
 unfolding verdictNumber
 returns c = sym (ap verdictNumber (c .enum-told .given .1))
@@ -27,4 +18,4 @@ unfolding verdictNumber
 returns-3 c = sym (ap verdictNumber (c .enum-told3 .given .1))
 
 pub verdict-number-spec : {M : Type 1} → statement M
-verdict-number-spec = tie.close (tie.spec enum-told enum-told-2 enum-told-3 returns returns-2 returns-3)
+verdict-number-spec = tie.close (tie.spec (search needs) (search needs) (search needs) returns returns-2 returns-3)

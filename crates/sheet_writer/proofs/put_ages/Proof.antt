@@ -58,9 +58,6 @@ loop-holds c =
     let s = c .before .args in
     (omega arith, put-as (sym (ages-none (s .t3))) (put-none (s .buffer .now) (s .at)))
 
-age-of-runs-requires : tie.Need-age-of-runs-requires Inv-loop μ-loop
-age-of-runs-requires c κs = search needs
-
 put-age-requires : tie.Need-put-age-requires Inv-loop μ-loop
 put-age-requires c κs =
     let l = turn (c .before) in
@@ -69,12 +66,6 @@ put-age-requires c κs =
     let h : x < ages = within (c .before) in
     let w = subst AgeWithin (sym (read (c .before))) (in-limits-age (s .args .t3) (s .pre .0) x h) in
     (w, h, room-as (sym (text (c .before))) (room-rest (l .loop .inv .1) (room s x h)))
-
-add-age : tie.Need-add-age Inv-loop μ-loop
-add-age c = omega arith
-
-loop-less : tie.Need-loop-less Inv-loop μ-loop
-loop-less c = omega arith
 
 loop-again : tie.Need-loop-again Inv-loop μ-loop
 loop-again c =
@@ -89,20 +80,8 @@ loop-again c =
 same-length : tie.Need-same-length Inv-loop μ-loop
 same-length c = put-length (all c) (c .before .before .before .pre .1)
 
-returns : tie.Need-returns Inv-loop μ-loop
-returns c = all c
-
 pub put-ages-spec : {M : Type 1} → statement M
 put-ages-spec =
     tie.close
-    (tie.spec
-    Inv-loop
-    μ-loop
-    loop-holds
-    age-of-runs-requires
-    put-age-requires
-    add-age
-    loop-less
-    loop-again
-    same-length
-    returns)
+    (tie.spec Inv-loop μ-loop loop-holds (search needs) put-age-requires (λ c. omega arith) (λ c. omega arith)
+    loop-again same-length all)

@@ -50,9 +50,6 @@ put-ages-requires c κs =
     let s = start (first c₂) in
     (s .pre .0, three-third (parts s) (head (first c₂)) (series c₂))
 
-same-length : tie.Need-same-length
-same-length c = search needs
-
 returns : tie.Need-returns
 returns c =
     let c₂ = c .before .before .before .before .before .before in
@@ -61,6 +58,4 @@ returns c =
     (three-put (parts s) (head (first c₂)) (series c₂) (c .before .before .put-ages .ensures))
 
 pub put-sheet-spec : {M : Type 1} → statement M
-put-sheet-spec =
-    tie.close
-    (tie.spec put-head-requires put-series-requires put-ages-requires same-length returns)
+put-sheet-spec = tie.close (tie.spec put-head-requires put-series-requires put-ages-requires (search needs) returns)

@@ -13,9 +13,6 @@ use Rattle.sheet_writer.proofs.write.Tie as tie
 in-limits : (c : tie.Else1) → inLimits (c .before .before .before .args .p) ≡ true
 in-limits c = let t = c .before .in-limits in sym (t .ensures) ∙ not-false (t .result) (c .if1 .left)
 
-in-limits-requires : tie.Need-in-limits-requires
-in-limits-requires c κs = search needs
-
 returns : tie.Need-returns
 returns c =
     let s = c .before .before .before .args in
@@ -37,9 +34,6 @@ put-sheet-requires c κs = (
   record { fits = omega (arith, c .before .before .sheet-len .ensures, c .before .if2 .left) },
 )
 
-same-length : tie.Need-same-length
-same-length c = search needs
-
 returns-3 : tie.Need-returns-3
 returns-3 c =
     let e = c .before .before .before .before in
@@ -50,12 +44,4 @@ returns-3 c =
 
 pub write-spec : {M : Type 1} → statement M
 write-spec =
-    tie.close
-    (tie.spec
-    in-limits-requires
-    returns
-    sheet-len-requires
-    returns-2
-    put-sheet-requires
-    same-length
-    returns-3)
+    tie.close (tie.spec (search needs) returns sheet-len-requires returns-2 put-sheet-requires (search needs) returns-3)

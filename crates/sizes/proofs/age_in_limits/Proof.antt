@@ -69,29 +69,17 @@ past-slope c e = past-level (c .before .before .before) (passes (c .if2 .left) (
 
 -- ---- the needs
 
-within-requires : tie.Need-within-requires
-within-requires c κs = search needs
-
 returns : tie.Need-returns
 unfolding ageInLimits
 returns c = fails _ (c .if1 .taken) (level-test (c .before))
-
-within-requires-2 : tie.Need-within-requires-2
-within-requires-2 c κs = search needs
 
 returns-2 : tie.Need-returns-2
 unfolding ageInLimits
 returns-2 c = past-level (c .before .before .before) (fails _ (c .if2 .taken) (slope-test (c .before)))
 
-within-requires-3 : tie.Need-within-requires-3
-within-requires-3 c κs = search needs
-
 returns-3 : tie.Need-returns-3
 unfolding ageInLimits
 returns-3 c = past-slope (c .before .before .before) (fails _ (c .if3 .taken) (alpha-test (c .before)))
-
-within-requires-4 : tie.Need-within-requires-4
-within-requires-4 c κs = search needs
 
 returns-4 : tie.Need-returns-4
 unfolding ageInLimits
@@ -102,12 +90,4 @@ returns-4 c =
 pub age-in-limits-spec : {M : Type 1} → statement M
 age-in-limits-spec =
     tie.close
-    (tie.spec
-    within-requires
-    returns
-    within-requires-2
-    returns-2
-    within-requires-3
-    returns-3
-    within-requires-4
-    returns-4)
+    (tie.spec (search needs) returns (search needs) returns-2 (search needs) returns-3 (search needs) returns-4)

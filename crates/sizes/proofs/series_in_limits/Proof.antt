@@ -121,22 +121,13 @@ past-last c e =
 
 -- ---- the needs
 
-within-requires : tie.Need-within-requires
-within-requires c κs = search needs
-
 returns : tie.Need-returns
 unfolding seriesInLimits
 returns c = fails _ (c .if1 .taken) (a-test (c .before))
 
-within-requires-2 : tie.Need-within-requires-2
-within-requires-2 c κs = search needs
-
 returns-2 : tie.Need-returns-2
 unfolding seriesInLimits
 returns-2 c = past-a (c .before .before .before) (fails _ (c .if2 .taken) (theta-test (c .before)))
-
-within-requires-3 : tie.Need-within-requires-3
-within-requires-3 c κs = search needs
 
 returns-3 : tie.Need-returns-3
 unfolding seriesInLimits
@@ -148,16 +139,10 @@ mul-within c = let e = c .before .before in years-fit (theta-under e) (period-un
 add-within : tie.Need-add-within
 add-within c = let e = c .before .before .before .before in last-fits (theta-under e) (period-under e)
 
-within-requires-4 : tie.Need-within-requires-4
-within-requires-4 c κs = search needs
-
 returns-4 : tie.Need-returns-4
 unfolding seriesInLimits
 returns-4 c =
     past-period (c .before .before .before .before .before .before) (fails _ (c .if4 .taken) (last-test (c .before)))
-
-within-requires-5 : tie.Need-within-requires-5
-within-requires-5 c κs = search needs
 
 returns-5 : tie.Need-returns-5
 unfolding seriesInLimits
@@ -166,16 +151,5 @@ returns-5 c = past-last (c .before .before) (kappa-test c)
 pub series-in-limits-spec : {M : Type 1} → statement M
 series-in-limits-spec =
     tie.close
-    (tie.spec
-    within-requires
-    returns
-    within-requires-2
-    returns-2
-    within-requires-3
-    returns-3
-    mul-within
-    add-within
-    within-requires-4
-    returns-4
-    within-requires-5
-    returns-5)
+    (tie.spec (search needs) returns (search needs) returns-2 (search needs) returns-3 mul-within add-within
+    (search needs) returns-4 (search needs) returns-5)

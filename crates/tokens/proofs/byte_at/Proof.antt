@@ -9,11 +9,8 @@ use Rattle.tokens.proofs.byte_at.Tie as tie
 returns : tie.Need-returns
 returns c = sym (text-short _ _ _ (omega arith))
 
-shared-slice-read-result : tie.Need-shared-slice-read-result
-shared-slice-read-result c = search needs
-
 returns-2 : tie.Need-returns-2
 returns-2 c = byte-there _ _ _ (omega arith)
 
 pub byte-at-spec : {M : Type 1} → statement M
-byte-at-spec = tie.close (tie.spec returns shared-slice-read-result returns-2)
+byte-at-spec = tie.close (tie.spec returns (search needs) returns-2)

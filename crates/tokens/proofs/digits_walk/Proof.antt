@@ -20,18 +20,9 @@ Inv-loop bytes at most value₀ count₀ value count =
 abbrev μ-loop : tie.MeasureT-loop
 μ-loop bytes at most value₀ count₀ value count = most - count
 
-room-requires : tie.Need-room-requires Inv-loop μ-loop
-room-requires c κs = search needs
-
 loop-holds : tie.Need-loop-holds Inv-loop μ-loop
 loop-holds c =
     (⊎-elim (λ w. omega arith) (λ w. omega arith) (c .if1 .came), search needs, run-start _ _)
-
-add-digit : tie.Need-add-digit Inv-loop μ-loop
-add-digit c = search needs
-
-shared-slice-read-digit : tie.Need-shared-slice-read-digit Inv-loop μ-loop
-shared-slice-read-digit c = search needs
 
 mul-value : tie.Need-mul-value Inv-loop μ-loop
 mul-value c =
@@ -45,12 +36,6 @@ add-value : tie.Need-add-value Inv-loop μ-loop
 add-value c =
     let head = c .before .before .before .before in
     omega (arith, ltb-false, run-bound _ _ (head .loop .inv .2) (omega arith))
-
-add-count : tie.Need-add-count Inv-loop μ-loop
-add-count c = search needs
-
-loop-less : tie.Need-loop-less Inv-loop μ-loop
-loop-less c = search needs
 
 loop-again : tie.Need-loop-again Inv-loop μ-loop
 loop-again c =
@@ -73,18 +58,5 @@ returns-2 c =
 pub digits-walk-spec : {M : Type 1} → statement M
 digits-walk-spec =
     tie.close
-    (tie.spec
-    Inv-loop
-    μ-loop
-    room-requires
-    loop-holds
-    add-digit
-    shared-slice-read-digit
-    mul-value
-    cast-value
-    add-value
-    add-count
-    loop-less
-    loop-again
-    returns
-    returns-2)
+    (tie.spec Inv-loop μ-loop (search needs) loop-holds (search needs) (search needs) mul-value cast-value add-value
+    (search needs) (search needs) loop-again returns returns-2)

@@ -14,24 +14,12 @@ use Rattle.tokens.proofs.TextSteps.{word-says}
 use Rattle.tokens.proofs.short_at.Statement.{statement}
 use Rattle.tokens.proofs.short_at.Tie as tie
 
-room-requires : tie.Need-room-requires
-room-requires c κs = search needs
-
-bytes-of-requires : tie.Need-bytes-of-requires
-bytes-of-requires c κs = search needs
-
-array-share-prefix-apart : tie.Need-array-share-prefix-apart
-array-share-prefix-apart c = search needs
-
 slice-aggregate-text-walk : tie.Need-slice-aggregate-text-walk
 slice-aggregate-text-walk c =
     let start = c .before .before .before .before .before in
     let apart = c .before .bytes-of in
     let l = lanes-length byteBits wordBytes (start .args .text .word) in
     sym (length-take-le _ (apart .result) (omega (arith, ap length (apart .ensures))))
-
-text-walk-requires : tie.Need-text-walk-requires
-text-walk-requires c κs = search needs
 
 returns : tie.Need-returns
 returns c =
@@ -41,12 +29,6 @@ returns c =
     ∙ ap (λ (l : List ℕ). textAt (start .args .bytes .now) (start .args .at) l)
     (ap (λ (l : List ℕ). take (text .len) l) (c .before .before .bytes-of .ensures)
     ∙ lanes-take byteBits (text .len) wordBytes (text .word) (start .pre .short))
-
-word-at-requires : tie.Need-word-at-requires
-word-at-requires c κs = search needs
-
-same-bytes-requires : tie.Need-same-bytes-requires
-same-bytes-requires c κs = search needs
 
 returns-2 : tie.Need-returns-2
 returns-2 c =
@@ -58,13 +40,5 @@ returns-2 c =
 pub short-at-spec : {M : Type 1} → statement M
 short-at-spec =
     tie.close
-    (tie.spec
-    room-requires
-    bytes-of-requires
-    array-share-prefix-apart
-    slice-aggregate-text-walk
-    text-walk-requires
-    returns
-    word-at-requires
-    same-bytes-requires
-    returns-2)
+    (tie.spec (search needs) (search needs) (search needs) slice-aggregate-text-walk (search needs) returns
+    (search needs) (search needs) returns-2)

@@ -21,29 +21,11 @@ Inv-loop bytes at text done₀ done =
 abbrev μ-loop : tie.MeasureT-loop
 μ-loop bytes at text done₀ done = length text - done
 
-room-requires : tie.Need-room-requires Inv-loop μ-loop
-room-requires c κs = search needs
-
 returns : tie.Need-returns Inv-loop μ-loop
 returns c = sym (text-short _ _ _ (omega arith))
 
 loop-holds : tie.Need-loop-holds Inv-loop μ-loop
 loop-holds c = (search needs, text-start _ _ _)
-
-sub-loop : tie.Need-sub-loop Inv-loop μ-loop
-sub-loop c = search needs
-
-add-word-at : tie.Need-add-word-at Inv-loop μ-loop
-add-word-at c = search needs
-
-word-at-requires : tie.Need-word-at-requires Inv-loop μ-loop
-word-at-requires c κs = omega arith
-
-word-at-requires-2 : tie.Need-word-at-requires-2 Inv-loop μ-loop
-word-at-requires-2 c κs = omega arith
-
-same-bytes-requires : tie.Need-same-bytes-requires Inv-loop μ-loop
-same-bytes-requires c κs = search needs
 
 returns-2 : tie.Need-returns-2 Inv-loop μ-loop
 returns-2 c =
@@ -58,12 +40,6 @@ returns-2 c =
     compared .same-bytes .ensures .no (not-true _ (c .if2 .taken))
     (here .word-at .ensures ∙ e ∙ sym (there .word-at2 .ensures))))
 
-add-done : tie.Need-add-done Inv-loop μ-loop
-add-done c = search needs
-
-loop-less : tie.Need-loop-less Inv-loop μ-loop
-loop-less c = search needs
-
 loop-again : tie.Need-loop-again Inv-loop μ-loop
 loop-again c =
     let compared = c .before in
@@ -76,21 +52,6 @@ loop-again c =
           (sym (here .word-at .ensures) ∙ compared .same-bytes .ensures .yes (not-false _ (c .if2 .left))
           ∙ there .word-at2 .ensures),
     )
-
-add-text-walk : tie.Need-add-text-walk Inv-loop μ-loop
-add-text-walk c = search needs
-
-sub-text-walk : tie.Need-sub-text-walk Inv-loop μ-loop
-sub-text-walk c = search needs
-
-part-text-walk-start : tie.Need-part-text-walk-start Inv-loop μ-loop
-part-text-walk-start c = search needs
-
-part-text-walk-end : tie.Need-part-text-walk-end Inv-loop μ-loop
-part-text-walk-end c = search needs
-
-text-walk-requires : tie.Need-text-walk-requires Inv-loop μ-loop
-text-walk-requires c κs = search needs
 
 returns-3 : tie.Need-returns-3 Inv-loop μ-loop
 returns-3 c =
@@ -107,24 +68,6 @@ returns-3 c =
 pub text-at-spec : {M : Type 1} → statement M
 text-at-spec =
     tie.close
-    (tie.spec
-    Inv-loop
-    μ-loop
-    room-requires
-    returns
-    loop-holds
-    sub-loop
-    add-word-at
-    word-at-requires
-    word-at-requires-2
-    same-bytes-requires
-    returns-2
-    add-done
-    loop-less
-    loop-again
-    add-text-walk
-    sub-text-walk
-    part-text-walk-start
-    part-text-walk-end
-    text-walk-requires
-    returns-3)
+    (tie.spec Inv-loop μ-loop (search needs) returns loop-holds (search needs) (search needs) (λ c κs. omega arith)
+    (λ c κs. omega arith) (search needs) returns-2 (search needs) (search needs) loop-again (search needs)
+    (search needs) (search needs) (search needs) (search needs) returns-3)

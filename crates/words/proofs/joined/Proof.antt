@@ -7,21 +7,12 @@ use Rattle.words.specs.ShortTextLaws.{shift-exact, side-fits, side-holds
 use Rattle.words.proofs.joined.Statement.{statement}
 use Rattle.words.proofs.joined.Tie as tie
 
-mul-t3 : tie.Need-mul-t3
-mul-t3 c = search needs
-
-shl-t5 : tie.Need-shl-t5
-shl-t5 c = search needs
-
 add-t6 : tie.Need-add-t6
 add-t6 c =
     let start = c .before .before .before in
     let s = start .args .s in
     let t = start .args .t in
     record { fits = omega (arith, shift-exact s t (start .pre), side-fits s t (start .pre)) }
-
-add-t7 : tie.Need-add-t7
-add-t7 c = search needs
 
 returns : tie.Need-returns
 returns c =
@@ -30,4 +21,4 @@ returns c =
     (ap (λ (i : ℕ). i + start .args .s .word) (shift-exact (start .args .s) (start .args .t) (start .pre)))
 
 pub joined-spec : {M : Type 1} → statement M
-joined-spec = tie.close (tie.spec mul-t3 shl-t5 add-t6 add-t7 returns)
+joined-spec = tie.close (tie.spec (search needs) (search needs) add-t6 (search needs) returns)
