@@ -1,4 +1,6 @@
 -- definitions
 pub mod ColumnVerdict
+pub mod SheetVerdict
 -- laws
 pub mod ColumnTheorem
+pub mod VerdictLaws

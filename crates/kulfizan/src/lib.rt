@@ -4,7 +4,7 @@ ghost use mathlib.Core.Path.{_≡_};
 ghost use lib.ListN.{length};
 ghost use Rattle.set_numbers.specs.SetNumbers.{readNo, numbersAfter, writeNo, bufferAfter, lengthAfter};
 ghost use Rattle.sheet_quote.specs.SheetQuote.{kindOf, ratedKindOf, sheetAnswer, quoteNo, quoteAfter};
-ghost use Rattle.sheet_verdict.specs.SheetVerdict.{sheetVerdict, verdictNo, verdictAfter};
+ghost use Rattle.column_verdicts.specs.SheetVerdict.{sheetVerdict, verdictNo, verdictAfter};
 ghost use Rattle.kulfizan.specs.Run.{runNo, runBuffer, runLength};
 
 // Reads a sheet into the first 369 numbers: the sex, a, theta, K and k, and then A, B, alpha and beta of each age. The
@@ -77,7 +77,7 @@ pub extern "C" fn kulfizan_verdict(sheet: &[u8], year: i64, column: &[u8], verdi
     ensures { λ r. ⌜ now (verdict .exit)
         ≡ verdictAfter (sheetVerdict (now (sheet .entry)) year (now (column .entry))) (now (verdict .entry)) ⌝ }
 {
-    sheet_verdict::verdict_into(sheet, year, column, verdict)
+    column_verdicts::verdict_into(sheet, year, column, verdict)
 }
 
 // Writes the whole run of an input into the buffer, and its length: as the program `quotes` prints it where

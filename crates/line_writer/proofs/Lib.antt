@@ -1,1 +1,3 @@
 pub mod Small
+pub mod Four
+pub mod Line

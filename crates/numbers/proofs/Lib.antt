@@ -1,1 +1,4 @@
+pub mod Marking
+pub mod Packing
+pub mod Cutting
 pub mod WordSteps

@@ -10,8 +10,8 @@ use Rattle.params.specs.declared.Params.{Params}
 use Rattle.params.specs.declared.Age.{Age}
 use Rattle.params.specs.Set.{ages, ageOf}
 use Rattle.sheet.specs.Sheet.{forAges, ageValues, values, runFrom, paramsOf}
-use Rattle.sheet_ages.specs.Ages.{run}
-use Rattle.sheet_ages.specs.RunLaws.{Run, run-end}
+use Rattle.sheet_set.specs.Ages.{run}
+use Rattle.sheet_set.specs.RunLaws.{Run, run-end}
 use Rattle.set_numbers.specs.SetNumbers.{setLength, sexNumber, setNumbers, sexOf, setOf, over, setOver}
 
 -- ---- a set's numbers in front

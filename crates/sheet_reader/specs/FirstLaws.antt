@@ -26,8 +26,8 @@ use Rattle.sheet.specs.Sheet.{paramsOf, readSet, refused, judged, readSheet}
 use Rattle.tokens.specs.NumberTrip.{malformed-not-taken}
 use Rattle.sheet.specs.SetTrip.{keys-length}
 use Rattle.sheet.specs.SheetTrip.{then-taken, lines-reads, lines-read, head-reads, head-read, params-sheet, sheet-length}
-use Rattle.sheet_ages.specs.declared.SetRead.{SetRead}
-use Rattle.sheet_ages.specs.Ages.{setRead}
+use Rattle.sheet_set.specs.declared.SetRead.{SetRead}
+use Rattle.sheet_set.specs.Ages.{setRead}
 use Rattle.sheet_set.specs.SetLines.{fromLines}
 use Rattle.sheet_reader.specs.Read.{whole, setFront}
 use Rattle.sheet_reader.specs.SheetLaws.{front-whole, too-long, not-too-long}

@@ -22,8 +22,8 @@ use Rattle.params.specs.Set.{blank}
 use Rattle.params.specs.Limits.{inLimits}
 use Rattle.sheet.specs.Sheet.{mostBytes, headBytes, keys, headText, readLines, readHead, paramsOf, readSet}
 use Rattle.sheet.specs.Sheet.{refused, judged, readSheet}
-use Rattle.sheet_ages.specs.declared.SetRead.{SetRead}
-use Rattle.sheet_ages.specs.Ages.{setRead}
+use Rattle.sheet_set.specs.declared.SetRead.{SetRead}
+use Rattle.sheet_set.specs.Ages.{setRead}
 use Rattle.sheet_set.specs.SetLines.{fromLines}
 use Rattle.sheet_reader.specs.Read.{setFront, whole, atEnd, refusalOf}
 use Rattle.tokens.specs.Steps.{goes, stops}

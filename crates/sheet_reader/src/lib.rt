@@ -7,13 +7,13 @@ ghost use Rattle.tokens.specs.Text.{malformed, taken};
 ghost use Rattle.lines.specs.Lines.{firstLines};
 ghost use Rattle.params.specs.declared.Refusal.the-variants.{Malformed};
 ghost use Rattle.sheet.specs.Sheet.{sheetLines, refused, judged, readSheet};
-ghost use Rattle.sheet_ages.specs.Ages.{setRead};
+ghost use Rattle.sheet_set.specs.Ages.{setRead};
 ghost use Rattle.sheet_reader.specs.Read.{setFront, atEnd, refusalOf};
 use params::Params;
 use params::Refusal;
 use params::Sex;
 use sheet::Reading;
-use sheet_ages::SetRead;
+use sheet_set::SetRead;
 
 // The longest input that is read.
 pub const MOST_BYTES: usize = 65_536;

@@ -13,8 +13,8 @@ use Rattle.params.specs.declared.Sex.{Sex}
 use Rattle.params.specs.Set.{ages}
 use Rattle.sheet.specs.Sheet.{forAges, ageKeys, keys, readLines, runFrom, paramsOf}
 use Rattle.sheet_lines.specs.FourLaws.{after}
-use Rattle.sheet_ages.specs.Ages.{run, withRuns, fromAges}
-use Rattle.sheet_ages.specs.LinesLaws.{lines-malformed, lines-then}
+use Rattle.sheet_set.specs.Ages.{run, withRuns, fromAges}
+use Rattle.sheet_set.specs.LinesLaws.{lines-malformed, lines-then}
 use Rattle.sheet_set.specs.SetLines.{fromLines}
 
 run-behind : (i : ℕ) (a b c d : ℤ) (vs : List ℤ) (n : ℕ)

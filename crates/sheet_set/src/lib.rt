@@ -1,13 +1,82 @@
-// Reads the lines after a parameter sheet's first two into a set: those of the series, and those of the ages.
+// Reads the lines after a parameter sheet's first two into a set: those of the series, and those of ages 0 to 90.
 ghost use mathlib.Core.Path.{_≡_};
+ghost use mathlib.Core.List.{_++_};
+ghost use Prim.Native.Nat.{_<_};
 ghost use lib.ListN.{drop};
-ghost use Rattle.sheet.specs.Sheet.{headBytes};
-ghost use Rattle.sheet_ages.specs.Ages.{setRead};
+ghost use Rattle.words.specs.ShortText.{Holds};
+ghost use Rattle.tokens.specs.Text.{bytesOf};
+ghost use Rattle.tokens.specs.Number.{unsignedText};
+ghost use Rattle.params.specs.Set.{ages, Whole};
+ghost use Rattle.sheet.specs.Sheet.{readLines, ageKeys, headBytes};
+ghost use Rattle.sheet_lines.specs.Lines.{fourRead};
+ghost use Rattle.sheet_set.specs.Ages.{setRead, fromAges};
 ghost use Rattle.sheet_set.specs.SetLines.{fromLines};
 use params::Params;
 use params::Sex;
-use sheet_ages::SetRead;
 use sheet_lines::FourRead;
+use words::Short;
+
+// A set that was read, and the place that follows its lines, where nothing was malformed.
+pub struct SetRead {
+    pub ok: bool,
+    pub next: usize,
+    pub set: Params,
+}
+
+// The text of an age and the `=` after it.
+fn age_text(x: usize) -> Short
+    requires { ⌜ x < ages ⌝ }
+    ensures { λ r. ⌜ Holds r (unsignedText x ++ bytesOf "=") ⌝ }
+{
+    let units = b'0' + (x % 10) as u8;
+    if x < 10 {
+        return words::two(units, b'=');
+    }
+    words::three(b'0' + (x / 10) as u8, units, b'=')
+}
+
+// The four lines of age x at a place.
+fn age_at(bytes: &[u8], at: usize, x: usize) -> FourRead
+    requires { ⌜ x < ages ⌝ }
+    ensures { λ r. ⌜ fourRead (now (bytes .entry)) r ≡ readLines (ageKeys x) (drop at (now (bytes .entry))) ⌝ }
+{
+    let age = age_text(x);
+    let level = words::joined(words::two(b'A', b'.'), age);
+    let slope = words::joined(words::two(b'B', b'.'), age);
+    let alpha = words::joined(words::three(b'a', b'l', b'.'), age);
+    let beta = words::joined(words::three(b'b', b'e', b'.'), age);
+    sheet_lines::four_at(bytes, at, level, slope, alpha, beta)
+}
+
+// The lines of ages 0 to 90 at a place, into the runs of a set.
+fn ages_at(bytes: &[u8], at: usize, start: Params) -> SetRead
+    requires { ⌜ Whole start ⌝ }
+    ensures { λ r. ⌜ setRead (now (bytes .entry)) r ≡ fromAges start (drop at (now (bytes .entry))) ⌝ }
+{
+    let mut set = start;
+    let mut next = at;
+    let mut x: usize = 0;
+    while x < params::AGES {
+        let FourRead::Four(after, level, slope, alpha, beta) = age_at(bytes, next, x) else {
+            return SetRead {
+                ok: false,
+                next,
+                set,
+            };
+        };
+        set.level[x] = level;
+        set.slope[x] = slope;
+        set.alpha[x] = alpha;
+        set.beta[x] = beta;
+        next = after;
+        x += 1;
+    }
+    SetRead {
+        ok: true,
+        next,
+        set,
+    }
+}
 
 // The lines after the first two, into a set of this sex.
 pub fn set_at(bytes: &[u8], sex: Sex) -> SetRead
@@ -41,5 +110,5 @@ pub fn set_at(bytes: &[u8], sex: Sex) -> SetRead
         alpha: [0; params::AGES],
         beta: [0; params::AGES],
     };
-    sheet_ages::ages_at(bytes, next, start)
+    ages_at(bytes, next, start)
 }

@@ -21,7 +21,7 @@ fn put_ages(buffer: &mut [u8], at: usize, p: Params) -> usize
     let mut age: usize = 0;
     while age < AGES {
         let four = params::age_of_runs(&p.level, &p.slope, &p.alpha, &p.beta, age);
-        place = part_writer::put_age(buffer, place, four, age);
+        place = line_writer::put_age(buffer, place, four, age);
         age += 1;
     }
     place
@@ -34,7 +34,7 @@ fn put_sheet(buffer: &mut [u8], p: Params) -> usize
 {
     let sex = p.sex;
     let series = line_writer::put_head(buffer, sex);
-    let first = part_writer::put_series(buffer, series, p);
+    let first = line_writer::put_series(buffer, series, p);
     put_ages(buffer, first, p)
 }
 

@@ -10,7 +10,7 @@ use borrow.Author.Tests.{not-true, not-false}
 use Rattle.params.specs.Set.{ages, ageOf, four-age}
 use Rattle.params.specs.Limits.{inLimits, ageInLimits, agesInLimits}
 use Rattle.params.specs.LimitsLaws.{age-out}
-use Rattle.sizes.proofs.Sizes.{fails, passes}
+use Rattle.limits.proofs.Sizes.{fails, passes}
 use Rattle.limits.proofs.in_limits.Statement.{statement}
 use Rattle.limits.proofs.in_limits.Tie as tie
 

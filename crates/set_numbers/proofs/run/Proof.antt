@@ -12,7 +12,7 @@ use mir.Syntax.{w64}
 use mir.Val.{SFits, toZ, ofZ}
 use mir.Facts.{toZ-ofZ}
 use Rattle.params.specs.Set.{ages}
-use Rattle.sheet_ages.specs.RunLaws.{Run, run-start}
+use Rattle.sheet_set.specs.RunLaws.{Run, run-start}
 use Rattle.set_numbers.specs.SetNumbersLaws.{run-put, run-all}
 use Rattle.set_numbers.proofs.run.Statement.{statement}
 use Rattle.set_numbers.proofs.run.Tie as tie

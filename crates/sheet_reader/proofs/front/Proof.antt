@@ -7,8 +7,8 @@ use mathlib.Core.List.{List}
 use Prim.Native.Nat.{ℕ}
 use Rattle.tokens.specs.Text.{bytesOf, malformed}
 use Rattle.tokens.specs.Places.{textAt}
-use Rattle.sheet_ages.specs.declared.SetRead.{SetRead}
-use Rattle.sheet_ages.specs.Ages.{setRead}
+use Rattle.sheet_set.specs.declared.SetRead.{SetRead}
+use Rattle.sheet_set.specs.Ages.{setRead}
 use Rattle.sheet_reader.specs.Read.{setFront}
 use Rattle.sheet_reader.specs.SheetLaws.{sexText, head-none, head-m, head-f, head-malformed}
 use Rattle.sheet_reader.proofs.front.Statement.{statement}

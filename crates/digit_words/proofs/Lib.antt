@@ -1,3 +1,0 @@
-pub mod Marking
-pub mod Packing
-pub mod Cutting

@@ -1,5 +1,0 @@
--- definitions
-pub mod Ages
--- laws
-pub mod LinesLaws
-pub mod RunLaws

@@ -1,4 +1,0 @@
--- definitions
-pub mod SheetVerdict
--- laws
-pub mod VerdictLaws
