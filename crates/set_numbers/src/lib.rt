@@ -15,10 +15,10 @@ use params::Sex;
 use sheet::Written;
 
 // The sex, a, theta, K and k.
-const HEAD: usize = 5;
+const BEFORE_AGES: usize = 5;
 
 // These, and four numbers for each age.
-const SET_LENGTH: usize = HEAD + 4 * AGES;
+const SET_LENGTH: usize = BEFORE_AGES + 4 * AGES;
 
 // 0 for M and 1 for F.
 fn sex_number(sex: Sex) -> i64
@@ -54,7 +54,7 @@ fn put_set(values: &mut [i64], p: Params)
         let age = params::age_of_runs(&p.level, &p.slope, &p.alpha, &p.beta, x);
         put_four(
             values,
-            HEAD + 4 * x,
+            BEFORE_AGES + 4 * x,
             age.level,
             age.slope,
             age.alpha,

@@ -45,7 +45,7 @@ pub fn sheet_len(p: Params) -> usize
     requires { ⌜ T (inLimits p) ⌝ }
     ensures { λ r. ⌜ r ≡ length (sheetText p) ⌝ }
 {
-    let mut len = sheet::HEAD + series_len(p);
+    let mut len = sheet::HEAD_BYTES + series_len(p);
     let mut x: usize = 0;
     while x < AGES {
         let age = params::age_of_runs(&p.level, &p.slope, &p.alpha, &p.beta, x);

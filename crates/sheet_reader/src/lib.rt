@@ -13,13 +13,11 @@ use params::Params;
 use params::Refusal;
 use params::Sex;
 use sheet::Reading;
+use sheet::SHEET_LINES;
 use sheet_set::SetRead;
 
 // The longest input that is read.
 pub const MOST_BYTES: usize = 65_536;
-
-// The lines of a sheet.
-pub const SHEET_LINES: usize = 370;
 
 // The place of the sex.
 const SEX: usize = 17;

@@ -10,7 +10,7 @@ use Rattle.words.specs.ShortTextLaws.{holds-joins, holds-sized}
 use Rattle.tokens.specs.Text.{bytesOf}
 use Rattle.tokens.specs.Number.{zeroDigit, unsignedText}
 use Rattle.tokens.specs.DecimalLaws.{by-size, decimal-last, decimal-more, text-small}
-use Rattle.sheet_lines.specs.Lines.{Heads}
+use Rattle.sheet.specs.Lines.{Heads}
 
 pub two-digits : (x : ℕ) → 10 ≤ x → x < 100 → unsignedText x ≡ (zeroDigit + x / 10) ∷ (zeroDigit + x % 10) ∷ []
 unfolding unsignedText

@@ -7,7 +7,7 @@ use lib.IntN.{ℤ}
 use Rattle.tokens.specs.Text.{Parse, malformed, taken}
 use Rattle.sheet.specs.Sheet.{forAges, readLine, readLines}
 use Rattle.tokens.specs.Steps.{andThen, goes, stops}
-use Rattle.sheet_lines.specs.FourLaws.{after}
+use Rattle.sheet.specs.FourLaws.{after}
 
 after-none : (q : Parse (List ℤ)) → after [] q ≡ q
 after-none malformed = refl

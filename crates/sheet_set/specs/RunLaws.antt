@@ -12,7 +12,7 @@ use Rattle.params.specs.Set.{ages, Whole}
 use Rattle.sheet.specs.Sheet.{forAges, ageKeys, readLines}
 use Rattle.sheet_set.specs.Ages.{run, withRuns, fromAges}
 use Rattle.tokens.specs.Steps.{goes, stops}
-use Rattle.sheet_lines.specs.FourLaws.{after}
+use Rattle.sheet.specs.FourLaws.{after}
 use Rattle.sheet_set.specs.LinesLaws.{lines-then, ages-suc, more-malformed}
 
 -- ---- a run

@@ -12,7 +12,7 @@ use Rattle.params.specs.declared.Params.{Params}
 use Rattle.params.specs.declared.Sex.{Sex}
 use Rattle.params.specs.Set.{ages}
 use Rattle.sheet.specs.Sheet.{forAges, ageKeys, keys, readLines, runFrom, paramsOf}
-use Rattle.sheet_lines.specs.FourLaws.{after}
+use Rattle.sheet.specs.FourLaws.{after}
 use Rattle.sheet_set.specs.Ages.{run, withRuns, fromAges}
 use Rattle.sheet_set.specs.LinesLaws.{lines-malformed, lines-then}
 use Rattle.sheet_set.specs.SetLines.{fromLines}

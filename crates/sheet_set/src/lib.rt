@@ -8,12 +8,12 @@ ghost use Rattle.tokens.specs.Text.{bytesOf};
 ghost use Rattle.tokens.specs.Number.{unsignedText};
 ghost use Rattle.params.specs.Set.{ages, Whole};
 ghost use Rattle.sheet.specs.Sheet.{readLines, ageKeys, headBytes};
-ghost use Rattle.sheet_lines.specs.Lines.{fourRead};
+ghost use Rattle.sheet.specs.Lines.{fourRead};
 ghost use Rattle.sheet_set.specs.Ages.{setRead, fromAges};
 ghost use Rattle.sheet_set.specs.SetLines.{fromLines};
 use params::Params;
 use params::Sex;
-use sheet_lines::FourRead;
+use sheet::FourRead;
 use words::Short;
 
 // A set that was read, and the place that follows its lines, where nothing was malformed.
@@ -45,7 +45,7 @@ fn age_at(bytes: &[u8], at: usize, x: usize) -> FourRead
     let slope = words::joined(words::two(b'B', b'.'), age);
     let alpha = words::joined(words::three(b'a', b'l', b'.'), age);
     let beta = words::joined(words::three(b'b', b'e', b'.'), age);
-    sheet_lines::four_at(bytes, at, level, slope, alpha, beta)
+    sheet::four_at(bytes, at, level, slope, alpha, beta)
 }
 
 // The lines of ages 0 to 90 at a place, into the runs of a set.
@@ -82,9 +82,9 @@ fn ages_at(bytes: &[u8], at: usize, start: Params) -> SetRead
 pub fn set_at(bytes: &[u8], sex: Sex) -> SetRead
     ensures { λ r. ⌜ setRead (now (bytes .entry)) r ≡ fromLines sex (drop headBytes (now (bytes .entry))) ⌝ }
 {
-    let FourRead::Four(next, a, theta, period, kappa) = sheet_lines::four_at(
+    let FourRead::Four(next, a, theta, period, kappa) = sheet::four_at(
         bytes,
-        sheet::HEAD,
+        sheet::HEAD_BYTES,
         words::two(b'a', b'='),
         words::joined(
             words::three(b't', b'h', b'e'),

@@ -9,7 +9,7 @@ use lib.ListN.{drop}
 use Rattle.params.specs.Set.{ages}
 use Rattle.sheet_set.specs.RunLaws.{Filled, fill-start, fill-next, fill-malformed, fill-end}
 use Rattle.tokens.specs.ReadLaws.{held}
-use Rattle.sheet_lines.specs.ResultLaws.{four-malformed, four-taken}
+use Rattle.sheet.specs.ResultLaws.{four-malformed, four-taken}
 use Rattle.sheet_set.proofs.ages_at.Statement.{statement}
 use Rattle.sheet_set.proofs.ages_at.Tie as tie
 

@@ -9,8 +9,8 @@ use Rattle.words.specs.ShortTextLaws.{holds-joins, holds-sized}
 use Rattle.tokens.specs.Text.{bytesOf}
 use Rattle.tokens.specs.ReadLaws.{held}
 use Rattle.sheet.specs.Sheet.{headBytes, readLines}
-use Rattle.sheet_lines.specs.Lines.{fourRead}
-use Rattle.sheet_lines.specs.ResultLaws.{four-malformed, four-taken}
+use Rattle.sheet.specs.Lines.{fourRead}
+use Rattle.sheet.specs.ResultLaws.{four-malformed, four-taken}
 use Rattle.sheet_set.specs.SetLaws.{seriesKeys, series-malformed, series-read}
 use borrow.Author.Needs.{needs}
 use Rattle.sheet_set.proofs.set_at.Statement.{statement}

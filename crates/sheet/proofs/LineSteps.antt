@@ -16,9 +16,9 @@ use Rattle.tokens.specs.Number.{readNumber}
 use Rattle.tokens.specs.Places.{textAt, numberAt}
 use Rattle.tokens.specs.TextLaws.{text-found, text-missing}
 use Rattle.tokens.specs.NumberLaws.{number-found, number-malformed}
 use Rattle.sheet.specs.Sheet.{readLine}
 use Rattle.tokens.specs.Steps.{goes, stops}
-use Rattle.sheet_lines.specs.Lines.{Heads}
+use Rattle.sheet.specs.Lines.{Heads}
 
 module _ (bytes : List ℕ) (at : ℕ) (head : Short) {key : List ℕ} (k : Heads head key) where
   pub key-malformed : textAt bytes at (textOf head) ≡ false → readLine key (drop at bytes) ≡ malformed

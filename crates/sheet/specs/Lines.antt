@@ -10,9 +10,9 @@ use Rattle.words.specs.ShortText.{textOf}
 use Rattle.tokens.specs.declared.NumberRead.{NumberRead}
 use Rattle.tokens.specs.Text.{bytesOf, Parse, malformed, taken}
 use Rattle.tokens.specs.Places.{numberRead}
 use Rattle.sheet.specs.Sheet.{readLine, readLines}
-use Rattle.sheet_lines.specs.declared.FourRead.{FourRead}
-use Rattle.sheet_lines.specs.declared.FourRead.the-variants.{Malformed as MalformedFour, Four}
+use Rattle.sheet.specs.declared.FourRead.{FourRead}
+use Rattle.sheet.specs.declared.FourRead.the-variants.{Malformed as MalformedFour, Four}
 
 abbrev pub fourRead : List ℕ → FourRead → Parse (List ℤ)
 fourRead bytes MalformedFour = malformed

@@ -7,10 +7,10 @@ use Rattle.words.specs.ShortText.{textOf}
 use Rattle.tokens.specs.Text.{bytesOf}
 use Rattle.tokens.specs.TextLaws.{text-room}
 use Rattle.tokens.specs.ReadLaws.{held, has, lacks}
-use Rattle.sheet_lines.proofs.LineSteps.{key-malformed, no-number, feed-malformed, line-taken}
+use Rattle.sheet.proofs.LineSteps.{key-malformed, no-number, feed-malformed, line-taken}
 use borrow.Author.Needs.{needs}
-use Rattle.sheet_lines.proofs.line_at.Statement.{statement}
-use Rattle.sheet_lines.proofs.line_at.Tie as tie
+use Rattle.sheet.proofs.line_at.Statement.{statement}
+use Rattle.sheet.proofs.line_at.Tie as tie
 
 returns : tie.Need-returns
 returns c key e = sym (key-malformed _ _ _ e (lacks (c .before .short-at .ensures) (c .if1 .taken)))

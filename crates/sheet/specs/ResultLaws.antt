@@ -5,9 +5,9 @@ use mathlib.Core.List.{List, [], _∷_}
 use lib.IntN.{ℤ}
 use lib.ListN.{drop}
 use Rattle.tokens.specs.Text.{Parse, malformed, taken}
-use Rattle.sheet_lines.specs.declared.FourRead.{FourRead}
-use Rattle.sheet_lines.specs.declared.FourRead.the-variants.{Malformed, Four}
-use Rattle.sheet_lines.specs.Lines.{fourRead}
+use Rattle.sheet.specs.declared.FourRead.{FourRead}
+use Rattle.sheet.specs.declared.FourRead.the-variants.{Malformed, Four}
+use Rattle.sheet.specs.Lines.{fourRead}
 
 module _ (bytes : List ℕ) where
   pub four-malformed : {r : FourRead} {q : Parse (List ℤ)} → fourRead bytes r ≡ q → r ≡ Malformed → q ≡ malformed

@@ -1,10 +1,10 @@
 -- `four_at` meets its contract: the four lines one after another, each read or malformed.
 use mathlib.Core.Path.{sym}
-use Rattle.sheet_lines.specs.FourLaws.{four-malformed₀, four-malformed₁, four-malformed₂, four-malformed₃, four-taken}
+use Rattle.sheet.specs.FourLaws.{four-malformed₀, four-malformed₁, four-malformed₂, four-malformed₃, four-taken}
 use Rattle.tokens.specs.ReadLaws.{held, read-malformed, read-taken}
 use borrow.Author.Needs.{needs}
-use Rattle.sheet_lines.proofs.four_at.Statement.{statement}
-use Rattle.sheet_lines.proofs.four_at.Tie as tie
+use Rattle.sheet.proofs.four_at.Statement.{statement}
+use Rattle.sheet.proofs.four_at.Tie as tie
 
 returns : tie.Need-returns
 returns c k₀ k₁ k₂ k₃ e₀ e₁ e₂ e₃ =

@@ -1,5 +1,0 @@
--- definitions
-pub mod Lines
--- laws
-pub mod ResultLaws
-pub mod FourLaws
