@@ -1,8 +1,9 @@
 -- Room for the digits that are left: the number that they give is below 1,000,000.
 use mathlib.Core.Path.{_≡_}
 use Prim.Native.Nat.{ℕ, zero, suc, _+_, _-_, _*_, _^_, _≤_, _<_}
-use native.Mathlib.Nat.{pow-suc, pow-le-pow-right, zero-lt-suc, mul-le-mul, mul-le-mul-right}
+use native.Mathlib.Nat.{pow-suc, pow-le-pow-right, zero-lt-suc, mul-le-mul, mul-le-mul-right, le-trans}
 use native.Mathlib.Omega.{arith}
+use Rattle.tokens.specs.DigitLaws.{digit-within}
 use Rattle.column_text.specs.Column.{decimals}
 use Rattle.column_text.specs.QLaws.{mostSteps}
 
@@ -22,11 +23,8 @@ room-bound {v} {n} r =
     let p : 1 ≤ 10 ^ n = pow-le-pow-right {n = 10} (zero-lt-suc 9) h in
     omega (arith, r .room, mul-le-mul-right (suc v) p)
 
-grown : (v d p m : ℕ) → d ≤ 9 → suc v * (p * 10) ≤ m → suc (v * 10 + d) * p ≤ m
-grown v d p m h k = omega (arith, mul-le-mul-right p h)
-
 pub room-next : {v d : ℕ} (n : ℕ) → 0 < n → d ≤ 9 → Room v n → Room (v * 10 + d) (n - 1)
 room-next zero l h r = absurd (omega arith)
 room-next {v} {d} (suc n) l h r =
     let e : suc n - 1 ≡ n = omega arith in
-    record { room = rw e (grown v d (10 ^ n) mostSteps h (rw (pow-suc 10 n) at (r .room))) }
+    record { room = rw e (le-trans (digit-within v d 10 (10 ^ n) (omega arith)) (rw (pow-suc 10 n) at (r .room))) }

@@ -3,7 +3,7 @@ use mathlib.Core.Path.{_≡_, refl, sym, _∙_}
 use mathlib.Core.Bool.{Bool, true, false}
 use mathlib.Core.List.{List, [], _∷_}
 use Prim.Native.Nat.{ℕ, zero, suc, _+_, _-_, _*_, _^_, _≤_, _<_}
-use native.Mathlib.Nat.{pow-suc, mul-le-mul-right}
+use native.Mathlib.Nat.{pow-suc, lt-of-lt-of-le}
 use native.Mathlib.Numerals.{add-one}
 use native.Mathlib.Omega.{arith}
 use lib.ListN.{length, getD, drop, drop-of-length-le}
@@ -11,7 +11,7 @@ use lib.Seq.{drop-cons}
 use Rattle.tokens.specs.Text.{bytesOf, malformed, taken, takeText}
 use Rattle.tokens.specs.Number.{zeroDigit, isDigit}
 use Rattle.tokens.specs.Unsigned.{readDigits}
-use Rattle.tokens.specs.DigitLaws.{digit-bounds}
+use Rattle.tokens.specs.DigitLaws.{digit-bounds, digit-within}
 use Rattle.tokens.specs.FixedLaws.{read-all, read-past, read-other, read-digit}
 use Rattle.tokens.specs.NumberTrip.{malformed-not-taken}
 use Rattle.sheet.specs.SheetTrip.{then-taken}
@@ -23,9 +23,6 @@ use Rattle.column_text.specs.Column.{wholes, decimals, readQ, readEntry}
 -- ---- in a list
 
 -- n digits after those of v stand for less than (v + 1)·10ⁿ
-grown : (v d p w : ℕ) → d ≤ 9 → w < suc (v * 10 + d) * p → w < suc v * (p * 10)
-grown v d p w h k = omega (arith, mul-le-mul-right p h)
-
 pub digits-small : (v n : ℕ) (bs : List ℕ) {w : ℕ} {rest : List ℕ} → readDigits v n bs ≡ taken w rest → w < suc v * 10 ^ n
 digits-small v zero bs {w} {rest} e =
     let q : taken v bs ≡ taken w rest = sym (read-all v bs) ∙ e in
@@ -38,8 +35,8 @@ digits-small v (suc n) (b ∷ bs) {w} {rest} e = go (λ q. digits-small (v * 10 
         → (x : Bool) → isDigit b ≡ x → w < suc v * 10 ^ suc n
     go ih true h =
         let d = digit-bounds b h in
-        rw (pow-suc 10 n)
-        (grown v (b - zeroDigit) (10 ^ n) w (omega arith) (ih (sym (read-digit v n b bs h) ∙ e)))
+        let l = ih (sym (read-digit v n b bs h) ∙ e) in
+        rw (pow-suc 10 n) (lt-of-lt-of-le l (digit-within v (b - zeroDigit) 10 (10 ^ n) (omega arith)))
     go ih false h = malformed-not-taken (sym (read-other v n b bs h) ∙ e)
 
 -- q has at most 999,999 steps

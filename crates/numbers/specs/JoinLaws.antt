@@ -13,7 +13,7 @@ use Rattle.words.specs.Word.{laneSum}
 use Rattle.words.specs.LaneLaws.{Below, none, more}
 use Rattle.numbers.specs.Parts.{numeral, pairs}
 use Rattle.numbers.specs.Lanewise.{spread}
-use Rattle.numbers.specs.PairLaws.{below-more, pairs-length, pairs-below}
+use Rattle.numbers.specs.PairLaws.{below-more, pairs-length, pairs-below, two-places}
 
 -- the mask of the lower of each two of n + n lanes
 abbrev pub lowOfTwo : ℕ → ℕ → ℕ
@@ -34,9 +34,6 @@ masked k a m y x h l =
     and-block (k + k) a m (y * 2 ^ k + x) (2 ^ k - 1) both ones
     ∙ ap (λ (r : ℕ). bitAnd a m * 2 ^ (k + k) + r) (and-mask (y * 2 ^ k + x) k ∙ low y k l)
 
-regroup : (s w y x : ℕ) → (s * w + y) * w + x ≡ s * (w * w) + (y * w + x)
-regroup s w y x = omega arith
-
 regroup-split : (q r s w y : ℕ) → q * w + r ≡ s → s * w + y ≡ q * (w * w) + (r * w + y)
 regroup-split q r s w y e = omega (arith, ap (λ (a : ℕ). a * w) e)
 
@@ -53,7 +50,7 @@ module _ (k p s m y x : ℕ) (h : y < 2 ^ k) (l : x < 2 ^ k) where
 
   lower : bitAnd more-lanes more-mask ≡ bitAnd s m * 2 ^ (k + k) + x
   lower =
-      let e : more-lanes ≡ s * 2 ^ (k + k) + (y * 2 ^ k + x) = rw (pow-add 2 k k) (regroup s (2 ^ k) y x) in
+      let e : more-lanes ≡ s * 2 ^ (k + k) + (y * 2 ^ k + x) = rw (pow-add 2 k k) (two-places s (2 ^ k) y x) in
       ap (λ (a : ℕ). bitAnd a more-mask) e ∙ masked k s m y x h l
 
   shifted-down : more-lanes / 2 ^ k ≡ s / 2 ^ k * 2 ^ (k + k) + (s % 2 ^ k * 2 ^ k + y)

@@ -1,12 +1,13 @@
 -- Digits to a base: neighbours joined are half as many digits to the base squared, and stand for the same number.
 use mathlib.Core.Path.{_≡_, refl, ap, _∙_}
 use Prim.Native.Nat.{ℕ, zero, suc, _+_, _*_, _^_, _≤_, _<_}
-use native.Mathlib.Nat.{pow-zero, pow-suc, mul-le-mul-right, lt-of-lt-of-le}
+use native.Mathlib.Nat.{pow-zero, pow-suc, lt-of-lt-of-le}
 use native.Mathlib.Omega.{arith}
 use mathlib.Core.List.{List, [], _∷_}
 use lib.Arith.{digits-lt}
 use lib.ListN.{length}
 use Rattle.words.specs.LaneLaws.{Below, none, more}
+use Rattle.tokens.specs.DigitLaws.{digit-within}
 use Rattle.numbers.specs.Parts.{numeral, pairs}
 
 pub below-more : {b c : ℕ} {xs : List ℕ} → b ≤ c → Below b xs → Below c xs
@@ -29,8 +30,8 @@ pairs-below none = none
 pairs-below (more l none) = none
 pairs-below (more l (more m h)) = more (digits-lt l m) (pairs-below h)
 
-two-digits : (n p x y : ℕ) → (n * p + x) * p + y ≡ n * (p * p) + (x * p + y)
-two-digits n p x y = omega arith
+pub two-places : (n p x y : ℕ) → (n * p + x) * p + y ≡ n * (p * p) + (x * p + y)
+two-places n p x y = omega arith
 
 pub pairs-numeral : (p m n : ℕ) (xs : List ℕ) → length xs ≡ n + n → numeral p m xs ≡ numeral (p * p) m (pairs p xs)
 unfolding pairs numeral
@@ -40,16 +41,13 @@ pairs-numeral p m (suc n) [] e = absurd (omega arith)
 pairs-numeral p m (suc n) (x ∷ []) e = absurd (omega arith)
 pairs-numeral p m (suc n) (x ∷ y ∷ xs) e =
     pairs-numeral p ((m * p + x) * p + y) n xs (omega arith)
-    ∙ ap (λ (a : ℕ). numeral (p * p) a (pairs p xs)) (two-digits m p x y)
+    ∙ ap (λ (a : ℕ). numeral (p * p) a (pairs p xs)) (two-places m p x y)
 
 -- ---- the number
-
-grown : (n x p q v : ℕ) → x < p → v < suc (n * p + x) * q → v < suc n * (q * p)
-grown n x p q v h k = omega (arith, mul-le-mul-right q h)
 
 -- k digits after those of n stand for less than (n + 1)·pᵏ
 pub numeral-below : (p n : ℕ) {xs : List ℕ} → Below p xs → numeral p n xs < suc n * p ^ length xs
 unfolding numeral
 numeral-below p n none = rw (pow-zero p) (omega arith)
 numeral-below p n (more {x} {xs} l h) =
-    rw (pow-suc p (length xs)) (grown n x p (p ^ length xs) _ l (numeral-below p (n * p + x) h))
+    rw (pow-suc p (length xs)) (lt-of-lt-of-le (numeral-below p (n * p + x) h) (digit-within n x p (p ^ length xs) l))

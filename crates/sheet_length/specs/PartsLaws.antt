@@ -1,7 +1,7 @@
 -- Laws of a sheet's parts: how they make up the sheet, and how long they are.
 use mathlib.Core.Path.{_≡_, refl, ap}
 use mathlib.Core.List.{List, [], _∷_, _++_, append-assoc}
-use Prim.Native.Nat.{ℕ, zero, suc, _+_, _/_, _≤_, _<_}
+use Prim.Native.Nat.{ℕ, zero, suc, _+_, _≤_, _<_}
 use native.Mathlib.Nat.{eq-or-lt-of-le, le-of-suc-le-suc}
 use mathlib.Core.Logic.{⊎-elim}
 use native.Mathlib.Omega.{arith}
@@ -9,7 +9,6 @@ use lib.IntN.{ℤ}
 use lib.ListN.{length, length-append}
 use Rattle.tokens.specs.Text.{bytesOf}
 use Rattle.tokens.specs.Number.{unsignedText}
-use Rattle.printing.specs.NumberLengths.{text-small, text-step}
 use Rattle.params.specs.declared.Params.{Params}
 use Rattle.params.specs.declared.Age.{Age}
 use Rattle.params.specs.Set.{ages, ageOf}
@@ -69,14 +68,6 @@ sheet-parts p =
 
 pub sheet-sum : (p : Params) → length (sheetText p) ≡ headBytes + length (seriesText p) + length (agesText p ages)
 sheet-sum p = rw (sheet-parts p) (simp (length-append, head-length) (omega arith))
-
--- an age below 10 has one digit, and the others have two
-pub one-digit : (x : ℕ) → x < 10 → length (unsignedText x) ≡ 1
-one-digit x h = ap length (text-small x h)
-
-pub two-digits : (x : ℕ) → 10 ≤ x → x < ages → length (unsignedText x) ≡ 2
-two-digits x h k =
-    rw (text-step x h (omega arith), length-append) (omega (arith, one-digit (x / 10) (omega arith)))
 
 -- a key, `=`, a number and a line feed
 line-length : (key : List ℕ) (v : ℤ) → length (lineText key v) ≡ lineLength (length key) v

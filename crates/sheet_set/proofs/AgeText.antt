@@ -1,26 +1,22 @@
--- The text of an age below 100: one digit or two; and the head of an age's line, a name and then that text with `=`.
+-- The text of an age below 100 and its `=`, and the head of an age's line, a name and then that text.
 use mathlib.Core.Path.{_≡_, sym, ap, ap₂, _∙_}
-use Prim.Native.Nat.{ℕ, _+_, _/_, _%_, _≤_, _<_}
+use Prim.Native.Nat.{ℕ, _≤_, _<_}
 use native.Mathlib.Omega.{arith}
-use mathlib.Core.List.{List, [], _∷_, _++_, append-assoc}
+use mathlib.Core.List.{List, _++_, append-assoc}
 use lib.ListN.{length, length-append}
 use Rattle.words.specs.declared.Short.{Short}
 use Rattle.words.specs.ShortText.{Sized, Holds, Joins, textOf}
 use Rattle.words.specs.ShortTextLaws.{holds-joins, holds-sized}
 use Rattle.tokens.specs.Text.{bytesOf}
-use Rattle.tokens.specs.Number.{zeroDigit, unsignedText}
-use Rattle.tokens.specs.DecimalLaws.{by-size, decimal-last, decimal-more, text-small}
+use Rattle.tokens.specs.Number.{unsignedText}
+use Rattle.tokens.specs.DecimalLaws.{by-size, text-small, text-two}
 use Rattle.sheet.specs.Lines.{Heads}
 
-pub two-digits : (x : ℕ) → 10 ≤ x → x < 100 → unsignedText x ≡ (zeroDigit + x / 10) ∷ (zeroDigit + x % 10) ∷ []
-unfolding unsignedText
-two-digits x h k = rw (decimal-more 14 x h, decimal-last 13 (x / 10) (omega arith))
-
--- with its `=` it has two bytes or three
+-- two bytes or three
 pub age-length : (x : ℕ) → x < 100
     → (0 < length (unsignedText x ++ bytesOf "=")) × (length (unsignedText x ++ bytesOf "=") ≤ 3)
 unfolding bytesOf
-age-length x k = by-size x (λ h. rw (text-small x h) (omega arith)) (λ h. rw (two-digits x h k) (omega arith))
+age-length x k = by-size x (λ h. rw (text-small x h) (omega arith)) (λ h. rw (text-two x h k) (omega arith))
 
 -- a name of at most five bytes and then the age: the two fit into a word, and are the head of a line
 module _ (x : ℕ) (k : x < 100) {age : Short} (h : Holds age (unsignedText x ++ bytesOf "=")) where

@@ -34,6 +34,10 @@ pub text-small : (n : ℕ) → n < 10 → unsignedText n ≡ (zeroDigit + n) ∷
 unfolding unsignedText
 text-small n h = decimal-last 14 n h
 
+pub text-two : (n : ℕ) → 10 ≤ n → n < 100 → unsignedText n ≡ (zeroDigit + n / 10) ∷ (zeroDigit + n % 10) ∷ []
+unfolding unsignedText
+text-two n h k = rw (decimal-more 14 n h, decimal-last 13 (n / 10) (omega arith))
+
 -- ---- lengths
 
 decimal-most : (m n : ℕ) → length (decimal m n) ≤ m

@@ -1,7 +1,7 @@
 -- The digits at the front of a list of bytes, what follows them, and the number that they stand for.
 use mathlib.Core.Path.{_≡_, refl, sym, ap, _∙_}
 use Prim.Native.Nat.{ℕ, suc, _+_, _-_, _*_, _^_, _≤_, _<_}
-use native.Mathlib.Nat.{pow-suc, mul-le-mul-right}
+use native.Mathlib.Nat.{pow-suc, mul-le-mul-right, lt-of-lt-of-le}
 use native.Mathlib.Omega.{arith}
 use mathlib.Core.Bool.{Bool, true, false, _&&_, and-false, false≢true}
 use mathlib.Core.List.{List, [], _∷_, _++_}
@@ -74,8 +74,9 @@ digits-length bs = sym (length-append (digits bs) (afterDigits bs)) ∙ ap lengt
 
 -- ---- the number
 
-grown : (n d p v : ℕ) → d ≤ 9 → v < suc (n * 10 + d) * p → v < suc n * (p * 10)
-grown n d p v h k = omega (arith, mul-le-mul-right p h)
+-- a digit x to the base p after those of n, and q numbers for each: no more than for n
+pub digit-within : (n x p q : ℕ) → x < p → suc (n * p + x) * q ≤ suc n * (q * p)
+digit-within n x p q h = omega (arith, mul-le-mul-right q h)
 
 -- k digits after those of n stand for less than (n + 1)·10ᵏ
 pub value-below : (n : ℕ) (bs : List ℕ) → valueFrom n (digits bs) < suc n * 10 ^ length (digits bs)
@@ -89,7 +90,7 @@ value-below n (b ∷ bs) = go (value-below (n * 10 + (b - zeroDigit)) bs) (isDig
     go ih true e =
         let w = digit-bounds b e in
         rw (digits-more b bs e, pow-suc 10 (length (digits bs)))
-        (grown n (b - zeroDigit) (10 ^ length (digits bs)) _ (omega arith) ih)
+        (lt-of-lt-of-le ih (digit-within n (b - zeroDigit) 10 (10 ^ length (digits bs)) (omega arith)))
     go ih false e = rw (digits-end b bs e) (omega arith)
 
 -- ---- which digits are a number: 1 to 15, and the first is `0` only where it is alone

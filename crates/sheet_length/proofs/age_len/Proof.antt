@@ -8,8 +8,9 @@ use native.Mathlib.Omega.{arith}
 use lib.IntN.{ℤ}
 use lib.ListN.{length}
 use Rattle.tokens.specs.Number.{unsignedText, numberText}
+use Rattle.tokens.specs.DecimalLaws.{text-small, text-two}
 use Rattle.sheet_length.specs.Parts.{lineLength}
-use Rattle.sheet_length.specs.PartsLaws.{one-digit, two-digits, age-length}
+use Rattle.sheet_length.specs.PartsLaws.{age-length}
 use Rattle.sheet_length.specs.Held.{AgeHeld, age-held}
 use Rattle.sheet_length.proofs.age_len.Statement.{statement}
 use Rattle.sheet_length.proofs.age_len.Tie as tie
@@ -19,8 +20,8 @@ digits : (c : tie.Joined1)
     → (c .if1 .digits ≡ length (unsignedText (c .before .args .x))) × (c .if1 .digits ≤ 2)
 digits c =
     ⊎-elim
-    (λ w. omega (arith, w .1, one-digit (c .before .args .x) (omega arith)))
-    (λ w. omega (arith, w .1, two-digits (c .before .args .x) (omega arith) (c .before .pre .1)))
+    (λ w. omega (arith, w .1, ap length (text-small (c .before .args .x) (omega arith))))
+    (λ w. omega (arith, w .1, ap length (text-two (c .before .args .x) (omega arith) (omega arith))))
     (c .if1 .came)
 
 -- ---- where the digits are known, seen from each line

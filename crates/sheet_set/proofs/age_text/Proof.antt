@@ -3,8 +3,7 @@ use mathlib.Core.Path.{_≡_}
 use Prim.Native.Nat.{_%_}
 use native.Mathlib.Omega.{arith}
 use Rattle.tokens.specs.Text.{bytesOf}
-use Rattle.tokens.specs.DecimalLaws.{text-small}
-use Rattle.sheet_set.proofs.AgeText.{two-digits}
+use Rattle.tokens.specs.DecimalLaws.{text-small, text-two}
 use borrow.Author.Needs.{needs}
 use Rattle.sheet_set.proofs.age_text.Statement.{statement}
 use Rattle.sheet_set.proofs.age_text.Tie as tie
@@ -20,7 +19,7 @@ returns-2 : tie.Need-returns-2
 unfolding bytesOf
 returns-2 c =
     let x = c .before .before .args .x in
-    rw (two-digits x (omega arith) (omega arith)) (c .three .ensures)
+    rw (text-two x (omega arith) (omega arith)) (c .three .ensures)
 
 pub age-text-spec : {M : Type 1} → statement M
 age-text-spec =
