@@ -1,6 +1,6 @@
 -- `rated_kind_of` meets its contract: malformed where the kind takes no rate, else the kind with the rate.
 use borrow.Author.Needs.{needs}
-use mathlib.Core.Path.{_≡_, sym, ap, _∙_}
+use mathlib.Core.Path.{sym, ap, _∙_}
 use lib.ListN.{drop}
 use mir.Facts.{toZ-ofZ}
 use Rattle.tokens.specs.Text.{taken}
@@ -8,19 +8,9 @@ use Rattle.tokens.specs.ReadLaws.{lacks, has}
 use Rattle.kinds.specs.declared.Kind.{Kind}
 use Rattle.kinds.specs.Kinds.{withRate}
 use Rattle.query.proofs.QuerySteps as steps
-use Rattle.sheet_quote.specs.SheetQuote.{wordKind}
 use Rattle.sheet_quote.specs.AnswerLaws.{rated-kind-malformed, rate-unasked, rate-given}
 use Rattle.sheet_quote.proofs.rated_kind_of.Statement.{statement}
 use Rattle.sheet_quote.proofs.rated_kind_of.Tie as tie
-
-abbrev called : tie.After-known-told → tie.After-word-kind
-called c = c .before .before .before
-
--- the word's kind, rates aside
-word-taken : (c : tie.After-known-told) → let w = called c .before .before .args .word .now in
-    let g = c .before .kind .given .0 in
-    wordKind w ≡ taken (g .0) (drop (g .1 .0) w)
-word-taken c = steps.kind-taken _ (called c .word-kind .ensures) (c .before .kind .given .1)
 
 returns : tie.Need-returns
 returns c =
@@ -30,17 +20,20 @@ returns c =
 returns-2 : tie.Need-returns-2
 returns-2 c =
     let t = c .before in
-    sym (rate-unasked _ (word-taken (t .before)) _ (lacks (t .takes-rate .ensures) (c .if1 .taken)))
+    let k = t .before .before in
+    let word = steps.kind-taken _ (k .before .before .word-kind .ensures) (k .kind .given .1) in
+    sym (rate-unasked _ word _ (lacks (t .takes-rate .ensures) (c .if1 .taken)))
 
 returns-3 : tie.Need-returns-3
 returns-3 c =
     let t = c .before .before in
-    let k = t .before in
-    let s = called k .before .before in
-    let g = k .before .kind .given .0 in
+    let k = t .before .before in
+    let w = k .before .before in
+    let s = w .before .before in
+    let g = k .kind .given .0 in
     ap (λ (r : Kind). taken r (drop (g .1 .0) (s .args .word .now)))
     (c .with-rate .ensures ∙ ap (withRate (g .0)) (toZ-ofZ (s .fits .rate)))
-    ∙ sym (rate-given _ (word-taken k) _ (has (t .takes-rate .ensures) (c .before .if1 .left)))
+    ∙ sym (rate-given _ (steps.kind-taken _ (w .word-kind .ensures) (k .kind .given .1)) _ (has (t .takes-rate .ensures) (c .before .if1 .left)))
 
 pub rated-kind-of-spec : {M : Type 1} → statement M
 rated-kind-of-spec =
