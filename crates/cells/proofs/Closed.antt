@@ -7,7 +7,7 @@ use Rattle.whole.specs.Bound.{under-weaken, under-floor, under-ceil}
 use Rattle.whole.specs.SignedEnds.{outward}
 use Rattle.whole.specs.declared.SignedEnds.{SignedEnds}
 use Rattle.whole.specs.EndLaws.{Within}
-use Rattle.weights.specs.Weights.{fitted, weightUnit}
+use Rattle.closure.specs.Weights.{fitted, weightUnit}
 use Rattle.logistic.specs.Code.{closedLimit}
 use Rattle.closure.specs.Closure.{weightedMean}
 use Rattle.closure.specs.Code.{InLimit, weightOf, RowWithin}

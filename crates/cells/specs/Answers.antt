@@ -8,16 +8,16 @@ use Rattle.expo.specs.Exponential.{expBetween}
 use Rattle.expo.specs.Billionths.{billionths}
 use Rattle.params.specs.declared.Params.{Params}
 use Rattle.series.specs.Series.{logForce, inRange}
-use Rattle.weights.specs.Weights.{firstClosed, weightRow}
+use Rattle.closure.specs.Weights.{firstClosed, weightRow}
 use Rattle.logistic.specs.Logistic.{logistic}
 use Rattle.closure.specs.Closure.{weightedMean}
 use Rattle.closure.specs.Code.{weightOf}
 use Rattle.closure.specs.Rows.{row-mean}
 use Rattle.cells.specs.declared.Cell.{Cell}
 use Rattle.cells.specs.declared.Cell.the-variants.{LogForceOutOfRange, Of}
-use Rattle.fitted_ages.specs.declared.Fitted.{Fitted}
+use Rattle.cells.specs.declared.Fitted.{Fitted}
 use Rattle.mortality.specs.Cell.{youngForce, oldForce, force, survival, fittedList, neededInRange}
-use Rattle.fitted_ages.specs.Code.{FittedOf}
+use Rattle.cells.specs.Fitted.{FittedOf}
 use Rattle.cells.specs.Code.{youngCell, oldCell, cellOf}
 
 pub young-cell : (p : Params) {x : ℕ} (n : ℕ) → x < firstClosed → youngCell (logForce p x n) ≡ cellOf p x n

@@ -14,7 +14,7 @@ use Rattle.closure.specs.Closure.{weightedMean}
 use Rattle.closure.specs.Code.{weightOf}
 use Rattle.force.specs.Force.{negated}
 use Rattle.mortality.specs.Cell.{survival, neededInRange}
-use Rattle.fitted_ages.specs.declared.Fitted.{Fitted}
+use Rattle.cells.specs.declared.Fitted.{Fitted}
 use Rattle.cells.specs.declared.Cell.{Cell}
 use Rattle.cells.specs.declared.Cell.the-variants.{LogForceOutOfRange, Of}
 

@@ -1,4 +1,5 @@
 -- definitions
+pub mod Fitted
 pub mod Code
 -- laws
 pub mod Answers

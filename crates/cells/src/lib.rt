@@ -1,15 +1,52 @@
 // One cell of the table on the grid of 10^-9: p, the chance to live through the year, with two ends, from an age's
-// parameters at ages to 90 and by the closure above.
+// parameters at ages to 90 and by the closure above, which is fitted to the ages 80 to 90 of the year.
 ghost use mathlib.Core.Path.{_≡_};
 ghost use lib.Dec.{T};
 ghost use Rattle.series.specs.Series.{cellForce};
 ghost use Rattle.closure.specs.Code.{InLimit, RowWithin};
-ghost use Rattle.years.specs.Code.{CellWithin};
+ghost use Rattle.series.specs.Year.{CellWithin};
 ghost use Rattle.cells.specs.Code.{youngCell, oldCell};
+ghost use Rattle.cells.specs.Fitted.{LentIn, FittedIn};
+use closure::FIRST_FITTED;
+use closure::FITTED;
 use expo::Ends;
-use fitted_ages::Fitted;
+use params::AGES;
 use params::Age;
-use years::Year;
+use series::Year;
+use whole::SignedEnds;
+
+// The ends of H at ages 80 to 90 of a year, where its cells are in range.
+pub struct Fitted {
+    pub ok: bool,
+    pub ends: [SignedEnds; 11],
+}
+
+// The ends of H of a year of the set that lends the four runs.
+pub fn fitted_in<'a>(
+    level: &'a [i64; AGES],
+    slope: &'a [i64; AGES],
+    alpha: &'a [i64; AGES],
+    beta: &'a [i64; AGES],
+    y: Year,
+) -> Fitted
+    requires { ⌜ LentIn (now level) (now slope) (now alpha) (now beta) y ⌝ }
+    ensures { λ r. ⌜ FittedIn (now (level .entry)) (now (slope .entry)) (now (alpha .entry)) (now (beta .entry)) y r ⌝ }
+{
+    let mut ends = [SignedEnds { lower: 0, upper: 0 }; 11];
+    let mut i = 0;
+    while i < FITTED {
+        let m = series::log_force_at(
+            params::age_of_runs(level, slope, alpha, beta, FIRST_FITTED + i),
+            y,
+        );
+        if !series::in_range(m) {
+            return Fitted { ok: false, ends };
+        }
+        ends[i] = force::inverse_logistic(m);
+        i += 1;
+    }
+    Fitted { ok: true, ends }
+}
 
 // The ends of p, or a needed cell out of range.
 pub enum Cell {
@@ -22,7 +59,7 @@ pub fn young_cell(age: Age, y: Year) -> Cell
     requires { ⌜ CellWithin age y ⌝ }
     ensures { λ r. ⌜ r ≡ youngCell (cellForce age (y .period) (y .kappas)) ⌝ }
 {
-    let m = years::log_force_at(age, y);
+    let m = series::log_force_at(age, y);
     if !series::in_range(m) {
         return Cell::LogForceOutOfRange;
     }

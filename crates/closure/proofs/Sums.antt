@@ -12,8 +12,8 @@ use Rattle.whole.specs.declared.SignedEnds.{SignedEnds}
 use Rattle.whole.specs.SignedEnds.{leastProduct, greatestProduct}
 use Rattle.whole.specs.EndLaws.{Within, least-under, greatest-under}
 use Rattle.whole.proofs.Signed.{read, sum}
-use Rattle.weights.specs.Weights.{fitted}
-use Rattle.weights.specs.Totals.{weightLimit}
+use Rattle.closure.specs.Weights.{fitted}
+use Rattle.closure.specs.Totals.{weightLimit}
 use Rattle.closure.specs.Closure.{endsAt, leastSum, greatestSum}
 use Rattle.closure.specs.Code.{endLimit, sumsLimit, InLimit, weightOf, RowWithin, withProduct}
 

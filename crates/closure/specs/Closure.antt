@@ -5,7 +5,7 @@ use lib.IntN.{ℤ, pos, _+ℤ_}
 use lib.ListN.{getD}
 use Rattle.whole.specs.declared.SignedEnds.{SignedEnds}
 use Rattle.whole.specs.SignedEnds.{leastProduct, greatestProduct, outward}
-use Rattle.weights.specs.Weights.{fitted, weightUnit, weight}
+use Rattle.closure.specs.Weights.{fitted, weightUnit, weight}
 
 -- the ends of H at the i-th fitted age, of eleven
 abbrev pub endsAt : List SignedEnds → ℕ → SignedEnds

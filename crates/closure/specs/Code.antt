@@ -8,8 +8,8 @@ use Rattle.whole.specs.Bound.{Under}
 use Rattle.whole.specs.declared.SignedEnds.{SignedEnds}
 use Rattle.whole.specs.SignedEnds.{leastProduct, greatestProduct}
 use Rattle.whole.specs.EndLaws.{Within}
-use Rattle.weights.specs.Weights.{fitted}
-use Rattle.weights.specs.Totals.{weightLimit}
+use Rattle.closure.specs.Weights.{fitted}
+use Rattle.closure.specs.Totals.{weightLimit}
 use Rattle.closure.specs.Closure.{endsAt}
 
 -- how far from 0 an end of H and the weighted sums may lie

@@ -8,7 +8,7 @@ use lib.IntN.{ℤ, pos}
 use lib.ListN.{getD}
 use lib.Signed.{nonNeg}
 use Rattle.fraction.specs.Fraction.{Fraction, wholeℚ, _+ℚ_, scaleℚ, quotientℚ}
-use Rattle.weights.specs.Weights.{fitted, weightUnit, weight}
+use Rattle.closure.specs.Weights.{fitted, weightUnit, weight}
 use Rattle.logistic.specs.Units.{Interval}
 
 -- an order's interval of H at the i-th fitted age, of eleven

@@ -8,7 +8,7 @@ use lib.IntN.{ℤ, pos, negsuc}
 use Rattle.whole.specs.Order.{pos-nonneg}
 use Rattle.fraction.specs.Fraction.{_≤ℚ_, wholeℚ}
 use Rattle.fraction.specs.FractionLaws.{≤ℚ-refl, +ℚ-mono, scaleℚ-keeps, scaleℚ-exchanges, quotientℚ-mono}
-use Rattle.weights.specs.Weights.{fitted, weightUnit, weight}
+use Rattle.closure.specs.Weights.{fitted, weightUnit, weight}
 use Rattle.logistic.specs.Units.{Interval, Meet}
 use Rattle.closure.specs.WeightedSum.{negsuc-nonpos}
 use Rattle.closure.specs.Exact.{intervalAt, leastScaled, greatestScaled, exactLeastSum, exactGreatestSum, exactClosedSum}

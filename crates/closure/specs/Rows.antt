@@ -6,8 +6,8 @@ use native.Mathlib.Nat.{le-refl}
 use native.Mathlib.Omega.{arith}
 use lib.IntN.{ℤ}
 use Rattle.whole.specs.declared.SignedEnds.{SignedEnds}
-use Rattle.weights.specs.Weights.{fitted, firstClosed, lastClosed, weight, weightRow}
-use Rattle.weights.specs.WeightLaws.{row-weight, weight-under}
+use Rattle.closure.specs.Weights.{fitted, firstClosed, lastClosed, weight, weightRow}
+use Rattle.closure.specs.WeightLaws.{row-weight, weight-under}
 use Rattle.closure.specs.Closure.{leastSum, greatestSum, weightedMean, closedSum}
 use Rattle.closure.specs.Code.{weightOf, RowWithin}
 

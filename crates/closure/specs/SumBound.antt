@@ -10,9 +10,9 @@ use Rattle.whole.specs.Bound.{Under, under-add, under-mul}
 use Rattle.fraction.specs.Ratio.{Ratio, _≤/_, whole/, _+/_, _*/_, quotient/}
 use Rattle.fraction.specs.RatioLaws.{≤/-refl, ≤/-trans, whole/-+/, +/-mono, +/-*/, */-mono, quotient/-≤/}
 use Rattle.fraction.specs.Fraction.{Fraction, wholeℚ, absolute, _+ℚ_, scaleℚ, quotientℚ}
-use Rattle.weights.specs.Weights.{fitted, firstClosed, lastClosed, weightUnit, weight}
-use Rattle.weights.specs.Totals.{mostSize, sizeTotal}
-use Rattle.weights.specs.WeightLaws.{weights-size}
+use Rattle.closure.specs.Weights.{fitted, firstClosed, lastClosed, weightUnit, weight}
+use Rattle.closure.specs.Totals.{mostSize, sizeTotal}
+use Rattle.closure.specs.WeightLaws.{weights-size}
 use Rattle.logistic.specs.Units.{Bounded, Interval}
 use Rattle.closure.specs.Exact.{intervalAt, leastScaled, greatestScaled, exactLeastSum}
 use Rattle.closure.specs.Exact.{exactGreatestSum, exactClosedSum}

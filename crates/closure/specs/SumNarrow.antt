@@ -13,9 +13,9 @@ use Rattle.fraction.specs.Ratio.{Ratio, whole/, _*/_}
 use Rattle.fraction.specs.Fraction.{Fraction, _≤ℚ_, _≈ℚ_, wholeℚ, signed, _+ℚ_, _*ℚ_, scaleℚ, quotientℚ}
 use Rattle.fraction.specs.FractionLaws.{≤ℚ-refl, ≤ℚ-trans, ≈ℚ-difference, +ℚ-mono, +ℚ-comm, +ℚ-assoc, +ℚ-zero}
 use Rattle.fraction.specs.FractionLaws.{scaleℚ-keeps, scaleℚ-exchanges, scaleℚ-+ℚ, +ℚ-*ℚ, quotientℚ-≤ℚ, quotientℚ-*ℚ}
-use Rattle.weights.specs.Weights.{fitted, firstClosed, lastClosed, weightUnit, weight}
-use Rattle.weights.specs.Totals.{mostSize, sizeTotal}
-use Rattle.weights.specs.WeightLaws.{weights-size}
+use Rattle.closure.specs.Weights.{fitted, firstClosed, lastClosed, weightUnit, weight}
+use Rattle.closure.specs.Totals.{mostSize, sizeTotal}
+use Rattle.closure.specs.WeightLaws.{weights-size}
 use Rattle.logistic.specs.Units.{Interval}
 use Rattle.closure.specs.WeightedSum.{negsuc-nonpos}
 use Rattle.closure.specs.Exact.{intervalAt, leastScaled, greatestScaled, exactLeastSum}

@@ -13,9 +13,9 @@ use Rattle.whole.specs.SignedEnds.{leastProduct, greatestProduct, outward}
 use Rattle.whole.specs.Division.{floorDiv, ceilDiv}
 use Rattle.whole.specs.DivisionLaws.{split-floor, split-ceil, floor-mono, floor-le-ceil}
 use Rattle.whole.specs.EndLaws.{product-spread, product-ordered}
-use Rattle.weights.specs.Weights.{fitted, firstClosed, lastClosed, weightUnit, weight}
-use Rattle.weights.specs.Totals.{mostSize, sizeTotal}
-use Rattle.weights.specs.WeightLaws.{weights-size}
+use Rattle.closure.specs.Weights.{fitted, firstClosed, lastClosed, weightUnit, weight}
+use Rattle.closure.specs.Totals.{mostSize, sizeTotal}
+use Rattle.closure.specs.WeightLaws.{weights-size}
 use Rattle.closure.specs.Closure.{endsAt, leastSum, greatestSum, weightedMean, closedSum}
 
 -- ---- the sums of the first n

@@ -18,7 +18,7 @@ use Rattle.fraction.specs.Fraction.{_≤ℚ_, _≈ℚ_, wholeℚ, _+ℚ_, scale
 use Rattle.fraction.specs.FractionLaws.{≤ℚ-trans, ≤ℚ-difference, ≈ℚ-difference, +ℚ-mono, scaleℚ-keeps}
 use Rattle.fraction.specs.FractionLaws.{scaleℚ-exchanges, quotientℚ-mono}
 use Rattle.expo.specs.Grid.{Grid}
-use Rattle.weights.specs.Weights.{fitted, weightUnit, weight}
+use Rattle.closure.specs.Weights.{fitted, weightUnit, weight}
 use Rattle.logistic.specs.Units.{Interval, inUnitsℚ, SignedOverlap}
 use Rattle.closure.specs.Closure.{endsAt, leastSum, greatestSum, weightedMean, closedSum}
 use Rattle.closure.specs.Exact.{intervalAt, leastScaled, greatestScaled, exactLeastSum}

@@ -10,7 +10,7 @@ use lib.IntN.{ℤ, pos, negsuc, natAbs, pos-ne-negsuc}
 use lib.ListN.{getD, set}
 use lib.Signed.{ltZ, nonNeg}
 use Rattle.tokens.specs.Text.{malformed, taken}
-use Rattle.weights.specs.Weights.{lastClosed}
+use Rattle.closure.specs.Weights.{lastClosed}
 use Rattle.table_tests.specs.TableTests.{ageInTable}
 use Rattle.table_tests.specs.TableLaws.{within}
 use Rattle.table_tests.proofs.Signs.{below-not-least, not-below-least}

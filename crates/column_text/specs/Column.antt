@@ -12,7 +12,7 @@ use Rattle.tokens.specs.Text.{bytesOf, Parse, malformed, taken, takeText}
 use Rattle.tokens.specs.Unsigned.{readDigits}
 use Rattle.tokens.specs.Steps.{andThen}
 use Rattle.lines.specs.Lines.{lines}
-use Rattle.weights.specs.Weights.{lastClosed}
+use Rattle.closure.specs.Weights.{lastClosed}
 use Rattle.table_tests.specs.TableTests.{ageInTable}
 use Rattle.query.specs.Query.{readField, alone}
 use Rattle.column_text.specs.declared.Entry.{Entry}

@@ -8,7 +8,7 @@ use Rattle.tokens.specs.Number.{isDigit, digits, afterDigits, valueFrom, noLead
 use Rattle.tokens.specs.Number.{readUnsigned, negated, positive, readNumber, decimal, unsignedText}
 use Rattle.tokens.specs.Unsigned.{leading, readDigits}
 use Rattle.lines.specs.Lines.{ahead, lines}
-use Rattle.weights.specs.Weights.{lastClosed}
+use Rattle.closure.specs.Weights.{lastClosed}
 use Rattle.table_tests.specs.TableTests.{ageInTable}
 use Rattle.query.specs.Query.{readField, alone}
 use Rattle.column_text.specs.Column.{columnLines, readQ, readEntry, readEntries, entriesOf, isAge, ofAge}

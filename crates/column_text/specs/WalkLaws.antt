@@ -18,7 +18,7 @@ use Rattle.tokens.specs.Text.{Parse, malformed, taken}
 use Rattle.tokens.specs.Steps.{andThen, goes, stops}
 use Rattle.lines.specs.Lines.{firstLine, afterLine, lines}
 use Rattle.lines.specs.LineLaws.{after-drop, line-some, lines-none, lines-first}
-use Rattle.weights.specs.Weights.{lastClosed}
+use Rattle.closure.specs.Weights.{lastClosed}
 use Rattle.table_tests.specs.TableTests.{ageInTable}
 use Rattle.table_tests.specs.TableLaws.{within}
 use Rattle.column_text.specs.declared.Entry.{Entry}

@@ -7,9 +7,9 @@ ghost use Rattle.column_text.specs.Column.{decimals, readQ, readEntry, c
 ghost use Rattle.column_text.specs.Table.{withEntry, withLine, tableSteps};
 ghost use Rattle.column_text.specs.QLaws.{mostSteps};
 ghost use Rattle.column_text.specs.Code.{unsignedRead, entryRead, listRead, columnRead};
+use closure::LAST_CLOSED;
 use tokens::NumberRead;
 use tokens::UnsignedRead;
-use weights::LAST_CLOSED;
 
 // A line for each age.
 pub const COLUMN_LINES: usize = LAST_CLOSED + 1;

@@ -10,7 +10,7 @@ use lib.IntN.{ℤ, pos}
 use Rattle.whole.specs.Listed.{listed}
 use Rattle.whole.specs.Division.{floorDiv, ceilDiv, ceilDivℕ}
 use Rattle.whole.specs.SignedEnds.{leastProduct, greatestProduct, outward}
-use Rattle.alternating.specs.Alternating.{double}
+use Rattle.taylor.specs.Alternating.{double}
 use Rattle.expo.specs.Exponential.{nextLower, nextUpper, termLower, termUpper, total, evens, odds, sumLower, sumUpper}
 use Rattle.expo.specs.Exponential.{constantLower, constantUpper, expLower, expUpper, expBetween}
 use Rattle.expo.specs.Billionths.{wholeParts}
@@ -24,8 +24,8 @@ use Rattle.sheet.specs.declared.Reading.{Reading}
 use Rattle.sheet.specs.Sheet.{ageValues, values, sheetText, refused, readSheet}
 use Rattle.sheet.specs.SheetTrip.{AllSmall, in-limits-small, written-reads-back, written-out-of-limits}
 use Rattle.series.specs.Series.{periodIn, kappaIn, kappaStep, cellForce, logForce, inRange}
-use Rattle.weights.specs.Weights.{weight, weightRow, weightTable, rowTotal, beside, totalled, ruled}
-use Rattle.weights.specs.WeightLaws.{row-total}
+use Rattle.closure.specs.Weights.{weight, weightRow, weightTable, rowTotal, beside, totalled, ruled}
+use Rattle.closure.specs.WeightLaws.{row-total}
 use Rattle.mortality.specs.Cell.{neededInRange}
 use Rattle.exact.specs.Figure.{halfUp, figureOf}
 use Rattle.paths.specs.Path.{placeAt, pathOf, pathInRange}

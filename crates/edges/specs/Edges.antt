@@ -16,7 +16,7 @@ use Rattle.params.specs.declared.Sex.the-variants.{M}
 use Rattle.params.specs.Set.{ages}
 use Rattle.series.specs.Series.{kappa, logForce}
 use Rattle.sheet.specs.Sheet.{sheetText}
-use Rattle.weights.specs.Weights.{firstFitted, firstClosed, lastClosed, weight, weightRow, rowTotal}
+use Rattle.closure.specs.Weights.{firstFitted, firstClosed, lastClosed, weight, weightRow, rowTotal}
 use Rattle.exact.specs.Figure.{figureOf}
 use Rattle.paths.specs.declared.Fold.the-variants.{Death}
 use Rattle.kinds.specs.Kinds.{stepOf, decimalsOf}

@@ -6,7 +6,7 @@ use Prim.Native.Nat.{ℕ, zero, suc, _*_, _≤_, _<_}
 use lib.Dec.{leb, leb→le, lit≤, lit<}
 use lib.ListN.{length}
 use Rattle.taylor.specs.Taylor.{taylorDen, taylorNum, stretchedDen, stretchedNum, gap, factorial}
-use Rattle.alternating.specs.Alternating.{double}
+use Rattle.taylor.specs.Alternating.{double}
 use Rattle.expo.specs.Exponential.{constantLower, constantUpper, total}
 use Rattle.expo.specs.Billionths.{billionths, wholeParts}
 use Rattle.expo.specs.Facts.{Sound}

@@ -3,7 +3,7 @@
 use mathlib.Core.Path.{_≡_, refl}
 use Prim.Native.Nat.{ℕ}
 use Rattle.whole.specs.Division.{ceilDivℕ}
-use Rattle.alternating.specs.Alternating.{double}
+use Rattle.taylor.specs.Alternating.{double}
 use Rattle.expo.specs.Exponential.{nextLower, nextUpper, termLower, termUpper, total, evens, odds, sumLower, sumUpper}
 use Rattle.expo.specs.Exponential.{constantLower, constantUpper, expLower, expUpper, expBetween}
 use Rattle.expo.specs.Billionths.{billionths, wholeParts}

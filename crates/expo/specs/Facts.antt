@@ -3,7 +3,7 @@ use mathlib.Core.Path.{_≡_}
 use Prim.Native.Nat.{ℕ, suc, _*_, _≤_, _<_}
 use lib.ListN.{length}
 use Rattle.taylor.specs.Taylor.{taylorDen, taylorNum, stretchedDen, stretchedNum}
-use Rattle.alternating.specs.Alternating.{double}
+use Rattle.taylor.specs.Alternating.{double}
 use Rattle.expo.specs.Grid.{Grid}
 use Rattle.expo.specs.Exponential.{step, constantLower, constantUpper}
 

@@ -9,8 +9,8 @@ use Rattle.taylor.specs.Taylor.{taylorDen, taylorNum, factorial}
 use Rattle.taylor.specs.Positive.{taylorDen-positive, taylorNum-positive}
 use Rattle.taylor.specs.Meaning.{taylorDen-factorial}
 use Rattle.taylor.specs.Sums.{sum-monotone}
-use Rattle.alternating.specs.Alternating.{double, evenNum, oddNum}
-use Rattle.alternating.specs.AlternatingLaws.{even-above, odd-below}
+use Rattle.taylor.specs.Alternating.{double, evenNum, oddNum}
+use Rattle.taylor.specs.AlternatingLaws.{even-above, odd-below}
 use Rattle.expo.specs.Grid.{Grid}
 use Rattle.expo.specs.Exponential.{total, evens, odds, termLower, termUpper, sumLower, sumUpper}
 use Rattle.expo.specs.Facts.{Sound}

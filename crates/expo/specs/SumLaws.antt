@@ -7,8 +7,8 @@ use native.Mathlib.Decide.{decLe}
 use native.Mathlib.Omega.{arith}
 use Rattle.taylor.specs.Taylor.{taylorDen, taylorNum}
 use Rattle.taylor.specs.Positive.{taylorDen-positive, sum-at-least-one}
-use Rattle.alternating.specs.Alternating.{double, evenNum, oddNum}
-use Rattle.alternating.specs.AlternatingLaws.{even-above, odd-below}
+use Rattle.taylor.specs.Alternating.{double, evenNum, oddNum}
+use Rattle.taylor.specs.AlternatingLaws.{even-above, odd-below}
 use Rattle.expo.specs.Grid.{Grid}
 use Rattle.expo.specs.Exponential.{total, evens, odds, termLower, termUpper, sumLower, sumUpper}
 use Rattle.expo.specs.Facts.{Sound}

@@ -5,7 +5,7 @@ use Prim.Native.Nat.{ℕ, zero, suc, _+_, _*_, _/_, _^_, _≤_}
 use native.Mathlib.Nat.{mul-le-mul-right, mul-assoc, pow-zero}
 use native.Mathlib.Omega.{arith}
 use Rattle.taylor.specs.Taylor.{taylorDen}
-use Rattle.alternating.specs.Alternating.{double, evenNum, oddNum}
+use Rattle.taylor.specs.Alternating.{double, evenNum, oddNum}
 use Rattle.expo.specs.Exponential.{total, evens, odds}
 
 -- the even terms to 2h; the odd ones below 2h

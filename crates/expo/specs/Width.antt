@@ -13,7 +13,7 @@ use Rattle.taylor.specs.Taylor.{taylorDen, taylorNum}
 use Rattle.taylor.specs.Positive.{taylorDen-positive, taylorNum-positive, sum-at-least-one}
 use Rattle.taylor.specs.Sums.{sum-grows, sum-slope}
 use Rattle.taylor.specs.Products.{sum-of-sum, product-of-sums}
-use Rattle.alternating.specs.Alternating.{double}
+use Rattle.taylor.specs.Alternating.{double}
 use Rattle.expo.specs.Grid.{Grid}
 use Rattle.expo.specs.Exponential.{step, cutoffUnits, sumLower, sumUpper, constantLower, constantUpper, expLower, expUpper}
 use Rattle.expo.specs.Facts.{Sound}

@@ -1,7 +1,7 @@
 -- How far apart the exponential's ends may lie on a grid, and what the law on it asks of the grid besides `Sound`.
 use Prim.Native.Nat.{ℕ, suc, _+_, _*_, _/_, _≤_, _<_}
 use Rattle.taylor.specs.Taylor.{taylorDen, taylorNum, factorial}
-use Rattle.alternating.specs.Alternating.{double}
+use Rattle.taylor.specs.Alternating.{double}
 use Rattle.expo.specs.Grid.{Grid}
 use Rattle.expo.specs.Exponential.{total}
 use Rattle.expo.specs.Facts.{Sound}

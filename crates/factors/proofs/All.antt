@@ -12,7 +12,7 @@ use lib.ListN.{take, getD, replicate}
 use Rattle.expo.specs.declared.Ends.{Ends}
 use Rattle.expo.specs.Billionths.{billionths}
 use Rattle.params.specs.declared.Params.{Params}
-use Rattle.weights.specs.Weights.{lastClosed}
+use Rattle.closure.specs.Weights.{lastClosed}
 use Rattle.folds.specs.Code.{mostFactors}
 use Rattle.mortality.specs.Cell.{survival}
 use Rattle.paths.specs.Path.{placeAt, pathOf, factors, pathInRange}

@@ -8,7 +8,7 @@ use lib.ListN.{length, take, getD, replicate}
 use Rattle.expo.specs.Billionths.{billionths}
 use Rattle.expo.specs.declared.Ends.{Ends}
 use Rattle.params.specs.declared.Params.{Params}
-use Rattle.weights.specs.Weights.{lastClosed}
+use Rattle.closure.specs.Weights.{lastClosed}
 use Rattle.folds.specs.Code.{mostFactors}
 use Rattle.paths.specs.Path.{factors, pathInRange}
 use Rattle.paths.specs.declared.Path.{Path}

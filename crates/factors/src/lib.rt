@@ -4,17 +4,17 @@
 ghost use mathlib.Core.Path.{_≡_};
 ghost use Prim.Native.Nat.{_-_, _≤_, _<_, min};
 ghost use lib.Dec.{T};
-ghost use Rattle.weights.specs.Weights.{firstClosed, lastClosed};
+ghost use Rattle.closure.specs.Weights.{firstClosed, lastClosed};
 ghost use Rattle.walks.specs.Code.{PathWithin, WalkOf};
 ghost use Rattle.factors.specs.Code.{workedCells, Begun, Repeated, FactorsOf};
 use cells::Cell;
+use closure::FIRST_CLOSED;
+use closure::LAST_CLOSED;
 use expo::Ends;
 use folds::MOST_FACTORS;
 use params::Params;
 use paths::Path;
 use walks::Walk;
-use weights::FIRST_CLOSED;
-use weights::LAST_CLOSED;
 
 // The factors of a path, where every cell that they need is in range.
 pub struct Factors {
@@ -71,11 +71,11 @@ fn old_factors(p: Params, path: Path, walk: Walk) -> Factors
     let age = path.age;
     let count = path.count;
     let worked = worked_count(cohort, age, count);
-    let table = weights::table();
+    let table = closure::table();
     let mut done = walk.done;
     let mut ends = walk.ends;
     let mut year = walk.year;
-    let mut fitted = fitted_ages::fitted_in(&p.level, &p.slope, &p.alpha, &p.beta, year);
+    let mut fitted = cells::fitted_in(&p.level, &p.slope, &p.alpha, &p.beta, year);
     while done < worked {
         let x = age + done;
         let row = table[closed_row(x)];
@@ -87,7 +87,7 @@ fn old_factors(p: Params, path: Path, walk: Walk) -> Factors
         let on = walks::goes_on(cohort, done, count);
         year = walks::year_after(p.a, p.theta, year, on);
         if on {
-            fitted = fitted_ages::fitted_in(&p.level, &p.slope, &p.alpha, &p.beta, year);
+            fitted = cells::fitted_in(&p.level, &p.slope, &p.alpha, &p.beta, year);
         }
     }
     let all = repeated(ends, done, count);

@@ -5,12 +5,13 @@ ghost use lib.IntN.{pos, natAbs};
 ghost use lib.ListN.{take};
 ghost use lib.Signed.{_≤ℤ_};
 ghost use Rattle.expo.specs.Billionths.{billionths};
-ghost use Rattle.weights.specs.Weights.{lastClosed};
+ghost use Rattle.closure.specs.Weights.{lastClosed};
 ghost use Rattle.folds.specs.Code.{Chances};
 ghost use Rattle.paths.specs.Values.{foldOver};
 ghost use Rattle.params.specs.Limits.{lastYears};
 ghost use Rattle.kinds.specs.Kinds.{ruleOf, rateOf, mostSpan, yearsOn, countOf, stepOf, decimalsOf};
 ghost use Rattle.kinds.specs.Code.{RateWithin};
+use closure::LAST_CLOSED;
 use exact::EXPECTANCY_STEP;
 use exact::PROBABILITY_STEP;
 use expo::Ends;
@@ -18,7 +19,6 @@ use folds::MOST_FACTORS;
 use params::LAST_YEARS;
 use params::QUOTE_YEARS;
 use paths::Fold;
-use weights::LAST_CLOSED;
 
 // What may be asked of a life: `q`, `coh`, `per`, `ecoh` and `eper`, and with a rate `acoh` and `aper`.
 pub enum Kind {

@@ -3,7 +3,7 @@ use Prim.Native.Nat.{ℕ, _≤_}
 use lib.Dec.{T}
 use Rattle.params.specs.declared.Params.{Params}
 use Rattle.params.specs.Limits.{inLimits, lastYears}
-use Rattle.weights.specs.Weights.{lastClosed}
+use Rattle.closure.specs.Weights.{lastClosed}
 use Rattle.mortality.specs.Cell.{neededInRange}
 
 pub record Answered (p : Params) (x n : ℕ) : Type 0 where

@@ -18,7 +18,7 @@ use Rattle.series.specs.Series.{highestForce}
 use Rattle.logarithm.specs.Range.{Halving}
 use Rattle.logarithm.specs.WidthFacts.{logWidth}
 use Rattle.logarithm.specs.BillionthsFacts as log
-use Rattle.weights.specs.Weights.{firstClosed}
+use Rattle.closure.specs.Weights.{firstClosed}
 use Rattle.logistic.specs.WidthFacts.{Fine}
 use Rattle.logistic.specs.Billionths.{billionths-fine}
 use Rattle.mortality.specs.Cell.{survival, death}

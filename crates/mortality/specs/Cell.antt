@@ -12,7 +12,7 @@ use Rattle.expo.specs.Exponential.{expBetween}
 use Rattle.params.specs.declared.Params.{Params}
 use Rattle.series.specs.Series.{logForce, inRange}
 use Rattle.logarithm.specs.Logarithm.{inverseLogistic}
-use Rattle.weights.specs.Weights.{fitted, firstFitted, firstClosed}
+use Rattle.closure.specs.Weights.{fitted, firstFitted, firstClosed}
 use Rattle.logistic.specs.Logistic.{logistic}
 use Rattle.closure.specs.Closure.{closedSum}
 use Rattle.force.specs.Force.{negated, deathOf}

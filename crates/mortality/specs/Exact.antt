@@ -12,7 +12,7 @@ use Rattle.taylor.specs.Order.{orderLower, orderUpper}
 use Rattle.params.specs.declared.Params.{Params}
 use Rattle.series.specs.Exact.{exactLogForce}
 use Rattle.logarithm.specs.Exact.{orderLogLower, orderLogUpper}
-use Rattle.weights.specs.Weights.{fitted, firstFitted, firstClosed}
+use Rattle.closure.specs.Weights.{fitted, firstFitted, firstClosed}
 use Rattle.logistic.specs.Units.{Interval}
 use Rattle.logistic.specs.Exact.{orderLogisticLower, orderLogisticUpper}
 use Rattle.closure.specs.Exact.{exactClosedSum}

@@ -31,7 +31,7 @@ use Rattle.series.specs.RangeLaws.{Negated, negated-holds}
 use Rattle.logarithm.specs.Logarithm.{logLower, logUpper, inverseLogistic}
 use Rattle.logarithm.specs.Force.{force-half}
 use Rattle.logarithm.specs.Holds.{log-overlap}
-use Rattle.weights.specs.Weights.{fitted, firstFitted, firstClosed}
+use Rattle.closure.specs.Weights.{fitted, firstFitted, firstClosed}
 use Rattle.logistic.specs.LogisticHolds.{logistic-overlap}
 use Rattle.logistic.specs.Units.{inUnitsℚ, SignedOverlap}
 use Rattle.closure.specs.Closure.{endsAt, closedSum}

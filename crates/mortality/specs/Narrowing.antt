@@ -28,7 +28,7 @@ use Rattle.logarithm.specs.Brackets.{log-upper-falls, log-brackets-agree}
 use Rattle.logarithm.specs.Half.{half, logOrder}
 use Rattle.logarithm.specs.Narrowing.{log-narrow}
 use Rattle.logarithm.specs.Force.{order-force-half}
-use Rattle.weights.specs.Weights.{firstFitted, firstClosed}
+use Rattle.closure.specs.Weights.{firstFitted, firstClosed}
 use Rattle.logistic.specs.Units.{Bounded}
 use Rattle.logistic.specs.Exact.{overOne, share, orderLogisticLower, orderLogisticUpper}
 use Rattle.logistic.specs.LogisticNarrow.{logistic-narrow}

@@ -11,7 +11,7 @@ use Rattle.params.specs.declared.Params.{Params}
 use Rattle.series.specs.Series.{logForce, inRange}
 use Rattle.series.specs.WidthLaws.{logForceWidth}
 use Rattle.series.specs.RangeLaws.{Negated, logForce-negated}
-use Rattle.weights.specs.Weights.{fitted, firstFitted, firstClosed}
+use Rattle.closure.specs.Weights.{fitted, firstFitted, firstClosed}
 use Rattle.mortality.specs.Cell.{fittedInRange, neededInRange}
 use Rattle.mortality.specs.Answered.{Answered}
 

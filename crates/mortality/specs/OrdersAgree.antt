@@ -14,7 +14,7 @@ use Rattle.series.specs.Series.{logForce}
 use Rattle.series.specs.WidthLaws.{logForceWidth}
 use Rattle.series.specs.RangeLaws.{Negated}
 use Rattle.logarithm.specs.Brackets.{log-agrees}
-use Rattle.weights.specs.Weights.{fitted, firstFitted, firstClosed}
+use Rattle.closure.specs.Weights.{fitted, firstFitted, firstClosed}
 use Rattle.logistic.specs.Units.{Meet}
 use Rattle.logistic.specs.OrdersAgree.{logistic-agrees}
 use Rattle.closure.specs.Exact.{intervalAt, exactClosedSum}

@@ -25,8 +25,8 @@ use Rattle.logarithm.specs.WidthFacts.{logWidth}
 use Rattle.logarithm.specs.Sums.{log-sum-monotone}
 use Rattle.logarithm.specs.Holds.{terms-below, terms-above}
 use Rattle.logarithm.specs.Width.{log-width}
-use Rattle.weights.specs.Weights.{firstFitted, fitted, firstClosed, weightUnit}
-use Rattle.weights.specs.Totals.{mostSize}
+use Rattle.closure.specs.Weights.{firstFitted, fitted, firstClosed, weightUnit}
+use Rattle.closure.specs.Totals.{mostSize}
 use Rattle.logistic.specs.RelativeWidth.{exp-ordered}
 use Rattle.logistic.specs.WidthFacts.{Fine}
 use Rattle.logistic.specs.LogisticWidth.{logistic-width, logistic-ordered}

@@ -13,7 +13,7 @@ use Rattle.whole.specs.Table.{listed-length, listed-more}
 use Rattle.expo.specs.Grid.{Grid}
 use Rattle.params.specs.declared.Params.{Params}
 use Rattle.params.specs.Limits.{inLimits, lastYears}
-use Rattle.weights.specs.Weights.{lastClosed}
+use Rattle.closure.specs.Weights.{lastClosed}
 use Rattle.folds.specs.Each.{Each, none, also, each-listed, each-with}
 use Rattle.mortality.specs.Cell.{neededInRange}
 use Rattle.mortality.specs.Answered.{Answered}

@@ -13,7 +13,7 @@ use mir.Facts.{and-yes, yes-and}
 use Rattle.expo.specs.Grid.{Grid}
 use Rattle.expo.specs.declared.Ends.{Ends}
 use Rattle.params.specs.declared.Params.{Params}
-use Rattle.weights.specs.Weights.{lastClosed}
+use Rattle.closure.specs.Weights.{lastClosed}
 use Rattle.mortality.specs.Cell.{survival, neededInRange}
 use Rattle.paths.specs.Path.{Place, placeAt, pathOf, factors, pathInRange}
 use Rattle.paths.specs.Answers.{placeInRange, path-more, factors-append, in-range-append, in-range-more}

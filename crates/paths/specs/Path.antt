@@ -8,7 +8,7 @@ use Rattle.fraction.specs.Bracket.{Bracket}
 use Rattle.expo.specs.Grid.{Grid}
 use Rattle.expo.specs.declared.Ends.{Ends}
 use Rattle.params.specs.declared.Params.{Params}
-use Rattle.weights.specs.Weights.{lastClosed}
+use Rattle.closure.specs.Weights.{lastClosed}
 use Rattle.mortality.specs.Cell.{survival, neededInRange}
 use Rattle.mortality.specs.Exact.{orderSurvival}
 

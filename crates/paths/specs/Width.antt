@@ -19,7 +19,7 @@ use Rattle.expo.specs.BillionthsFacts.{billionths-sound}
 use Rattle.expo.specs.Exponential.{expBetween}
 use Rattle.expo.specs.AtMostOne.{exp-lower-one, exp-upper-one}
 use Rattle.params.specs.declared.Params.{Params}
-use Rattle.weights.specs.Weights.{firstClosed, lastClosed}
+use Rattle.closure.specs.Weights.{firstClosed, lastClosed}
 use Rattle.folds.specs.Each.{Each, none, also, each-places}
 use Rattle.folds.specs.Code.{AtMost, mostFactors}
 use Rattle.folds.specs.Steps.{survival-one}

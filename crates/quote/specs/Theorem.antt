@@ -12,7 +12,7 @@ use Rattle.params.specs.declared.Params.{Params}
 use Rattle.params.specs.declared.Refusal.{Refusal}
 use Rattle.params.specs.declared.Refusal.the-variants.{Accepted}
 use Rattle.params.specs.Limits.{startYear}
-use Rattle.weights.specs.Weights.{lastClosed}
+use Rattle.closure.specs.Weights.{lastClosed}
 use Rattle.params.specs.Refusals.{refusalNumber}
 use Rattle.params.specs.RefusalLaws.{accepted}
 use Rattle.exact.specs.declared.Figure.{Figure}

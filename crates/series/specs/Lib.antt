@@ -1,10 +1,12 @@
 -- definitions
 pub mod Series
 pub mod Exact
+pub mod Year
 -- laws
 pub mod SeriesLaws
 pub mod WidthLaws
 pub mod BoundLaws
 pub mod RangeLaws
--- rows
+pub mod YearLaws
+-- examples
 pub mod Rows

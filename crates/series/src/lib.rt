@@ -1,13 +1,17 @@
-// The time series and the log force of a cell on the grid, with two signed ends.
+// The time series and the log force of a cell on the grid, with two signed ends; and a year of the table: K and kappa, the year
+// after, and the log force at an age of it.
 ghost use mathlib.Core.Path.{_≡_};
 ghost use Prim.Native.Nat.{_≤_};
 ghost use Rattle.whole.specs.Bound.{Under};
-ghost use Rattle.params.specs.Limits.{aLimit, kappaLimit, lastYears};
+ghost use Rattle.params.specs.Limits.{aLimit, kappaLimit, lastYears, inLimits};
 ghost use Rattle.params.specs.LimitsLaws.{PeriodWithin};
 ghost use Rattle.whole.specs.EndLaws.{Within};
 ghost use Rattle.series.specs.Series.{periodIn, kappaStep, kappaIn, cellForce, inRange};
 ghost use Rattle.series.specs.BoundLaws.{CellLimits};
+ghost use lib.Dec.{T};
+ghost use Rattle.series.specs.Year.{YearOf, YearWithin, NextOf};
 use params::Age;
+use params::Params;
 use whole::SignedEnds;
 
 // The unit of a, B and beta.
@@ -17,6 +21,13 @@ const RATE_UNIT: i64 = 100_000_000;
 pub const LOWEST_FORCE: i64 = -30_000_000_000;
 
 pub const HIGHEST_FORCE: i64 = -700_000_000;
+
+// The year 2013 + number, with K and kappa.
+pub struct Year {
+    pub number: u64,
+    pub period: i64,
+    pub kappas: SignedEnds,
+}
 
 // K in year n, counted from the start year, of K in that year and theta.
 pub fn period_index(start: i64, theta: i64, n: u64) -> i64
@@ -76,4 +87,41 @@ pub fn in_range(m: SignedEnds) -> bool
     ensures { λ r. ⌜ r ≡ inRange m ⌝ }
 {
     LOWEST_FORCE <= m.lower && m.upper <= HIGHEST_FORCE
+}
+
+// Year n of a set.
+pub fn year_at(p: Params, n: u64) -> Year
+    requires { ⌜ T (inLimits p) × (n ≤ lastYears) ⌝ }
+    ensures { λ r. ⌜ (r .number ≡ n) × YearOf p r ⌝ }
+{
+    let period = period_index(p.period, p.theta, n);
+    let kappas = kappa_at(p.a, p.kappa, n);
+    Year {
+        number: n,
+        period,
+        kappas,
+    }
+}
+
+// The year after, by a and theta.
+pub fn next_year(a: i64, theta: i64, y: Year) -> Year
+    requires { ⌜ YearWithin a theta y ⌝ }
+    ensures { λ r. ⌜ NextOf a theta y r ⌝ }
+{
+    let kappas = y.kappas;
+    let next = kappa_step(a, kappas);
+    Year {
+        number: y.number + 1,
+        period: y.period + theta,
+        kappas: next,
+    }
+}
+
+// The log force at an age of a year.
+pub fn log_force_at(age: Age, y: Year) -> SignedEnds
+    requires { ⌜ CellLimits age (y .period) (y .kappas) ⌝ }
+    ensures { λ r. ⌜ r ≡ cellForce age (y .period) (y .kappas) ⌝ }
+{
+    let kappas = y.kappas;
+    log_force(age, y.period, kappas)
 }

@@ -8,7 +8,7 @@ use lib.Signed.{leZ}
 use Rattle.params.specs.declared.Refusal.{Refusal}
 use Rattle.params.specs.declared.Refusal.the-variants.{Accepted, NoSuchAge, NoSuchYear, NoSuchSpan, NoSuchRate}
 use Rattle.params.specs.Limits.{startYear, firstYears}
-use Rattle.weights.specs.Weights.{lastClosed}
+use Rattle.closure.specs.Weights.{lastClosed}
 use Rattle.annuity.specs.Annuity.{mostRate}
 use Rattle.kinds.specs.declared.Rule.{Rule}
 use Rattle.kinds.specs.Kinds.{rateOf, mostSpan}

@@ -4,11 +4,11 @@ ghost use Rattle.whole.specs.Bound.{Under};
 ghost use Rattle.params.specs.Limits.{lastYears};
 ghost use Rattle.table_tests.specs.TableTests.{between, tableTests, firstFailed};
 use annuity::MOST_RATE;
+use closure::LAST_CLOSED;
 use kinds::Rule;
 use params::FIRST_YEARS;
 use params::Refusal;
 use params::START_YEAR;
-use weights::LAST_CLOSED;
 
 // Whether v is at least low and at most high.
 fn between(low: i64, high: i64, v: i64) -> bool

@@ -1,6 +1,7 @@
 -- definitions
 pub mod Taylor
 pub mod Order
+pub mod Alternating
 -- laws
 pub mod Positive
 pub mod Meaning
@@ -12,3 +13,8 @@ pub mod Products
 pub mod Narrowing
 pub mod OrderLaws
 pub mod SumLaws
+pub mod Rows
+pub mod RowLaws
+pub mod Weights
+pub mod WeightLaws
+pub mod AlternatingLaws

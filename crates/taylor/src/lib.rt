@@ -1,1 +1,1 @@
-// Taylor sums of the exponential: definitions and laws, no code.
+// Taylor sums of the exponential, and the alternating sums of its terms against them: definitions and laws, no code.

@@ -20,7 +20,7 @@ use Rattle.params.specs.declared.Params.{Params}
 use Rattle.params.specs.declared.Refusal.the-variants.{Accepted}
 use Rattle.params.specs.Limits.{inLimits, startYear}
 use Rattle.params.specs.Refusals.{refusalNumber}
-use Rattle.weights.specs.Weights.{lastClosed}
+use Rattle.closure.specs.Weights.{lastClosed}
 use Rattle.exact.specs.Figure.{probabilityStep, figureOf}
 use Rattle.mortality.specs.Cell as cell
 use Rattle.paths.specs.Path.{Place, placeAt, pathOf, factors, pathInRange}

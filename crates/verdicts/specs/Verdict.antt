@@ -13,7 +13,7 @@ use Rattle.params.specs.declared.Refusal.{Refusal}
 use Rattle.params.specs.declared.Refusal.the-variants.{OutOfLimits, NoSuchYear, LogForceOutOfRange, MalformedColumn}
 use Rattle.params.specs.Refusals.{refusalNumber}
 use Rattle.params.specs.Limits.{inLimits, startYear}
-use Rattle.weights.specs.Weights.{lastClosed}
+use Rattle.closure.specs.Weights.{lastClosed}
 use Rattle.paths.specs.Path.{Place, pathOf, pathInRange}
 use Rattle.kinds.specs.declared.Kind.the-variants.{Death}
 use Rattle.kinds.specs.Kinds.{ruleOf}

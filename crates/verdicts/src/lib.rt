@@ -10,6 +10,7 @@ ghost use Rattle.folds.specs.Code.{AtMost, Chances};
 ghost use Rattle.verdicts.specs.Verdict.{columnAges, entryAt, verdictTo, judged};
 ghost use Rattle.verdicts.specs.Meaning.{Honest};
 ghost use Rattle.verdicts.specs.Code.{columnRead, ageVerdict, joined, figureBy, figureIn};
+use closure::LAST_CLOSED;
 use exact::Figure;
 use exact::PROBABILITY_STEP;
 use expo::Ends;
@@ -19,7 +20,6 @@ use params::Params;
 use params::Refusal;
 use params::START_YEAR;
 use paths::Path;
-use weights::LAST_CLOSED;
 
 // Ages 0 to 120.
 pub const COLUMN_AGES: usize = LAST_CLOSED + 1;

@@ -19,11 +19,11 @@ use Rattle.params.specs.declared.Params.{Params}
 use Rattle.params.specs.Limits.{lastYears}
 use Rattle.cells.specs.declared.Cell.{Cell}
 use Rattle.cells.specs.declared.Cell.the-variants.{LogForceOutOfRange, Of}
-use Rattle.years.specs.declared.Year.{Year}
+use Rattle.series.specs.declared.Year.{Year}
 use Rattle.mortality.specs.Cell.{survival, neededInRange}
-use Rattle.years.specs.Code.{YearWithin}
+use Rattle.series.specs.Year.{YearWithin}
 use Rattle.cells.specs.Code.{cellOf}
-use Rattle.years.specs.YearLaws.{year-within, year-next}
+use Rattle.series.specs.YearLaws.{year-within, year-next}
 use Rattle.folds.specs.Code.{mostFactors}
 use Rattle.paths.specs.Path.{placeAt, pathOf, factors, pathInRange}
 use Rattle.paths.specs.Answers.{path-length, factors-length, path-more, factors-append, in-range-more, range-out}

@@ -11,9 +11,9 @@ use Rattle.expo.specs.Billionths.{billionths}
 use Rattle.expo.specs.declared.Ends.{Ends}
 use Rattle.params.specs.declared.Params.{Params}
 use Rattle.params.specs.Limits.{inLimits, lastYears}
-use Rattle.weights.specs.Weights.{firstClosed, lastClosed}
-use Rattle.years.specs.declared.Year.{Year}
-use Rattle.years.specs.Code.{YearOf, NextOf}
+use Rattle.closure.specs.Weights.{firstClosed, lastClosed}
+use Rattle.series.specs.declared.Year.{Year}
+use Rattle.series.specs.Year.{YearOf, NextOf}
 use Rattle.folds.specs.Code.{mostFactors}
 use Rattle.paths.specs.Path.{Place, placeAt, pathOf, factors, pathInRange}
 use Rattle.paths.specs.declared.Path.{Path}

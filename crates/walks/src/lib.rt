@@ -3,16 +3,16 @@ ghost use mathlib.Core.Path.{_≡_};
 ghost use mathlib.Core.Bool.{_&&_};
 ghost use Prim.Native.Nat.{_-_, min};
 ghost use lib.Dec.{T, ltb};
-ghost use Rattle.weights.specs.Weights.{firstClosed};
-ghost use Rattle.years.specs.Code.{YearWithin};
+ghost use Rattle.closure.specs.Weights.{firstClosed};
+ghost use Rattle.series.specs.Year.{YearWithin};
 ghost use Rattle.walks.specs.Code.{PathWithin, Advanced, WalkOf};
 use cells::Cell;
+use closure::FIRST_CLOSED;
 use expo::Ends;
 use folds::MOST_FACTORS;
 use params::Params;
 use paths::Path;
-use weights::FIRST_CLOSED;
-use years::Year;
+use series::Year;
 
 // The factors of a path's first `done` cells, where those are in range, and the year of the next.
 pub struct Walk {
@@ -51,7 +51,7 @@ pub fn year_after(a: i64, theta: i64, y: Year, on: bool) -> Year
     ensures { λ r. ⌜ Advanced a theta y on r ⌝ }
 {
     if on {
-        return years::next_year(a, theta, y);
+        return series::next_year(a, theta, y);
     }
     y
 }
@@ -65,7 +65,7 @@ pub fn young_factors(p: Params, path: Path) -> Walk
     let age = path.age;
     let count = path.count;
     let young = young_count(age, count);
-    let mut year = years::year_at(p, path.year);
+    let mut year = series::year_at(p, path.year);
     let mut ends = [Ends { lower: 0, upper: 0 }; MOST_FACTORS];
     let mut done = 0;
     while done < young {

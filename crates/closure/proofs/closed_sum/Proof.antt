@@ -9,7 +9,7 @@ use Rattle.whole.specs.declared.SignedEnds.{SignedEnds}
 use Rattle.whole.specs.SignedEnds.{outward}
 use Rattle.whole.specs.EndLaws.{Within}
 use Rattle.whole.proofs.Signed.{read, read-floor, read-ceil, ends}
-use Rattle.weights.specs.Weights.{fitted, weightUnit}
+use Rattle.closure.specs.Weights.{fitted, weightUnit}
 use Rattle.closure.specs.Closure.{leastSum, greatestSum, weightedMean}
 use Rattle.closure.specs.Code.{sumsLimit, weightOf}
 use Rattle.closure.proofs.Sums.{sumsTo, sums-next, sums-within}

@@ -10,14 +10,14 @@ use Rattle.whole.specs.Bound.{back}
 use Rattle.expo.specs.declared.Ends.{Ends}
 use Rattle.params.specs.declared.Params.{Params}
 use Rattle.params.specs.LimitsLaws.{in-limits-series}
-use Rattle.weights.specs.Weights.{firstClosed, lastClosed, weightRow}
-use Rattle.weights.specs.WeightLaws.{table-row}
+use Rattle.closure.specs.Weights.{firstClosed, lastClosed, weightRow}
+use Rattle.closure.specs.WeightLaws.{table-row}
 use Rattle.closure.specs.Rows.{row-within}
 use Rattle.folds.specs.Code.{mostFactors}
-use Rattle.years.specs.declared.Year.{Year}
-use Rattle.fitted_ages.specs.declared.Fitted.{Fitted}
-use Rattle.years.specs.Code.{YearOf}
-use Rattle.fitted_ages.specs.Code.{FittedOf, lent}
+use Rattle.series.specs.declared.Year.{Year}
+use Rattle.cells.specs.declared.Fitted.{Fitted}
+use Rattle.series.specs.Year.{YearOf}
+use Rattle.cells.specs.Fitted.{FittedOf, lent}
 use Rattle.cells.specs.Code.{cellOf}
 use Rattle.cells.specs.Answers.{old-cell}
 use Rattle.paths.specs.Path.{placeAt}

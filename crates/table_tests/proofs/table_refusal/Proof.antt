@@ -12,7 +12,7 @@ use mir.Facts.{toZ-ofZ}
 use Rattle.whole.specs.Bound.{bits, under-lit, under-add, under-pos, fits, back}
 use Rattle.whole.proofs.Signed.{sum}
 use Rattle.params.specs.Limits.{startYear}
-use Rattle.weights.specs.Weights.{lastClosed}
+use Rattle.closure.specs.Weights.{lastClosed}
 use Rattle.annuity.specs.Annuity.{mostRate}
 use Rattle.paths.specs.declared.Fold.{Fold}
 use Rattle.paths.specs.declared.Fold.the-variants.{Death, Survival, Expectancy, Annuity}

@@ -9,9 +9,9 @@ use borrow.Author.Needs.{needs}
 use Rattle.whole.specs.Bound.{back}
 use Rattle.params.specs.LimitsLaws.{in-limits-series}
 use Rattle.params.specs.Set.{ageOf, four-age}
-use Rattle.weights.specs.Weights.{firstClosed}
+use Rattle.closure.specs.Weights.{firstClosed}
 use Rattle.folds.specs.Code.{mostFactors}
-use Rattle.years.specs.YearLaws.{cell-within, year-force}
+use Rattle.series.specs.YearLaws.{cell-within, year-force}
 use Rattle.cells.specs.Answers.{young-cell}
 use Rattle.cells.specs.Code.{cellOf}
 use Rattle.paths.specs.Path.{placeAt}

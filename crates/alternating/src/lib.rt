@@ -1,1 +1,0 @@
-// The alternating sums of the exponential's terms against its Taylor sums: laws, no code.

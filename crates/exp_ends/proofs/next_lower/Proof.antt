@@ -1,0 +1,24 @@
+-- `next_lower` meets its contract: the product of two numbers of at most the unit fits.
+use mathlib.Core.Path.{refl}
+use native.Mathlib.Nat.{mul-le-mul}
+use native.Mathlib.Omega.{arith}
+use borrow.Author.Needs.{needs}
+use Rattle.expo.specs.Exponential.{nextLower}
+use Rattle.exp_ends.proofs.next_lower.Statement.{statement}
+use Rattle.exp_ends.proofs.next_lower.Tie as tie
+
+mul-result : tie.Need-mul-result
+mul-result c = omega (arith, mul-le-mul (c .pre .term) (c .pre .rest))
+
+mul-result-2 : tie.Need-mul-result-2
+mul-result-2 c = search needs
+
+div-result : tie.Need-div-result
+div-result c = search needs
+
+returns : tie.Need-returns
+unfolding nextLower
+returns c = refl
+
+pub next-lower-spec : {M : Type 1} → statement M
+next-lower-spec = tie.close (tie.spec mul-result mul-result-2 div-result returns)

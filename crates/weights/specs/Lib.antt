@@ -1,5 +1,0 @@
--- definitions
-pub mod Weights
-pub mod Totals
--- laws
-pub mod WeightLaws

@@ -1,4 +1,0 @@
--- definitions
-pub mod Code
--- laws
-pub mod YearLaws
