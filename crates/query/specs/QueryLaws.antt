@@ -5,7 +5,7 @@ use mathlib.Core.Path.{_≡_, refl, _∙_}
 use Prim.Native.Nat.{ℕ, _+_, _^_, _≤_, _<_}
 use native.Mathlib.Omega.{arith}
 use mathlib.Core.List.{List, [], _∷_, _++_, append-assoc, append-nil}
-use lib.Dec.{T, lit<}
+use lib.Dec.{T}
 use lib.IntN.{ℤ, natAbs}
 use lib.ListN.{length, length-append}
 use Rattle.whole.specs.Clash.{clash}
@@ -68,16 +68,11 @@ unfolding readField
 field-reads name v rest h t = goes _ (takeText-split name (numberText v ++ rest)) ∙ number-reads v rest h t
 
 -- the bytes are the name, the number's text and the rest
-pub record FieldOf (name : List ℕ) (v : ℤ) (bs rest : List ℕ) : Type 0 where
-  pub is : bs ≡ name ++ (numberText v ++ rest)
-  pub small : natAbs v < 10 ^ mostDigits
-
-pub field-read : (name bs : List ℕ) {v : ℤ} {rest : List ℕ} → readField name bs ≡ taken v rest → FieldOf name v bs rest
+field-read : (name bs : List ℕ) {v : ℤ} {rest : List ℕ} → readField name bs ≡ taken v rest
+    → bs ≡ name ++ (numberText v ++ rest)
 unfolding readField
 field-read name bs {v} {rest} e =
-    then-taken (takeText name bs) _ e λ u after q r.
-    let n = number-read after v rest r in
-    record { is = rw (takeText-whole name bs q, n .is); small = n .small }
+    then-taken (takeText name bs) _ e λ u after q r. rw (takeText-whole name bs q, number-read after v rest r .is)
 
 -- ---- a rate
 
@@ -97,10 +92,10 @@ rate-reads (PeriodAnnuity rate) rest h t =
 -- the bytes are the text of the kind's rate and the rest, and the kind's word is the word that was read
 record RateOf (word k : Kind) (bs rest : List ℕ) : Type 0 where
   is : bs ≡ rateText k ++ rest
-  small : natAbs (kindRate k) < 10 ^ mostDigits
   same : wordOf word ≡ wordOf k
 
-rated : (word : Kind) (rate : ℤ) (bs rest : List ℕ) → takesRate word ≡ true → FieldOf (bytesOf " rate=") rate bs rest
+rated : (word : Kind) (rate : ℤ) (bs rest : List ℕ) → takesRate word ≡ true
+    → bs ≡ bytesOf " rate=" ++ (numberText rate ++ rest)
     → RateOf word (withRate word rate) bs rest
 unfolding rateText takesRate withRate ruleOf rateOf wordOf
 rated Death rate bs rest e f = clash cc
@@ -109,17 +104,17 @@ rated PeriodSurvival rate bs rest e f = clash cc
 rated CohortExpectancy rate bs rest e f = clash cc
 rated PeriodExpectancy rate bs rest e f = clash cc
 rated (CohortAnnuity old) rate bs rest e f =
-    record { is = f .is ∙ rw (append-assoc (bytesOf " rate=") (numberText rate) rest); small = f .small; same = refl }
+    record { is = f ∙ rw (append-assoc (bytesOf " rate=") (numberText rate) rest); same = refl }
 rated (PeriodAnnuity old) rate bs rest e f =
-    record { is = f .is ∙ rw (append-assoc (bytesOf " rate=") (numberText rate) rest); small = f .small; same = refl }
+    record { is = f ∙ rw (append-assoc (bytesOf " rate=") (numberText rate) rest); same = refl }
 
 unrated : (k : Kind) (bs : List ℕ) → takesRate k ≡ false → RateOf k k bs bs
 unfolding rateText takesRate ruleOf rateOf
-unrated Death bs e = record { is = refl; small = lit< tt; same = refl }
-unrated CohortSurvival bs e = record { is = refl; small = lit< tt; same = refl }
-unrated PeriodSurvival bs e = record { is = refl; small = lit< tt; same = refl }
-unrated CohortExpectancy bs e = record { is = refl; small = lit< tt; same = refl }
-unrated PeriodExpectancy bs e = record { is = refl; small = lit< tt; same = refl }
+unrated Death bs e = record { is = refl; same = refl }
+unrated CohortSurvival bs e = record { is = refl; same = refl }
+unrated PeriodSurvival bs e = record { is = refl; same = refl }
+unrated CohortExpectancy bs e = record { is = refl; same = refl }
+unrated PeriodExpectancy bs e = record { is = refl; same = refl }
 unrated (CohortAnnuity rate) bs e = clash cc
 unrated (PeriodAnnuity rate) bs e = clash cc
 
@@ -171,11 +166,6 @@ pub record Small (q : Query) : Type 0 where
   pub span : natAbs (q .span) < 10 ^ mostDigits
   pub rate : natAbs (kindRate (q .kind)) < 10 ^ mostDigits
 
--- the bytes are the query's line
-record LineOf (q : Query) (line : List ℕ) : Type 0 where
-  is : line ≡ queryText q ++ bytesOf "\n"
-  small : Small q
-
 -- the text, part by part, with what follows it
 query-apart : (q : Query) (rest : List ℕ)
     → queryText q ++ rest
@@ -190,9 +180,11 @@ unfolding alone
 alone-taken a [] e = (refl, cc)
 alone-taken a (c ∷ bs) e = malformed-not-taken e
 
-line-read : (line : List ℕ) {q : Query} {rest : List ℕ} → readQuery line ≡ taken q rest → LineOf q line
+-- what reads as a query is its text and a line feed
+pub query-text : (line : List ℕ) {q : Query} {rest : List ℕ} → readQuery line ≡ taken q rest
+    → line ≡ queryText q ++ bytesOf "\n"
 unfolding readQuery
-line-read line {q} e =
+query-text line {q} e =
     then-taken (takeText (bytesOf "kind=") line) _ e λ u b₀ e₀ f₀.
     then-taken (readWord onOffer b₀) _ f₀ λ word b₁ e₁ f₁.
     then-taken (readField (bytesOf " age=") b₁) _ f₁ λ age b₂ e₂ f₂.
@@ -208,22 +200,10 @@ line-read line {q} e =
     let k = rate-read word b₄ e₅ in
     let l : b₅ ≡ bytesOf "\n" = takeText-whole (bytesOf "\n") b₅ e₆ ∙ rw (none, append-nil) in
     rw (← same)
-    (record {
-      is = takeText-whole (bytesOf "kind=") line e₀
-          ∙ rw (word-read onOffer b₀ e₁, k .same, a .is, y .is, s .is, k .is, l, query-apart r (bytesOf "\n"));
-      small = record { age = a .small; year = y .small; span = s .small; rate = k .small };
-    })
+    (takeText-whole (bytesOf "kind=") line e₀
+    ∙ rw (word-read onOffer b₀ e₁, k .same, a, y, s, k .is, l, query-apart r (bytesOf "\n")))
 
--- what reads as a query is its text and a line feed
-pub query-text : (line : List ℕ) {q : Query} {rest : List ℕ} → readQuery line ≡ taken q rest
-    → line ≡ queryText q ++ bytesOf "\n"
-query-text line e = line-read line e .is
-
--- and its numbers have at most 15 digits
-pub query-small : (line : List ℕ) {q : Query} {rest : List ℕ} → readQuery line ≡ taken q rest → Small q
-query-small line e = line-read line e .small
-
--- the line of such a query reads as the query
+-- the line of a query whose numbers have so few digits reads as the query
 pub query-reads : (q : Query) → Small q → readQuery (queryText q ++ bytesOf "\n") ≡ taken q []
 unfolding readQuery alone bytesOf isDigit
 query-reads q h =

@@ -11,7 +11,6 @@ use lib.ListN.{length, take, drop, length-append}
 use lib.Seq.{take-append-seam}
 use Rattle.tokens.specs.Text.{bytesOf, takeText}
 use Rattle.params.specs.declared.Params.{Params}
-use Rattle.params.specs.declared.Refusal.{Refusal}
 use Rattle.params.specs.declared.Refusal.the-variants.{Accepted, Malformed, OutOfLimits, BufferTooShort}
 use Rattle.sheet.specs.declared.Reading.{Reading}
 use Rattle.sheet.specs.declared.Written.{Written}

@@ -21,17 +21,13 @@ use Rattle.params.specs.Set.{Whole}
 use Rattle.params.specs.Limits.{inLimits}
 use Rattle.sheet.specs.declared.Reading.{Reading}
 use Rattle.sheet.specs.Sheet.{paramsOf, sheetText, readSheet, writeRefusal}
-use Rattle.sheet.specs.SetTrip.{params-whole, values-length, values-params, params-values}
+use Rattle.sheet.specs.SetTrip.{params-whole, values-params, params-values}
 use Rattle.sheet.specs.SheetTrip.{written-reads-back, read-writes-back}
 use Rattle.set_numbers.specs.SetNumbers.{setLength, sexNumber, setNumbers, isSex, sexOf, areSet, setOf, setOver}
 use Rattle.set_numbers.specs.SetNumbers.{readNo, numbersAfter, writeNo}
 use Rattle.set_numbers.specs.AnswerLaws.{as-many, first-sex, read-accepted}
 
 -- ---- a set and its numbers
-
-pub numbers-length : (p : Params) → length (setNumbers p) ≡ setLength
-unfolding setNumbers
-numbers-length p = ap suc (values-length p)
 
 sex-back : (s : Sex) → sexOf (sexNumber s) ≡ s
 unfolding sexNumber sexOf
