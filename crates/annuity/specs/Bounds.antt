@@ -1,12 +1,12 @@
 -- How great a price can be: a discount is at most 1, and so is each payment.
 use mathlib.Core.List.{List}
 use Prim.Native.Nat.{ℕ, zero, suc, _+_, _*_, _<_}
-use native.Mathlib.Nat.{le-refl, div-le-of-le-mul}
+use native.Mathlib.Nat.{le-refl}
 use native.Mathlib.Omega.{arith}
 use lib.ListN.{length}
-use Rattle.whole.specs.DivisionLaws.{ceilℕ-least}
 use Rattle.expo.specs.Grid.{Grid}
 use Rattle.expo.specs.declared.Ends.{Ends}
+use Rattle.expo.specs.OutwardLaws.{outward-most}
 use Rattle.folds.specs.Folds.{one}
 use Rattle.folds.specs.Each.{Each, each-take}
 use Rattle.folds.specs.Code.{AtMost}
@@ -20,10 +20,9 @@ divisor-positive rate = omega arith
 pub discounted-at-most : (rate : ℕ) {m : ℕ} {d : Ends} → AtMost m d → AtMost m (discounted rate d)
 unfolding discounted
 discounted-at-most rate {m} {d} a =
-    record {
-      lower = div-le-of-le-mul (rateUnit + rate) (omega (arith, a .lower));
-      upper = ceilℕ-least m _ (divisor-positive rate) (omega (arith, a .upper));
-    }
+    let b = outward-most (d .lower * rateUnit) (d .upper * rateUnit) (divisor-positive rate) m (omega (arith, a .lower))
+    (omega (arith, a .upper)) in
+    record { lower = b .0; upper = b .1 }
 
 module _ (g : Grid) (positive : 0 < g .unit) (rate : ℕ) where
   pub discount-at-most : (k : ℕ) → AtMost (g .unit) (discountOver g rate k)

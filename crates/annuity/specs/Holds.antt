@@ -1,17 +1,14 @@
 -- The price on a grid holds every order's: where each factor's ends overlap its bracket, the price's overlap its own.
 use mathlib.Core.List.{List, Forall₂}
-use Prim.Native.Nat.{ℕ, zero, suc, _+_, _*_, _/_}
-use native.Mathlib.Nat.{mul-le-mul-right}
+use Prim.Native.Nat.{ℕ, zero, suc, _+_}
 use native.Mathlib.Omega.{arith}
 use lib.ListN.{length}
-use Rattle.whole.specs.Division.{ceilDivℕ}
-use Rattle.whole.specs.DivisionLaws.{floorℕ-encloses, ceilℕ-encloses}
-use Rattle.fraction.specs.Ratio.{Ratio, _≤/_, whole/, quotient/, _*/_}
-use Rattle.fraction.specs.RatioLaws.{≤/-refl, ≤/-trans, */-mono}
+use Rattle.fraction.specs.Ratio.{Ratio, whole/, quotient/, _*/_}
 use Rattle.fraction.specs.Bracket.{Bracket}
 use Rattle.fraction.specs.Places.{places-length, places-take}
 use Rattle.expo.specs.Grid.{Grid, inUnits}
 use Rattle.expo.specs.declared.Ends.{Ends}
+use Rattle.expo.specs.OutwardLaws.{outward-holds}
 use Rattle.folds.specs.Exact.{exactly}
 use Rattle.folds.specs.Holds.{Over, one-over, with-factor-holds, sum-holds, survival-holds}
 use Rattle.annuity.specs.Annuity.{rateUnit, discounted, discountOver, paymentAfter, annuityOver}
@@ -19,26 +16,14 @@ use Rattle.annuity.specs.Exact.{discount/, discountPower, orderPaymentAf
 use Rattle.annuity.specs.Bounds.{divisor-positive}
 
 module _ (g : Grid) (rate : ℕ) where
-  -- ---- one year of discount, rounded down and up
-
-  floor-below : (a : ℕ) → inUnits g (a * rateUnit / (rateUnit + rate)) ≤/ inUnits g a */ discount/ rate
-  unfolding inUnits discount/ quotient/ whole/ _*/_
-  floor-below a =
-      record { cross = omega (arith, mul-le-mul-right (g .unit) (floorℕ-encloses (a * rateUnit) (divisor-positive rate) .0)) }
-
-  ceil-above : (a : ℕ) → inUnits g a */ discount/ rate ≤/ inUnits g (ceilDivℕ (a * rateUnit) (rateUnit + rate))
-  unfolding inUnits discount/ quotient/ whole/ _*/_
-  ceil-above a =
-      record { cross = omega (arith, mul-le-mul-right (g .unit) (ceilℕ-encloses (a * rateUnit) (divisor-positive rate) .0)) }
+  -- ---- one year of discount
 
   discounted-holds : {e : Ends} (x : Ratio) → Over g e (exactly x)
       → Over g (discounted rate e) (exactly (x */ discount/ rate))
-  unfolding discounted exactly
-  discounted-holds {e} x h =
-      record {
-        below = ≤/-trans (floor-below (e .lower)) (*/-mono (h .below) (≤/-refl (discount/ rate)));
-        above = ≤/-trans (*/-mono (h .above) (≤/-refl (discount/ rate))) (ceil-above (e .upper));
-      }
+  unfolding discounted exactly discount/ quotient/ whole/
+  discounted-holds x h =
+      outward-holds g (rateUnit + rate) (divisor-positive rate) rateUnit rateUnit (discount/ rate) (discount/ rate) h (omega arith)
+      (omega arith)
 
   -- ---- the discount, a payment, the price
 

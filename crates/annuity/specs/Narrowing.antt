@@ -1,11 +1,11 @@
 -- The orders of the price narrow with those of the factors: where each of n factors' brackets is at most e wide, each
 -- payment's is at most n·e, and the price's at most n·(n + 1)·e.
 use mathlib.Core.List.{List}
-use Prim.Native.Nat.{ℕ, zero, suc, _+_, _*_}
+use Prim.Native.Nat.{ℕ, zero, suc, _*_}
 use native.Mathlib.Nat.{mul-comm}
 use native.Mathlib.Omega.{arith}
 use lib.ListN.{length}
-use Rattle.fraction.specs.Ratio.{Ratio, _≤/_, whole/, quotient/, _+/_, _*/_}
+use Rattle.fraction.specs.Ratio.{Ratio, _≤/_, whole/, quotient/, _+/_}
 use Rattle.fraction.specs.RatioLaws.{≤/-refl, ≤/-trans, ≤/-+/, +/-mono, */-mono, */-one}
 use Rattle.fraction.specs.Multiples.{times, times-times}
 use Rattle.fraction.specs.Bracket.{Bracket}

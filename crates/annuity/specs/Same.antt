@@ -1,5 +1,4 @@
 -- Two brackets with the same ends: each end of the one is the same number as that of the other.
-use mathlib.Core.Path.{_≡_}
 use Prim.Native.Nat.{ℕ, zero, suc, _<_}
 use native.Mathlib.Omega.{arith}
 use Rattle.fraction.specs.Ratio.{Ratio, _≈/_, whole/, _+/_}
@@ -16,9 +15,6 @@ pub ≈/-refl : (x : Ratio) → x ≈/ x
 
 pub same-refl : (a : Bracket) → Same a a
 same-refl a = record { least = ≈/-refl (a .least); most = ≈/-refl (a .most) }
-
-pub same-of : {a b : Bracket} → a ≡ b → Same a b
-same-of {a} e = rw (← e) (same-refl a)
 
 pub same-trans : {a b c : Bracket} → Same a b → Same b c → Same a c
 same-trans h k = record { least = ≈/-trans (h .least) (k .least); most = ≈/-trans (h .most) (k .most) }

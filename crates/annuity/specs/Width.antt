@@ -2,17 +2,15 @@
 -- discount and its survival together and 2 units more.
 use mathlib.Core.Path.{_≡_, refl}
 use mathlib.Core.List.{List, Forall₂}
-use Prim.Native.Nat.{ℕ, zero, suc, _+_, _*_, _/_, _≤_, _<_}
-use native.Mathlib.Nat.{mul-le-mul-right, lt-of-mul-lt-mul-right}
+use Prim.Native.Nat.{ℕ, zero, suc, _+_, _*_, _≤_, _<_}
 use native.Mathlib.Omega.{arith}
 use lib.ListN.{length, take}
-use Rattle.whole.specs.Division.{ceilDivℕ}
-use Rattle.whole.specs.DivisionLaws.{floorℕ-encloses, ceilℕ-encloses, ceilℕ-least, le-of-mul-lt}
 use Rattle.fraction.specs.Places.{places-length, places-take}
 use Rattle.expo.specs.Grid.{Grid}
 use Rattle.expo.specs.declared.Ends.{Ends}
 use Rattle.expo.specs.Exponential.{total}
-use Rattle.folds.specs.Width.{Chance, chance-wider, spread, spreads, sum-ordered, sum-width, one-chance, with-factor-chance, survival-chance}
+use Rattle.expo.specs.OutwardLaws.{outward-ordered, outward-width, outward-most}
+use Rattle.folds.specs.Width.{Chance, chance-wider, spread, spreads, sum-width, one-chance, with-factor-chance, survival-chance}
 use Rattle.annuity.specs.Annuity.{rateUnit, discounted, discountOver, paymentAfter, annuityOver}
 use Rattle.annuity.specs.Bounds.{divisor-positive}
 
@@ -35,25 +33,17 @@ payments ws (suc n) = let e = payments ws n in omega arith
 
 -- ---- one year of discount
 
-rounded : (q q′ l u a R D : ℕ) → l * R < q * D + D → q′ * D < u * R + D → u ≤ l + a → R ≤ D → q′ * D < (q + (a + 2)) * D
-rounded q q′ l u a R D h k w r = omega (arith, mul-le-mul-right R w, mul-le-mul-right a r)
-
 module _ (g : Grid) (positive : 0 < g .unit) (rate : ℕ) where
   discounted-chance : {a : ℕ} {d : Ends} → Chance g a d → Chance g (a + 2) (discounted rate d)
   unfolding discounted
   discounted-chance {a} {d} h =
-      let D = rateUnit + rate in
+      let p = divisor-positive rate in
       let x = d .lower * rateUnit in
       let y = d .upper * rateUnit in
-      let lo = floorℕ-encloses x (divisor-positive rate) in
-      let up = ceilℕ-encloses y (divisor-positive rate) in
       record {
-        ordered = le-of-mul-lt (x / D) (ceilDivℕ y D) D (omega (arith, h .ordered));
-        most = ceilℕ-least (g .unit) y (divisor-positive rate) (omega (arith, h .most));
-        width =
-            let m = lt-of-mul-lt-mul-right D
-            (rounded (x / D) (ceilDivℕ y D) (d .lower) (d .upper) a rateUnit D (lo .1) (up .1) (h .width) (omega arith)) in
-            omega arith;
+        ordered = outward-ordered x y p (omega (arith, h .ordered));
+        most = outward-most x y p (g .unit) (omega (arith, h .ordered, h .most)) (omega (arith, h .most)) .1;
+        width = outward-width x y p a (omega (arith, h .width));
       }
 
   -- the discount over k years is a chance at most 2·k wide
@@ -67,10 +57,6 @@ module _ (g : Grid) (positive : 0 < g .unit) (rate : ℕ) where
     unfolding paymentAfter
     payment-chance k =
         with-factor-chance g positive (discount-chance k) (survival-chance g positive (places-take k h))
-
-    pub annuity-ordered : annuityOver g rate es .lower ≤ annuityOver g rate es .upper
-    unfolding annuityOver
-    annuity-ordered = sum-ordered (paymentAfter g rate es) (suc (length es)) (λ k l. payment-chance k .ordered)
 
     pub annuity-width : annuityOver g rate es .upper ≤ annuityOver g rate es .lower + priceSpread ws
     unfolding annuityOver priceSpread spreads

@@ -7,7 +7,7 @@ use borrow.Author.Tests.{lt-ltb, le-ltb}
 use Rattle.expo.specs.Exponential.{expBetween}
 use Rattle.expo.specs.Billionths.{billionths}
 use Rattle.params.specs.declared.Params.{Params}
-use Rattle.series.specs.Series.{logForce, inRange}
+use Rattle.series.specs.Series.{logForce}
 use Rattle.closure.specs.Weights.{firstClosed, weightRow}
 use Rattle.logistic.specs.Logistic.{logistic}
 use Rattle.closure.specs.Closure.{weightedMean}

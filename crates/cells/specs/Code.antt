@@ -4,7 +4,6 @@ use mathlib.Core.List.{List}
 use Prim.Native.Nat.{ℕ}
 use lib.IntN.{ℤ}
 use Rattle.whole.specs.declared.SignedEnds.{SignedEnds}
-use Rattle.expo.specs.declared.Ends.{Ends}
 use Rattle.expo.specs.Exponential.{expBetween}
 use Rattle.expo.specs.Billionths.{billionths}
 use Rattle.params.specs.declared.Params.{Params}

@@ -4,7 +4,7 @@ use mathlib.Core.List.{List}
 use Prim.Native.Nat.{ℕ, zero, suc, _+_, _*_, _≤_, _<_}
 use native.Mathlib.Numerals.{add-one}
 use native.Mathlib.Omega.{arith}
-use lib.IntN.{ℤ, pos, _+ℤ_}
+use lib.IntN.{ℤ, _+ℤ_}
 use mir.Syntax.{w64}
 use mir.Val.{SFits}
 use Rattle.whole.specs.Bound.{bits, Under, under-lit, under-weaken, under-add, fits, back}
@@ -15,7 +15,7 @@ use Rattle.whole.proofs.Signed.{read, sum}
 use Rattle.closure.specs.Weights.{fitted}
 use Rattle.closure.specs.Totals.{weightLimit}
 use Rattle.closure.specs.Closure.{endsAt, leastSum, greatestSum}
-use Rattle.closure.specs.Code.{endLimit, sumsLimit, InLimit, weightOf, RowWithin, withProduct}
+use Rattle.closure.specs.Code.{endLimit, sumsLimit, weightOf, RowWithin, withProduct}
 
 -- a sum with the least or the greatest product of a weight with the ends of H: it fits, and is read as it is
 module _ {s w : ℤ} {e : SignedEnds} (hs : Under s sumsLimit) (hw : Under w weightLimit) (he : Within endLimit e) where

@@ -1,30 +1,22 @@
 -- What the ends of two exact values tell of them: that the words and numbers are true, and that values so far apart differ.
-use Prim.Native.Nat.{ℕ, _+_, _-_, _*_, _≤_, _<_}
-use native.Mathlib.Nat.{mul-le-mul-right, le-max-left, le-max-right}
+use Prim.Native.Nat.{ℕ, _+_, _-_, _≤_, _<_}
+use native.Mathlib.Nat.{le-max-left, le-max-right}
 use native.Mathlib.Decide.{decLt}
 use native.Mathlib.Omega.{arith}
-use Rattle.fraction.specs.Ratio.{Ratio, _≤/_, _</_, _+/_, whole/, quotient/}
+use Rattle.fraction.specs.Ratio.{Ratio, _≤/_, _</_, _+/_, whole/}
 use Rattle.fraction.specs.RatioLaws.{≤/-refl, ≤/-trans, ≤/-of-not-</, </-of-not-≤/, not-≤/-of-</}
-use Rattle.fraction.specs.RatioLaws.{+/-mono, +/-comm, +/-assoc, +/-cancel}
+use Rattle.fraction.specs.RatioLaws.{+/-mono, +/-comm, +/-assoc, +/-cancel, ≤/-+/, ≤/-</-trans}
+use Rattle.fraction.specs.Room.{finer, finer-positive, room, room-between}
 use Rattle.taylor.specs.Order.{leastOrder}
 use Rattle.expo.specs.Grid.{Grid, inUnits}
 use Rattle.expo.specs.declared.Ends.{Ends}
+use Rattle.expo.specs.OutwardLaws.{units-over, units-within}
 use Rattle.exact.specs.Value.{Exact, Narrows}
 use Rattle.exact.specs.ValueLaws.{at-least-weaken, at-most-weaken}
 use Rattle.compare_quotes.specs.declared.Excess.{Excess}
 use Rattle.compare_quotes.specs.Compare.{excess, mostApart, valuesOf}
 use Rattle.compare_quotes.specs.CompareLaws.{values-below, values-above, values-near}
 use Rattle.compare_quotes.specs.Meaning.{Held, AtLeastOver, AtMostOver, Exceeds, Within, Means, Less}
-
--- ---- whole numbers of units
-
-units-over : (g : Grid) (u n : ℕ) {l : ℕ} → u + n ≤ l → inUnits g u +/ inUnits g n ≤/ inUnits g l
-unfolding inUnits _+/_
-units-over g u n h = record { cross = omega (arith, mul-le-mul-right (g .unit * g .unit) h) }
-
-units-within : (g : Grid) (l n : ℕ) {u : ℕ} → u ≤ l + n → inUnits g u ≤/ inUnits g l +/ inUnits g n
-unfolding inUnits _+/_
-units-within g l n h = record { cross = omega (arith, mul-le-mul-right (g .unit * g .unit) h) }
 
 -- ---- the three words
 
@@ -85,23 +77,19 @@ module _ {g : Grid} where
 
 -- ---- values so far apart differ
 
--- brackets that are at most 1/(2·unit + 1) wide cannot fill a unit, two of them
-abbrev finer : Grid → ℕ
-finer g = 2 * g .unit + 1
+-- brackets so narrow, one of each value, cannot fill n units
+module _ (g : Grid) (n : ℕ) where
+  abbrev first : Ratio
+  first = room (whole/ 0) (inUnits g n)
 
-finer-positive : (g : Grid) → 0 < finer g
-finer-positive g = omega arith
+  abbrev second : Ratio
+  second = room (whole/ 0 +/ first) (inUnits g n)
 
-abbrev narrow : Grid → Ratio
-narrow g = quotient/ (whole/ 1) (finer g) (finer-positive g)
-
-room : (u n : ℕ) → 0 < n
-    → (1 * (1 * (2 * u + 1)) + 1 * (1 * (2 * u + 1))) * u < n * ((1 * (2 * u + 1)) * (1 * (2 * u + 1)))
-room u n h = omega (arith, mul-le-mul-right ((2 * u + 1) * (2 * u + 1)) h)
-
-unit-unfilled : (g : Grid) (n : ℕ) → 0 < n → narrow g +/ narrow g </ inUnits g n
-unfolding inUnits _+/_ quotient/ whole/
-unit-unfilled g n h = record { cross = room (g .unit) n h }
+  unfilled : 0 < n → first +/ second </ inUnits g n
+  unfolding inUnits whole/
+  unfilled h =
+      ≤/-</-trans (+/-mono (≤/-trans (≤/-+/ first (whole/ 0)) (+/-comm first (whole/ 0) .below)) (≤/-refl second))
+      (room-between (room-between (record { cross = omega arith })))
 
 -- what is added to one and the same fraction
 added : (u x y z : Ratio) → u +/ x ≤/ u +/ y +/ z → x ≤/ y +/ z
@@ -110,23 +98,25 @@ added u x y z h =
     (≤/-trans (+/-comm x u .below) (≤/-trans h (≤/-trans (+/-assoc u y z .below) (+/-comm u (y +/ z) .below))))
 
 module _ {g : Grid} {e : Excess} {v v′ : Exact} where
-  -- of brackets so narrow the first is below the second, or a unit would be filled
-  narrow-less : Exceeds g e v v′ → (j : ℕ) → leastOrder ≤ j → v j .most ≤/ v j .least +/ narrow g
-      → v′ j .most ≤/ v′ j .least +/ narrow g → v j .most </ v′ j .least
+  -- of brackets so narrow the first is below the second, or the units between them would be filled
+  narrow-less : Exceeds g e v v′ → (j : ℕ) → leastOrder ≤ j → v j .most ≤/ v j .least +/ first g (e .least)
+      → v′ j .most ≤/ v′ j .least +/ second g (e .least) → v j .most </ v′ j .least
   narrow-less a j c w w′ =
       </-of-not-≤/
       (λ h. let l = ≤/-trans w′ (+/-mono (≤/-trans h w) (≤/-refl _)) in
-      not-≤/-of-</ (unit-unfilled g (e .least) (a .some))
-      (added (v j .least) (inUnits g (e .least)) (narrow g) (narrow g)
+      not-≤/-of-</ (unfilled g (e .least) (a .some))
+      (added (v j .least) (inUnits g (e .least)) (first g (e .least)) (second g (e .least))
       (≤/-trans (≤/-of-not-</ (a .at-least .over j c .none-below j c)) l)))
 
   pub exceeds-less : Exceeds g e v v′ → Narrows v → Narrows v′ → Less v v′
   exceeds-less a w w′ =
+      let d = inUnits g (e .least) in
+      let x = whole/ 0 in
+      let y = x +/ room x d in
       record {
-        order = w .order (finer g) + w′ .order (finer g);
-        counts = omega (arith, w .counts (finer g));
+        order = w .order (finer x d) + w′ .order (finer y d);
+        counts = omega (arith, w .counts (finer x d));
         less = λ j l.
-            narrow-less a j (omega (arith, w .counts (finer g)))
-            (w .narrow (finer g) (finer-positive g) j (omega arith))
-            (w′ .narrow (finer g) (finer-positive g) j (omega arith));
+            narrow-less a j (omega (arith, w .counts (finer x d))) (w .narrow (finer x d) (finer-positive x d) j (omega arith))
+            (w′ .narrow (finer y d) (finer-positive y d) j (omega arith));
       }

@@ -6,9 +6,10 @@ use Prim.Native.Nat.{ℕ, _+_, _*_, _≤_, _<_}
 use native.Mathlib.Nat.{mul-le-mul-right, le-refl}
 use native.Mathlib.Decide.{decLt}
 use native.Mathlib.Omega.{arith}
-use Rattle.fraction.specs.Ratio.{_≤/_, _</_, _+/_, whole/, quotient/}
+use Rattle.fraction.specs.Ratio.{_≤/_, _</_}
 use Rattle.fraction.specs.RatioLaws.{≤/-refl, ≤/-trans, +/-mono, </-≤/-trans, ≤/-</-trans, ≤/-of-not-</}
 use Rattle.expo.specs.Grid.{Grid, inUnits}
+use Rattle.fraction.specs.Room.{finer, finer-positive, room-between}
 use Rattle.expo.specs.declared.Ends.{Ends}
 use Rattle.exact.specs.Value.{Exact, AtLeast, AtMost, lowerEdge, upperEdge, RoundsTo, OneStep, Narrows}
 use Rattle.exact.specs.ValueLaws.{at-least-weaken}
@@ -50,38 +51,31 @@ edge-below : (g : Grid) (step e : ℕ) {n : ℕ} → halfUp step e ≡ n
 unfolding lowerEdge inUnits
 edge-below g step e h = record { cross = omega (arith, mul-le-mul-right (g .unit) (half-up-low step e h)) }
 
--- and below their upper half-edge, by half a unit at least, which is more than 1/(2·unit + 1)
-abbrev finer : Grid → ℕ
-finer g = 2 * g .unit + 1
-
-finer-positive : (g : Grid) → 0 < finer g
-finer-positive g = omega arith
-
-room : (u e E : ℕ) → 0 < u → 2 * e < E → (e * (1 * (2 * u + 1)) + 1 * u) * (2 * u) < E * (u * (1 * (2 * u + 1)))
-room u e E p h =
-    let k : 2 * e + 1 ≤ E = omega arith in
-    omega (arith, mul-le-mul-right (u * (2 * u + 1)) k)
+-- and below their upper half-edge
+edge-algebra : (u e E : ℕ) → 0 < u → 2 * e < E → e * (2 * u) < E * u
+edge-algebra u e E p h = let k : 2 * e + 1 ≤ E = omega arith in omega (arith, mul-le-mul-right u k)
 
 edge-above : (g : Grid) (step e : ℕ) {n : ℕ} → 0 < step → halfUp step e ≡ n
-    → inUnits g e +/ quotient/ (whole/ 1) (finer g) (finer-positive g) </ upperEdge g step n
-unfolding upperEdge inUnits _+/_ quotient/ whole/
-edge-above g step e p h =
-    record { cross = room (g .unit) e _ (g .positive) (half-up-high step e p h) }
+    → inUnits g e </ upperEdge g step n
+unfolding upperEdge inUnits
+edge-above g step e p h = record { cross = edge-algebra (g .unit) e _ (g .positive) (half-up-high step e p h) }
 
 -- a value between two ends that both round to n steps rounds to n steps
 pub printed-rounds : {g : Grid} {step n : ℕ} {v : Exact} (ends : Ends) → 0 < step
     → AtLeast v (inUnits g (ends .lower)) → AtMost v (inUnits g (ends .upper)) → Narrows v
     → halfUp step (ends .lower) ≡ n → halfUp step (ends .upper) ≡ n → RoundsTo g step n v
-printed-rounds {g} {step} ends p a b w l u =
-    let j = w .order (finer g) in
-    let c = w .counts (finer g) in
+printed-rounds {g} {step} {n} ends p a b w l u =
+    let x = inUnits g (ends .upper) in
+    let y = upperEdge g step n in
+    let j = w .order (finer x y) in
+    let c = w .counts (finer x y) in
     record {
       low = at-least-weaken (edge-below g step (ends .lower) l) a;
       order = j;
       counts = c;
       high =
           ≤/-</-trans
-          (≤/-trans (w .narrow (finer g) (finer-positive g) j (le-refl j))
+          (≤/-trans (w .narrow (finer x y) (finer-positive x y) j (le-refl j))
           (+/-mono (≤/-of-not-</ (b .none-above j c)) (≤/-refl _)))
-          (edge-above g step (ends .upper) p u);
+          (room-between (edge-above g step (ends .upper) p u));
     }

@@ -2,6 +2,7 @@
 pub mod Grid
 pub mod Exponential
 pub mod Billionths
+pub mod Outward
 pub mod Overlap
 pub mod Facts
 pub mod WidthFacts
@@ -17,3 +18,4 @@ pub mod NearSums
 pub mod Width
 pub mod AtMostOne
 pub mod BillionthsFacts
+pub mod OutwardLaws

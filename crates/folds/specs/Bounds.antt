@@ -1,12 +1,12 @@
 -- How great the folds can be: a survival is at most 1, and an expectancy at most one half and 1 for each factor.
 use mathlib.Core.List.{List}
 use Prim.Native.Nat.{ℕ, zero, suc, _+_, _*_, _/_, _<_}
-use native.Mathlib.Nat.{le-refl, mul-le-mul, div-le-of-le-mul}
+use native.Mathlib.Nat.{le-refl, mul-le-mul}
 use native.Mathlib.Omega.{arith}
 use lib.ListN.{length}
-use Rattle.whole.specs.DivisionLaws.{ceilℕ-least}
 use Rattle.expo.specs.Grid.{Grid}
 use Rattle.expo.specs.declared.Ends.{Ends}
+use Rattle.expo.specs.OutwardLaws.{outward-most}
 use Rattle.folds.specs.Folds.{one, half, withFactor, survivalFrom, survivalOver, survivalsOver, plus, sumOver, expectancyOver}
 use Rattle.folds.specs.Each.{Each, none, also, each-take}
 use Rattle.folds.specs.Code.{AtMost}
@@ -24,10 +24,8 @@ module _ (g : Grid) (positive : 0 < g .unit) where
   pub with-factor-at-most : {s p : Ends} → AtMost (g .unit) s → AtMost (g .unit) p → AtMost (g .unit) (withFactor g s p)
   unfolding withFactor
   with-factor-at-most a b =
-      record {
-        lower = div-le-of-le-mul (g .unit) (mul-le-mul (a .lower) (b .lower));
-        upper = ceilℕ-least (g .unit) _ positive (mul-le-mul (a .upper) (b .upper));
-      }
+      let m = outward-most _ _ positive (g .unit) (mul-le-mul (a .lower) (b .lower)) (mul-le-mul (a .upper) (b .upper)) in
+      record { lower = m .0; upper = m .1 }
 
   from-at-most : {s : Ends} {ps : List Ends} → AtMost (g .unit) s → Each (AtMost (g .unit)) ps
       → AtMost (g .unit) (survivalFrom g s ps)

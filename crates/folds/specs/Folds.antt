@@ -3,9 +3,9 @@
 use mathlib.Core.List.{List, [], _∷_}
 use Prim.Native.Nat.{ℕ, zero, suc, _+_, _*_, _/_}
 use lib.ListN.{length, take}
-use Rattle.whole.specs.Division.{ceilDivℕ}
 use Rattle.expo.specs.Grid.{Grid}
 use Rattle.expo.specs.declared.Ends.{Ends}
+use Rattle.expo.specs.Outward.{outwardOver}
 
 -- 1, and one half of it
 unfoldable pub one : Grid → Ends
@@ -16,7 +16,7 @@ half g = record { lower = g .unit / 2; upper = g .unit / 2 }
 
 -- "takes one p at a time, over 10^9, outward"
 unfoldable pub withFactor : Grid → Ends → Ends → Ends
-withFactor g s p = record { lower = s .lower * p .lower / g .unit; upper = ceilDivℕ (s .upper * p .upper) (g .unit) }
+withFactor g s p = outwardOver (s .lower * p .lower) (s .upper * p .upper) (g .unit)
 
 -- the factors one after the other, from a survival s
 unfoldable pub survivalFrom : Grid → Ends → List Ends → Ends

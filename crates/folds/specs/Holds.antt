@@ -2,20 +2,19 @@
 -- expectancy's overlap theirs.
 use mathlib.Core.Path.{_≡_, refl}
 use mathlib.Core.List.{List, Forall₂, Forall₂·nil, Forall₂·cons}
-use Prim.Native.Nat.{ℕ, zero, suc, _+_, _*_, _/_, _<_}
-use native.Mathlib.Nat.{mul-le-mul-right}
+use Prim.Native.Nat.{ℕ, zero, suc, _*_, _/_, _<_}
+use native.Mathlib.Nat.{le-refl}
 use native.Mathlib.Omega.{arith}
 use lib.ListN.{length}
-use Rattle.whole.specs.Division.{ceilDivℕ}
-use Rattle.whole.specs.DivisionLaws.{floorℕ-encloses, ceilℕ-encloses}
-use Rattle.fraction.specs.Ratio.{_≤/_, whole/, quotient/, _+/_, _*/_}
-use Rattle.fraction.specs.RatioLaws.{≤/-trans, +/-mono, */-mono}
+use Rattle.fraction.specs.Ratio.{whole/, quotient/}
+use Rattle.fraction.specs.RatioLaws.{≤/-trans, +/-mono}
 use Rattle.fraction.specs.Bracket.{Bracket}
 use Rattle.fraction.specs.Places.{places-length, places-take}
 use Rattle.expo.specs.Grid.{Grid, inUnits}
 use Rattle.expo.specs.declared.Ends.{Ends}
 use Rattle.expo.specs.Billionths.{billionths}
 use Rattle.expo.specs.Overlap.{Overlap}
+use Rattle.expo.specs.OutwardLaws.{units-over, units-within, outward-holds}
 use Rattle.folds.specs.Folds.{one, half, withFactor, survivalFrom, survivalOver, survivalsOver, plus, sumOver, expectancyOver}
 use Rattle.folds.specs.Exact.{
   exactly,
@@ -41,24 +40,6 @@ module _ (g : Grid) where
   abbrev pub Over : Ends → Bracket → Type 0
   Over e b = Overlap g e (b .least) (b .most)
 
-  -- ---- products and sums of units
-
-  floor-below : (a b : ℕ) → inUnits g (a * b / g .unit) ≤/ inUnits g a */ inUnits g b
-  unfolding inUnits _*/_
-  floor-below a b = record { cross = omega (arith, mul-le-mul-right (g .unit) (floorℕ-encloses (a * b) (g .positive) .0)) }
-
-  ceil-above : (a b : ℕ) → inUnits g a */ inUnits g b ≤/ inUnits g (ceilDivℕ (a * b) (g .unit))
-  unfolding inUnits _*/_
-  ceil-above a b = record { cross = omega (arith, mul-le-mul-right (g .unit) (ceilℕ-encloses (a * b) (g .positive) .0)) }
-
-  sum-below : (a b : ℕ) → inUnits g (a + b) ≤/ inUnits g a +/ inUnits g b
-  unfolding inUnits _+/_
-  sum-below a b = record { cross = omega arith }
-
-  sum-above : (a b : ℕ) → inUnits g a +/ inUnits g b ≤/ inUnits g (a + b)
-  unfolding inUnits _+/_
-  sum-above a b = record { cross = omega arith }
-
   -- ---- 0, 1 and one half
 
   none-over : Over (record { lower = 0; upper = 0 }) (exactly (whole/ 0))
@@ -76,19 +57,16 @@ module _ (g : Grid) where
   -- ---- one factor, and one summand
 
   pub with-factor-holds : {e p : Ends} {b q : Bracket} → Over e b → Over p q → Over (withFactor g e p) (orderWithFactor b q)
-  unfolding withFactor orderWithFactor
-  with-factor-holds {e} {p} h k =
-      record {
-        below = ≤/-trans (floor-below (e .lower) (p .lower)) (*/-mono (h .below) (k .below));
-        above = ≤/-trans (*/-mono (h .above) (k .above)) (ceil-above (e .upper) (p .upper));
-      }
+  unfolding withFactor orderWithFactor inUnits
+  with-factor-holds {p = p} {q = q} h k =
+      outward-holds g (g .unit) (g .positive) (p .lower) (p .upper) (q .least) (q .most) h (k .below .cross) (k .above .cross)
 
   pub plus-holds : {e p : Ends} {b q : Bracket} → Over e b → Over p q → Over (plus e p) (orderPlus b q)
   unfolding plus orderPlus
   plus-holds {e} {p} h k =
       record {
-        below = ≤/-trans (sum-below (e .lower) (p .lower)) (+/-mono (h .below) (k .below));
-        above = ≤/-trans (+/-mono (h .above) (k .above)) (sum-above (e .upper) (p .upper));
+        below = ≤/-trans (units-within g (e .lower) (p .lower) (le-refl _)) (+/-mono (h .below) (k .below));
+        above = ≤/-trans (+/-mono (h .above) (k .above)) (units-over g (e .upper) (p .upper) (le-refl _));
       }
 
   pub sum-holds : (f : ℕ → Ends) (h : ℕ → Bracket) (n : ℕ) → ((k : ℕ) → k < n → Over (f k) (h k))

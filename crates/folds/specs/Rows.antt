@@ -6,6 +6,7 @@ use Rattle.whole.specs.Division.{ceilDivℕ}
 use Rattle.expo.specs.declared.Ends.{Ends}
 use Rattle.expo.specs.Exponential.{total}
 use Rattle.expo.specs.Billionths.{billionths}
+use Rattle.expo.specs.Outward.{outwardOver}
 use Rattle.folds.specs.Folds.{one, half, withFactor, survivalFrom, survivalOver, plus, sumOver, expectancyOver}
 use Rattle.folds.specs.Width.{spread, spreads}
 
@@ -15,11 +16,11 @@ factors =
     (record { lower = 692200612; upper = 692200644 }) ∷ (record { lower = 692200612; upper = 692200644 }) ∷ []
 
 two-years : survivalOver billionths factors ≡ record { lower = 479141687; upper = 479141732 }
-unfolding factors withFactor survivalFrom survivalOver one ceilDivℕ
+unfolding factors withFactor outwardOver survivalFrom survivalOver one ceilDivℕ
 two-years = refl
 
 two-years-on-average : expectancyOver billionths factors ≡ record { lower = 1671342299; upper = 1671342376 }
-unfolding factors withFactor survivalFrom survivalOver one ceilDivℕ half plus sumOver expectancyOver
+unfolding factors withFactor outwardOver survivalFrom survivalOver one ceilDivℕ half plus sumOver expectancyOver
 two-years-on-average = refl
 
 -- the longest survival: 91 factors at most 100 units wide and 30 at most 600

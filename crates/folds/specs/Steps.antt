@@ -10,6 +10,7 @@ use Rattle.whole.specs.Division.{ceilDivℕ}
 use Rattle.whole.specs.DivisionLaws.{floorℕ-exact, ceilℕ-exact}
 use Rattle.expo.specs.Grid.{Grid}
 use Rattle.expo.specs.declared.Ends.{Ends}
+use Rattle.expo.specs.Outward.{outwardOver}
 use Rattle.folds.specs.Folds.{one, half, withFactor, survivalFrom, survivalOver, survivalsOver, plus, sumOver, expectancyOver}
 
 -- two sums of equal terms
@@ -32,7 +33,7 @@ module _ (g : Grid) where
 
   -- 1 with one factor more is that factor, and so is the survival over it
   pub one-with-factor : 0 < g .unit → (e : Ends) → withFactor g (one g) e ≡ e
-  unfolding withFactor one
+  unfolding withFactor outwardOver one
   one-with-factor positive e =
       ap₂ (λ (l u : ℕ). record { lower = l; upper = u })
       (ap (λ (m : ℕ). m / g .unit) (mul-comm (g .unit) (e .lower)) ∙ floorℕ-exact (e .lower) positive)

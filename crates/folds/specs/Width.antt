@@ -1,16 +1,15 @@
 -- How far apart the folds' ends lie: a survival's at most as far as those of all its factors together and 2 units a
 -- factor, an expectancy's as those of all the survivals in it.
 use mathlib.Core.List.{List, [], _∷_, Forall₂, Forall₂·nil, Forall₂·cons}
-use Prim.Native.Nat.{ℕ, zero, suc, _+_, _*_, _/_, _≤_, _<_}
-use native.Mathlib.Nat.{le-refl, le-trans, mul-le-mul, mul-le-mul-left, mul-le-mul-right, lt-of-mul-lt-mul-right}
+use Prim.Native.Nat.{ℕ, zero, suc, _+_, _*_, _≤_, _<_}
+use native.Mathlib.Nat.{le-refl, le-trans, mul-le-mul, mul-le-mul-left, mul-le-mul-right}
 use native.Mathlib.Omega.{arith}
 use lib.ListN.{length, take}
-use Rattle.whole.specs.Division.{ceilDivℕ}
-use Rattle.whole.specs.DivisionLaws.{floorℕ-encloses, ceilℕ-encloses, ceilℕ-least, le-of-mul-lt}
 use Rattle.fraction.specs.Places.{places-length, places-take}
 use Rattle.expo.specs.Grid.{Grid}
 use Rattle.expo.specs.declared.Ends.{Ends}
 use Rattle.expo.specs.Exponential.{total}
+use Rattle.expo.specs.OutwardLaws.{outward-ordered, outward-width, outward-most}
 use Rattle.folds.specs.Folds.{one, half, withFactor, survivalFrom, survivalOver, survivalsOver, plus, sumOver, expectancyOver}
 
 -- the two ends of a chance, a factor or a survival: in order, at most 1, and at most w apart
@@ -36,12 +35,6 @@ spreads ws = total (λ (k : ℕ). spread (take (suc k) ws)) (length ws)
 
 -- ---- sums
 
-pub sum-ordered : (f : ℕ → Ends) (n : ℕ) → ((k : ℕ) → k < n → f k .lower ≤ f k .upper)
-    → sumOver f n .lower ≤ sumOver f n .upper
-unfolding sumOver plus
-sum-ordered f zero h = le-refl 0
-sum-ordered f (suc n) h = omega (arith, sum-ordered f n (λ k l. h k (omega arith)), h n (omega arith))
-
 pub sum-width : (f : ℕ → Ends) (w : ℕ → ℕ) (n : ℕ) → ((k : ℕ) → k < n → f k .upper ≤ f k .lower + w k)
     → sumOver f n .upper ≤ sumOver f n .lower + total w n
 unfolding sumOver plus total
@@ -61,28 +54,17 @@ product-width s s′ p p′ a b U hs hp o h k =
       mul-le-mul-left a (le-trans o hp),
     )
 
-rounded-width : (q q′ x x′ w U : ℕ) → x < q * U + U → q′ * U < x′ + U → x′ ≤ x + w * U → q′ * U < (q + (w + 2)) * U
-rounded-width q q′ x x′ w U h k l = omega arith
-
 module _ (g : Grid) (positive : 0 < g .unit) where
   pub with-factor-chance : {a b : ℕ} {s p : Ends} → Chance g a s → Chance g b p → Chance g (a + (b + 2)) (withFactor g s p)
   unfolding withFactor
   with-factor-chance {a} {b} {s} {p} h k =
-      let x = s .lower * p .lower in
-      let y = s .upper * p .upper in
-      let lo = floorℕ-encloses x positive in
-      let up = ceilℕ-encloses y positive in
-      let xy : x ≤ y = mul-le-mul (h .ordered) (k .ordered) in
-      let d : y ≤ x + (a + b) * g .unit =
-      product-width (s .lower) (s .upper) (p .lower) (p .upper) a b (g .unit) (h .most) (k .most) (k .ordered) (h .width)
-      (k .width) in
+      let w = outward-width _ _ positive (a + b)
+      (product-width (s .lower) (s .upper) (p .lower) (p .upper) a b (g .unit) (h .most) (k .most) (k .ordered) (h .width) (k .width)) in
       record {
-        ordered = le-of-mul-lt (x / g .unit) (ceilDivℕ y (g .unit)) (g .unit) (omega (arith, positive));
-        most = ceilℕ-least (g .unit) y positive (mul-le-mul (h .most) (k .most));
-        width =
-            let m = lt-of-mul-lt-mul-right (g .unit)
-            (rounded-width (x / g .unit) (ceilDivℕ y (g .unit)) x y (a + b) (g .unit) (lo .1) (up .1) d) in
-            omega arith;
+        ordered = outward-ordered _ _ positive (mul-le-mul (h .ordered) (k .ordered));
+        most = outward-most _ _ positive (g .unit) (mul-le-mul (le-trans (h .ordered) (h .most)) (le-trans (k .ordered) (k .most)))
+            (mul-le-mul (h .most) (k .most)) .1;
+        width = omega arith;
       }
 
   -- ---- the folds
@@ -101,21 +83,13 @@ module _ (g : Grid) (positive : 0 < g .unit) where
   unfolding survivalOver
   survival-chance h = chance-wider (from-chance one-chance h) (omega arith)
 
-  module _ {ws : List ℕ} {es : List Ends} (h : Forall₂ (Chance g) ws es) where
-    pub expectancy-ordered : expectancyOver g es .lower ≤ expectancyOver g es .upper
-    unfolding expectancyOver plus half
-    expectancy-ordered =
-        omega (
-          arith,
-          sum-ordered (survivalsOver g es) (length es) (λ k l. survival-chance (places-take (suc k) h) .ordered),
-        )
-
-    pub expectancy-width : expectancyOver g es .upper ≤ expectancyOver g es .lower + spreads ws
-    unfolding expectancyOver plus half spreads
-    expectancy-width =
-        rw (places-length h)
-        (omega (
-          arith,
-          sum-width (survivalsOver g es) (λ (k : ℕ). spread (take (suc k) ws)) (length es)
-              (λ k l. survival-chance (places-take (suc k) h) .width),
-        ))
+  pub expectancy-width : {ws : List ℕ} {es : List Ends} → Forall₂ (Chance g) ws es
+      → expectancyOver g es .upper ≤ expectancyOver g es .lower + spreads ws
+  unfolding expectancyOver plus half spreads
+  expectancy-width {ws} {es} h =
+      rw (places-length h)
+      (omega (
+        arith,
+        sum-width (survivalsOver g es) (λ (k : ℕ). spread (take (suc k) ws)) (length es)
+            (λ k l. survival-chance (places-take (suc k) h) .width),
+      ))

@@ -6,6 +6,7 @@ pub mod Fraction
 pub mod Rows
 -- laws
 pub mod RatioLaws
+pub mod Room
 pub mod Multiples
 pub mod FractionLaws
 pub mod EndsHold

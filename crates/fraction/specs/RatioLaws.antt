@@ -1,7 +1,7 @@
 -- The laws of the fractions that are at least 0: order, sum, product, quotient, complement, and sums of lists.
 use mathlib.Core.Path.{_≡_, ap}
 use mathlib.Core.Logic.{_⊎_, inl, inr, _↔_}
-use Prim.Native.Nat.{ℕ, _+_, _-_, _*_, _≤_, _<_}
+use Prim.Native.Nat.{ℕ, _+_, _*_, _≤_, _<_}
 use native.Mathlib.Nat.{
   mul-le-mul,
   mul-le-mul-right,
@@ -63,9 +63,6 @@ pub ≤/-</-trans : {x y z : Ratio} → x ≤/ y → y </ z → x </ z
       (omega (arith, mul-le-mul-right (z .den) (h .cross), mul-lt-mul-of-pos-right (k .cross) (x .positive)));
 }
 
-pub </-trans : {x y z : Ratio} → x </ y → y </ z → x </ z
-</-trans h k = </-≤/-trans h (</→≤/ k)
-
 -- less and at least exclude one another, and one of them holds
 pub not-</-of-≤/ : {x y : Ratio} → y ≤/ x → ¬ (x </ y)
 not-</-of-≤/ h k = omega arith
@@ -84,14 +81,6 @@ pub </-of-not-≤/ : {x y : Ratio} → ¬ (y ≤/ x) → x </ y
 
 -- ---- whole numbers
 
-pub whole/-≤/ : {a b : ℕ} → (a ≤ b) ↔ (whole/ a ≤/ whole/ b)
-unfolding whole/
-whole/-≤/ = (λ h. omega arith, λ h. omega arith)
-
-pub whole/-</ : {a b : ℕ} → (a < b) ↔ (whole/ a </ whole/ b)
-unfolding whole/
-whole/-</ = (λ h. omega arith, λ h. omega arith)
-
 pub whole/-+/ : (a b : ℕ) → whole/ (a + b) ≈/ whole/ a +/ whole/ b
 unfolding whole/ _+/_
 whole/-+/ a b = omega arith
@@ -99,10 +88,6 @@ whole/-+/ a b = omega arith
 pub whole/-*/ : (a b : ℕ) → whole/ (a * b) ≈/ whole/ a */ whole/ b
 unfolding whole/ _*/_
 whole/-*/ a b = omega arith
-
-pub zero-≤/ : (x : Ratio) → whole/ 0 ≤/ x
-unfolding whole/
-zero-≤/ x = omega arith
 
 -- a fraction is above 0 when its numerator is positive
 pub num-positive : {x : Ratio} → (0 < x .num) ↔ (whole/ 0 </ x)
@@ -112,10 +97,6 @@ num-positive = (λ h. omega arith, λ h. omega arith)
 pub whole/-positive : {k : ℕ} → 0 < k → 0 < (whole/ k) .num
 unfolding whole/
 whole/-positive p = p
-
--- what is at least a fraction above 0 is above 0
-pub num-positive-≤/ : {x y : Ratio} → x ≤/ y → 0 < x .num → 0 < y .num
-num-positive-≤/ h p = num-positive .1 (</-≤/-trans (num-positive .0 p) h)
 
 -- ---- the sum
 
@@ -153,24 +134,12 @@ pub */-mono : {x y u v : Ratio} → x ≤/ y → u ≤/ v → x */ u ≤/ y */ v
 unfolding _*/_
 */-mono h k = omega (arith, mul-le-mul (h .cross) (k .cross))
 
--- a common factor above 0 may be left out
-pub */-cancel : {x y : Ratio} (u : Ratio) → 0 < u .num → x */ u ≤/ y */ u → x ≤/ y
-unfolding _*/_
-*/-cancel {x} {y} u p h = record {
-  cross = le-of-mul-le-mul-right {k = u .num * u .den}
-      (omega (arith, h .cross)) (mul-pos p (u .positive));
-}
-
 pub */-cong : {x y u v : Ratio} → x ≈/ y → u ≈/ v → x */ u ≈/ y */ v
 */-cong e f = ≤/-antisym (*/-mono (e .below) (f .below)) (*/-mono (e .above) (f .above))
 
 pub */-comm : (x y : Ratio) → x */ y ≈/ y */ x
 unfolding _*/_
 */-comm x y = omega arith
-
-pub */-assoc : (x y z : Ratio) → (x */ y) */ z ≈/ x */ (y */ z)
-unfolding _*/_
-*/-assoc x y z = omega arith
 
 pub */-one : (x : Ratio) → x */ whole/ 1 ≈/ x
 unfolding _*/_ whole/
@@ -216,16 +185,3 @@ unfolding whole/
 pub +/-complement : {x : Ratio} → x ≤/ whole/ 1 → x +/ complement x ≈/ whole/ 1
 unfolding complement _+/_ whole/
 +/-complement {x} h = omega (arith, ap (λ (m : ℕ). m * x .den) (add-sub-of-le (≤/-one .1 h)))
-
--- 1 − x is at most 1
-pub complement-≤/ : (x : Ratio) → complement x ≤/ whole/ 1
-unfolding complement whole/
-complement-≤/ x = omega arith
-
--- 1 − (1 − x) = x
-pub complement-complement : {x : Ratio} → x ≤/ whole/ 1 → complement (complement x) ≈/ x
-unfolding complement
-complement-complement {x} h = omega (arith, ap (λ (m : ℕ). m * x .den) (twice (≤/-one .1 h)))
-  where
-    twice : {a b : ℕ} → a ≤ b → b - (b - a) ≡ a
-    twice h = omega arith

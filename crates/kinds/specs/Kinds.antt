@@ -6,8 +6,7 @@ use Prim.Native.Nat.{ℕ, suc, _-_}
 use lib.Dec.{ltb}
 use lib.IntN.{ℤ, pos}
 use Rattle.params.specs.Limits.{quoteYears, lastYears}
-use Rattle.weights.specs.Weights.{firstClosed}
-use Rattle.closure.specs.Weights.{lastClosed}
+use Rattle.closure.specs.Weights.{firstClosed, lastClosed}
 use Rattle.exact.specs.Figure.{probabilityStep, expectancyStep}
 use Rattle.kinds.specs.declared.Kind.{Kind}
 use Rattle.kinds.specs.declared.Kind.the-variants as kind

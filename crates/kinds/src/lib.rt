@@ -1,9 +1,7 @@
 // The kinds of figure, and what each takes of a path: one rule a kind, and a step and a fold for each of four figures.
 ghost use mathlib.Core.Path.{_≡_};
 ghost use Prim.Native.Nat.{_≤_};
-ghost use lib.IntN.{pos, natAbs};
 ghost use lib.ListN.{take};
-ghost use lib.Signed.{_≤ℤ_};
 ghost use Rattle.expo.specs.Billionths.{billionths};
 ghost use Rattle.closure.specs.Weights.{lastClosed};
 ghost use Rattle.folds.specs.Code.{Chances};

@@ -1,16 +1,17 @@
 -- The logarithm on a grid, read as fractions, holds every order of the exact one: its lower end at u is at most an order's
 -- sum at a force that is no less than u, from the grid's number of terms on, and at u ≤ 1/2 its upper end is at least every
 -- order's sum at a force that is no more than u.
-use Prim.Native.Nat.{ℕ, zero, suc, _+_, _*_, _/_, _^_, _≤_}
-use native.Mathlib.Nat.{mul-le-mul-left, mul-le-mul-right}
+use Prim.Native.Nat.{ℕ, zero, suc, _*_, _/_, _^_, _≤_}
+use native.Mathlib.Nat.{mul-le-mul-left, mul-le-mul-right, le-refl}
 use native.Mathlib.Omega.{arith}
 use Rattle.whole.specs.Division.{ceilDivℕ}
 use Rattle.whole.specs.DivisionLaws.{floorℕ-encloses, ceilℕ-encloses}
-use Rattle.fraction.specs.Ratio.{Ratio, _≤/_, _+/_, _*/_, whole/}
+use Rattle.fraction.specs.Ratio.{Ratio, _≤/_, _*/_, whole/}
 use Rattle.fraction.specs.RatioLaws.{≤/-trans, ≤/-+/, +/-mono}
 use Rattle.expo.specs.Grid.{Grid, inUnits}
 use Rattle.expo.specs.Overlap.{Overlap}
 use Rattle.expo.specs.declared.Ends.{Ends}
+use Rattle.expo.specs.OutwardLaws.{units-over, units-within}
 use Rattle.logarithm.specs.Logarithm.{powerLower, powerUpper, logTermsLower, logTermsUpper, logRest, logLower, logUpper}
 use Rattle.logarithm.specs.Exact.{logTerm, logSum, orderLogLower, orderLogUpper}
 use Rattle.logarithm.specs.Half.{half, logReach}
@@ -26,14 +27,6 @@ term-above : (U q x m n T P : ℕ) → m * x ≤ q * n → U * P ≤ x * T → m
 term-above U q x m n T P h k = omega (arith, mul-le-mul-right T h, mul-le-mul-left m k)
 
 module _ (g : Grid) where
-  units-add : (a b : ℕ) → inUnits g (a + b) ≤/ inUnits g a +/ inUnits g b
-  unfolding inUnits _+/_
-  units-add a b = omega arith
-
-  add-units : (a b : ℕ) → inUnits g a +/ inUnits g b ≤/ inUnits g (a + b)
-  unfolding inUnits _+/_
-  add-units a b = omega arith
-
   units-zero : whole/ 0 ≤/ inUnits g 0
   unfolding inUnits whole/
   units-zero = omega arith
@@ -73,16 +66,16 @@ module _ (g : Grid) where
   pub terms-below : (u n : ℕ) → inUnits g (logTermsLower g u n) ≤/ logSum (inUnits g u) n
   unfolding logTermsLower logSum
   terms-below u zero = zero-units
-  terms-below u (suc n) = ≤/-trans (units-add _ _) (+/-mono (terms-below u n) (quotient-below u n))
+  terms-below u (suc n) = ≤/-trans (units-within g _ _ (le-refl _)) (+/-mono (terms-below u n) (quotient-below u n))
 
   pub terms-above : (u n : ℕ) → logSum (inUnits g u) n ≤/ inUnits g (logTermsUpper g u n)
   unfolding logTermsUpper logSum
   terms-above u zero = units-zero
-  terms-above u (suc n) = ≤/-trans (+/-mono (terms-above u n) (quotient-above u n)) (add-units _ _)
+  terms-above u (suc n) = ≤/-trans (+/-mono (terms-above u n) (quotient-above u n)) (units-over g _ _ (le-refl _))
 
   pub log-reach : (u : ℕ) → logReach (inUnits g u) (g .logTerms) ≤/ inUnits g (logUpper g u)
   unfolding logReach logUpper
-  log-reach u = ≤/-trans (+/-mono (terms-above u (g .logTerms)) (rest-above u)) (add-units _ _)
+  log-reach u = ≤/-trans (+/-mono (terms-above u (g .logTerms)) (rest-above u)) (units-over g _ _ (le-refl _))
 
   pub units-half : (u : ℕ) → 2 * u ≤ g .unit → inUnits g u ≤/ half
   unfolding inUnits half

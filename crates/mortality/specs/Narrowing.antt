@@ -47,11 +47,11 @@ use Rattle.mortality.specs.Billionths.{billionths-fit}
 -- ---- parts of 1/M
 
 -- forty times 1/(40·M) is 1/M
-finer : (M : ℕ) → 0 < M → 0 < 40 * M
-finer M h = omega arith
+forty-positive : (M : ℕ) → 0 < M → 0 < 40 * M
+forty-positive M h = omega arith
 
 abbrev part : (M : ℕ) → 0 < M → Ratio
-part M h = quotient/ (whole/ 1) (40 * M) (finer M h)
+part M h = quotient/ (whole/ 1) (40 * M) (forty-positive M h)
 
 times-part : (M : ℕ) (h : 0 < M) → times 40 (part M h) ≤/ quotient/ (whole/ 1) M h
 unfolding times whole/ quotient/ _*/_
@@ -89,7 +89,7 @@ module _ (p : Params) (x n j M : ℕ) (h : 0 < M) (l : narrowOrder 1 (40 * M) �
       → orderSurvival p x n j .most ≤/ orderSurvival p x n j .least +/ quotient/ (whole/ 1) M h
   unfolding orderSurvival
   survival-parts k c f o =
-      let s = exp-narrow-below 1 (40 * M) (finer M h) (orderForce p x n j .least) (orderForce p x n j .most) (times k (part M h)) j f o l in
+      let s = exp-narrow-below 1 (40 * M) (forty-positive M h) (orderForce p x n j .least) (orderForce p x n j .most) (times k (part M h)) j f o l in
       ≤/-trans (more (orderLower (orderForce p x n j .most) j) k (part M h) s)
       (+/-mono (≤/-refl _) (≤/-trans (times-grows (suc k) 40 (part M h) c) (times-part M h)))
 
@@ -152,7 +152,7 @@ module _ (p : Params) (x n : ℕ) (r : Negated (logForce p x n) logForceWidth) w
       → orderYoungForce p x n j .most ≤/ orderYoungForce p x n j .least +/ times 1 (part M h)
   unfolding orderYoungForce
   young-parts j M h l =
-      ≤/-trans (</→≤/ (narrow-below 30 (40 * M) (finer M h) (exactZ p x n) j z-small l))
+      ≤/-trans (</→≤/ (narrow-below 30 (40 * M) (forty-positive M h) (exactZ p x n) j z-small l))
       (+/-mono (≤/-refl (orderLower (exactZ p x n) j)) (times-one (part M h)))
 
   -- ---- H
@@ -164,7 +164,7 @@ module _ (p : Params) (x n : ℕ) (r : Negated (logForce p x n) logForceWidth) w
       let u = orderYoungForce p x n j in
       let e = part M h in
       let a : orderLogUpper (u .most) j ≤/ orderLogLower (u .least) j +/ (whole/ 2 */ times 1 e) +/ e =
-      log-narrow (40 * M) (finer M h) (u .least) (times 1 e) j (young-half j l) (young-parts j M h k) o in
+      log-narrow (40 * M) (forty-positive M h) (u .least) (times 1 e) j (young-half j l) (young-parts j M h k) o in
       let b : orderLogUpper (u .most) j ≤/ orderLogLower (u .least) j +/ times 2 e +/ e =
       ≤/-trans a (+/-mono (+/-mono (≤/-refl (orderLogLower (u .least) j)) (times-times 2 1 e)) (≤/-refl e)) in
       added (exactM p x n) (orderLogLower (u .least) j) (orderLogUpper (u .most) j) (times 3 e) (more (orderLogLower (u .least) j) 2 e b)
@@ -237,7 +237,7 @@ module _ {p : Params} {x n : ℕ} (a : Answered p x n) (M : ℕ) (h : 0 < M) (j 
       let b = closedSum-bounded x es (whole/ 31) c (a .age) (λ i k. rw (order-fitted-at p n j i k)
       (fitted-bounded p (firstFitted + i) n (old-needed a c i k) j (omega arith))) in
       more (orderLogisticLower (I .least) j) 30 e
-      (logistic-narrow 310 (40 * M) (finer M h) I (times 30 e) j w′ (≤/-trans (b .low) (whole/-*/ 10 31 .above))
+      (logistic-narrow 310 (40 * M) (forty-positive M h) I (times 30 e) j w′ (≤/-trans (b .low) (whole/-*/ 10 31 .above))
       (≤/-trans (b .high) (whole/-*/ 10 31 .above)) (omega arith))
 
   -- p's bracket is at most 1/M wide, and so is q's

@@ -1,7 +1,7 @@
 -- The exact definitions at work: one cell of paper 01's flat sheet at an order that can be computed.
 use Prim.Native.Nat.{ℕ}
 use lib.Dec.{lit<, lit≤}
-use lib.IntN.{ℤ, pos, negℤ}
+use lib.IntN.{pos, negℤ}
 use lib.ListN.{replicate}
 use Rattle.fraction.specs.Ratio.{Ratio, _≤/_, complement}
 use Rattle.fraction.specs.Fraction.{wholeℚ, _+ℚ_, scaleℚ, quotientℚ, absolute}
@@ -11,7 +11,7 @@ use Rattle.params.specs.declared.Params.{Params}
 use Rattle.params.specs.declared.Sex.the-variants.{M}
 use Rattle.params.specs.Set.{ages, A, B, alpha, beta}
 use Rattle.series.specs.Series.{periodIn}
-use Rattle.series.specs.Exact.{perRate, exactKappa, exactLogForce}
+use Rattle.series.specs.Exact.{perUnit, exactKappa, exactLogForce}
 use Rattle.mortality.specs.Exact.{exactM, exactZ, orderYoungForce, orderForce, orderSurvival, orderDeath}
 
 -- every A −1,000,000,000, and every other number 0
@@ -34,7 +34,7 @@ millionths n = record { num = n; den = 1000000; positive = lit< tt }
 
 -- q at 65 in 2020, seven years after the start, is printed 0.30780: order 8 already has it between 0.307799 and 0.307800
 flat-65 : (millionths 307799 ≤/ orderDeath flat 65 7 8 .least) × (orderDeath flat 65 7 8 .most ≤/ millionths 307800)
-unfolding flat millionths A B alpha beta periodIn perRate exactKappa exactLogForce exactM exactZ wholeℚ _+ℚ_ scaleℚ quotientℚ
+unfolding flat millionths A B alpha beta periodIn perUnit exactKappa exactLogForce exactM exactZ wholeℚ _+ℚ_ scaleℚ quotientℚ
     absolute taylorNum taylorDen gap stretchedNum stretchedDen orderLower orderUpper orderYoungForce orderForce orderSurvival
     orderDeath complement
 flat-65 = (record { cross = lit≤ tt }, record { cross = lit≤ tt })

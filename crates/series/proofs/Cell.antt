@@ -11,7 +11,7 @@ use Rattle.whole.specs.SignedEnds.{leastProduct, greatestProduct, outward}
 use Rattle.params.specs.declared.Age.{Age}
 use Rattle.whole.specs.EndLaws.{least-under, greatest-under}
 use Rattle.whole.proofs.Signed.{read, read-floor, read-ceil, sum, product}
-use Rattle.series.specs.Series.{rateUnit, cellForce}
+use Rattle.series.specs.Series.{coefficientUnit, cellForce}
 use Rattle.series.specs.BoundLaws.{CellLimits, least-sum-under, greatest-sum-under, cellForce-under}
 
 module _ {age : Age} {k : ℤ} {e : SignedEnds} (l : CellLimits age k e) where
@@ -51,13 +51,13 @@ module _ {age : Age} {k : ℤ} {e : SignedEnds} (l : CellLimits age k e) where
 
   -- the two ends
   pub lower-end : {f y q : ℤ} → f ≡ age .level +ℤ age .alpha → y ≡ age .slope *ℤ k +ℤ leastProduct (age .beta) e
-      → q ≡ floorDiv y rateUnit → SFits w64 (f +ℤ bits q) × (bits (f +ℤ bits q) ≡ cellForce age k e .lower)
+      → q ≡ floorDiv y coefficientUnit → SFits w64 (f +ℤ bits q) × (bits (f +ℤ bits q) ≡ cellForce age k e .lower)
   unfolding cellForce outward
   lower-end h g d =
-      sum h (read-floor rateUnit g (fits (least-sum-under l) tt) d) refl (fits (cellForce-under l .low) tt)
+      sum h (read-floor coefficientUnit g (fits (least-sum-under l) tt) d) refl (fits (cellForce-under l .low) tt)
 
   pub upper-end : {f y q : ℤ} → f ≡ age .level +ℤ age .alpha → y ≡ age .slope *ℤ k +ℤ greatestProduct (age .beta) e
-      → q ≡ ceilDiv y rateUnit → SFits w64 (f +ℤ bits q) × (bits (f +ℤ bits q) ≡ cellForce age k e .upper)
+      → q ≡ ceilDiv y coefficientUnit → SFits w64 (f +ℤ bits q) × (bits (f +ℤ bits q) ≡ cellForce age k e .upper)
   unfolding cellForce outward
   upper-end h g d =
-      sum h (read-ceil rateUnit g (fits (greatest-sum-under l) tt) d) refl (fits (cellForce-under l .high) tt)
+      sum h (read-ceil coefficientUnit g (fits (greatest-sum-under l) tt) d) refl (fits (cellForce-under l .high) tt)

@@ -5,18 +5,18 @@ use lib.IntN.{_+ℤ_, _*ℤ_}
 use Rattle.fraction.specs.Fraction.{Fraction, wholeℚ, _+ℚ_, scaleℚ, quotientℚ}
 use Rattle.params.specs.declared.Params.{Params}
 use Rattle.params.specs.Set.{A, B, alpha, beta}
-use Rattle.series.specs.Series.{rateUnit, periodIndex}
+use Rattle.series.specs.Series.{coefficientUnit, periodIndex}
 
 -- x/10^8
-unfoldable pub perRate : Fraction → Fraction
-perRate x = quotientℚ x rateUnit (lit< tt)
+unfoldable pub perUnit : Fraction → Fraction
+perUnit x = quotientℚ x coefficientUnit (lit< tt)
 
 -- kappa in year n: k·(a/10^8)^n
 unfoldable pub exactKappa : Params → ℕ → Fraction
 exactKappa p zero = wholeℚ (p .kappa)
-exactKappa p (suc n) = perRate (scaleℚ (p .a) (exactKappa p n))
+exactKappa p (suc n) = perUnit (scaleℚ (p .a) (exactKappa p n))
 
 -- A + alpha + (B·K + beta·kappa)/10^8
 unfoldable pub exactLogForce : Params → ℕ → ℕ → Fraction
 exactLogForce p x n =
-    wholeℚ (A p x +ℤ alpha p x) +ℚ perRate (wholeℚ (B p x *ℤ periodIndex p n) +ℚ scaleℚ (beta p x) (exactKappa p n))
+    wholeℚ (A p x +ℤ alpha p x) +ℚ perUnit (wholeℚ (B p x *ℤ periodIndex p n) +ℚ scaleℚ (beta p x) (exactKappa p n))

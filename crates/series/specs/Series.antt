@@ -11,8 +11,8 @@ use Rattle.params.specs.declared.Age.{Age}
 use Rattle.params.specs.Set.{ageOf}
 
 -- the unit of a, B and beta: 10^-8
-abbrev pub rateUnit : ℕ
-rateUnit = 100000000
+abbrev pub coefficientUnit : ℕ
+coefficientUnit = 100000000
 
 -- "K in year t is K + (t − 2013)·theta, exactly."
 unfoldable pub periodIn : ℤ → ℤ → ℕ → ℤ
@@ -23,7 +23,7 @@ periodIndex p n = periodIn (p .period) (p .theta) n
 
 -- "Kappa starts exact; each year it is multiplied by a and divided by 10^8, outward."
 unfoldable pub kappaStep : ℤ → SignedEnds → SignedEnds
-kappaStep a e = outward (leastProduct a e) (greatestProduct a e) rateUnit
+kappaStep a e = outward (leastProduct a e) (greatestProduct a e) coefficientUnit
 
 unfoldable pub kappaIn : ℤ → ℤ → ℕ → SignedEnds
 kappaIn a start zero = record { lower = start; upper = start }
@@ -36,7 +36,7 @@ kappa p n = kappaIn (p .a) (p .kappa) n
 unfoldable pub cellForce : Age → ℤ → SignedEnds → SignedEnds
 cellForce a period kappas =
     let b = a .slope *ℤ period in
-    let e = outward (b +ℤ leastProduct (a .beta) kappas) (b +ℤ greatestProduct (a .beta) kappas) rateUnit in
+    let e = outward (b +ℤ leastProduct (a .beta) kappas) (b +ℤ greatestProduct (a .beta) kappas) coefficientUnit in
     record { lower = a .level +ℤ a .alpha +ℤ e .lower; upper = a .level +ℤ a .alpha +ℤ e .upper }
 
 unfoldable pub logForce : Params → ℕ → ℕ → SignedEnds

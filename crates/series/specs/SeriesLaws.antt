@@ -10,12 +10,12 @@ use Rattle.params.specs.declared.Params.{Params}
 use Rattle.params.specs.declared.Age.{Age}
 use Rattle.params.specs.Set.{ageOf}
 use Rattle.fraction.specs.EndsHold.{Holds, least-product, greatest-product, outward-holds}
-use Rattle.series.specs.Series.{rateUnit, periodIndex, kappaStep, kappaIn, kappa, cellForce, logForce}
-use Rattle.series.specs.Exact.{perRate, exactKappa, exactLogForce}
+use Rattle.series.specs.Series.{coefficientUnit, periodIndex, kappaStep, kappaIn, kappa, cellForce, logForce}
+use Rattle.series.specs.Exact.{perUnit, exactKappa, exactLogForce}
 
 -- one year holds a·y/10^8
-pub kappaStep-holds : (a : ℤ) {e : SignedEnds} {y : Fraction} → Holds e y → Holds (kappaStep a e) (perRate (scaleℚ a y))
-unfolding kappaStep perRate
+pub kappaStep-holds : (a : ℤ) {e : SignedEnds} {y : Fraction} → Holds e y → Holds (kappaStep a e) (perUnit (scaleℚ a y))
+unfolding kappaStep perUnit
 kappaStep-holds a {e} h =
     outward-holds (leastProduct a e) (greatestProduct a e) (lit< tt) (least-product a h) (greatest-product a h)
 
@@ -35,13 +35,13 @@ sum-high c u h = ≤ℚ-trans (+ℚ-mono (≤ℚ-refl (wholeℚ c)) h) (wholeℚ
 -- the log force of a cell holds A + alpha + (B·K + beta·y)/10^8 where the ends of kappa hold y
 pub cellForce-holds : (a : Age) (period : ℤ) {e : SignedEnds} {y : Fraction} → Holds e y
     → Holds (cellForce a period e)
-    (wholeℚ (a .level +ℤ a .alpha) +ℚ perRate (wholeℚ (a .slope *ℤ period) +ℚ scaleℚ (a .beta) y))
-unfolding cellForce perRate
+    (wholeℚ (a .level +ℤ a .alpha) +ℚ perUnit (wholeℚ (a .slope *ℤ period) +ℚ scaleℚ (a .beta) y))
+unfolding cellForce perUnit
 cellForce-holds a period {e} h =
     let b = a .slope *ℤ period in
     let l = leastProduct (a .beta) e in
     let g = greatestProduct (a .beta) e in
-    let q = outward (b +ℤ l) (b +ℤ g) rateUnit in
+    let q = outward (b +ℤ l) (b +ℤ g) coefficientUnit in
     let c = a .level +ℤ a .alpha in
     let d = outward-holds (b +ℤ l) (b +ℤ g) (lit< tt) (sum-low b l (least-product (a .beta) h))
     (sum-high b g (greatest-product (a .beta) h)) in

@@ -14,7 +14,7 @@ use Rattle.params.specs.Set.{ages, ageOf}
 use Rattle.params.specs.Limits.{slopeLimit, aLimit, lastYears, inLimits}
 use Rattle.params.specs.LimitsLaws.{in-limits-series, in-limits-age}
 use Rattle.whole.specs.EndLaws.{Wide, product-width, outward-width}
-use Rattle.series.specs.Series.{rateUnit, periodIndex, kappaStep, kappaIn, kappa, cellForce, logForce}
+use Rattle.series.specs.Series.{coefficientUnit, periodIndex, kappaStep, kappaIn, kappa, cellForce, logForce}
 
 -- the greatest width of a log force in the years of a quote, in units
 abbrev pub logForceWidth : ℕ
@@ -46,7 +46,7 @@ sum-wide c {l} {u} {w} h = record {
 
 -- the log force of a cell is at most w wide where kappa is at most n wide and n/10 + 1 ≤ w
 pub cellForce-wide : (a : Age) (period : ℤ) {e : SignedEnds} {n : ℕ} (w : ℕ) → Under (a .beta) slopeLimit
-    → Wide (e .lower) (e .upper) n → slopeLimit * n + rateUnit ≤ w * rateUnit + 1
+    → Wide (e .lower) (e .upper) n → slopeLimit * n + coefficientUnit ≤ w * coefficientUnit + 1
     → Wide (cellForce a period e .lower) (cellForce a period e .upper) w
 unfolding cellForce
 cellForce-wide a period w u h l =

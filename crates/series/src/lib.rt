@@ -15,7 +15,7 @@ use params::Params;
 use whole::SignedEnds;
 
 // The unit of a, B and beta.
-const RATE_UNIT: i64 = 100_000_000;
+const COEFFICIENT_UNIT: i64 = 100_000_000;
 
 // A needed cell's least lower end and greatest upper end.
 pub const LOWEST_FORCE: i64 = -30_000_000_000;
@@ -45,8 +45,8 @@ pub fn kappa_step(a: i64, e: SignedEnds) -> SignedEnds
     let least = whole::least_product(a, e);
     let greatest = whole::greatest_product(a, e);
     SignedEnds {
-        lower: whole::outward_div(least, RATE_UNIT, false),
-        upper: whole::outward_div(greatest, RATE_UNIT, true),
+        lower: whole::outward_div(least, COEFFICIENT_UNIT, false),
+        upper: whole::outward_div(greatest, COEFFICIENT_UNIT, true),
     }
 }
 
@@ -77,8 +77,8 @@ pub fn log_force(age: Age, period: i64, kappas: SignedEnds) -> SignedEnds
     let beta = age.beta;
     let least = trend + whole::least_product(beta, kappas);
     let greatest = trend + whole::greatest_product(beta, kappas);
-    let lower = fixed + whole::outward_div(least, RATE_UNIT, false);
-    let upper = fixed + whole::outward_div(greatest, RATE_UNIT, true);
+    let lower = fixed + whole::outward_div(least, COEFFICIENT_UNIT, false);
+    let upper = fixed + whole::outward_div(greatest, COEFFICIENT_UNIT, true);
     SignedEnds { lower, upper }
 }
 

@@ -2,10 +2,9 @@
 -- end is 1/s, and its lower end is 1/(s + r), or 0 from z = j + 2 on.
 use Prim.Native.Nat.{ℕ, zero, suc, _+_, _*_, _^_, _<_}
 use mathlib.Core.Path.{_≡_, ap}
-use mathlib.Core.Logic.{_↔_}
 use native.Mathlib.Nat.{pow-suc, pow-zero}
 use native.Mathlib.Omega.{arith}
-use Rattle.fraction.specs.Ratio.{Ratio, _≤/_, _</_, _≈/_, _+/_, _*/_, whole/}
+use Rattle.fraction.specs.Ratio.{Ratio, _≤/_, _≈/_, _+/_, _*/_, whole/}
 use Rattle.fraction.specs.RatioLaws.{≈/-iff}
 use Rattle.taylor.specs.Taylor.{taylorNum, taylorDen, gap, stretchedNum, stretchedDen, factorial}
 use Rattle.taylor.specs.Order.{expSum, orderLower, orderUpper, expTerm, expRemainder}
@@ -48,11 +47,6 @@ unfolding orderLower expSum expRemainder expTerm _*/_ _+/_ whole/ stretchedNum s
 lower-reciprocal z j h = ≈/-iff .1
     (reciprocal-algebra (taylorNum (z .num) (z .den) j) (taylorDen (z .den) j) (z .num ^ suc j) (suc (suc j)) (suc j)
     (gap (z .num) (z .den) j) (z .den) (z .den ^ suc j * factorial (suc j)) (taylorDen-factorial (z .den) (suc j)))
-
--- there is a gap just where z < j + 2
-pub gap-below : (z : Ratio) (j : ℕ) → (z </ whole/ (suc (suc j))) ↔ (0 < gap (z .num) (z .den) j)
-unfolding gap whole/
-gap-below z j = (λ h. omega arith, λ h. omega arith)
 
 -- from z = j + 2 on the lower end is 0
 pub lower-zero : (z : Ratio) (j : ℕ) → whole/ (suc (suc j)) ≤/ z → orderLower z j ≈/ whole/ 0

@@ -2,12 +2,12 @@
 -- differences are again differences, so an order of signed fractions is one polynomial inequality over ℕ.
 use mathlib.Core.Path.{_≡_, ap}
 use mathlib.Core.Logic.{_↔_}
-use Prim.Native.Nat.{ℕ, _+_, _*_, _≤_, _<_}
+use Prim.Native.Nat.{ℕ, _+_, _*_, _≤_}
 use native.Mathlib.Omega.{arith}
-use lib.IntN.{ℤ, pos, negsuc, negℤ, natAbs, _+ℤ_, _-ℤ_, _*ℤ_}
-use lib.Signed.{_≤ℤ_, _<ℤ_}
+use lib.IntN.{ℤ, pos, negsuc, negℤ, natAbs, _+ℤ_, _*ℤ_}
+use lib.Signed.{_≤ℤ_}
 use Rattle.whole.specs.Parts.{above, below}
-use Rattle.whole.specs.Split.{split, split-add, split-sub, split-neg, split-mul, split-scale}
+use Rattle.whole.specs.Split.{split, split-add, split-neg, split-mul, split-scale}
 
 -- z = p − n
 pub record Difference (z : ℤ) (p n : ℕ) : Type 0 where
@@ -35,9 +35,6 @@ difference-neg {a} d = omega (arith, split-neg a)
 pub difference-add : {a b : ℤ} {p n q m : ℕ} → Difference a p n → Difference b q m → Difference (a +ℤ b) (p + q) (n + m)
 difference-add {a} {b} d e = omega (arith, split-add a b)
 
-pub difference-sub : {a b : ℤ} {p n q m : ℕ} → Difference a p n → Difference b q m → Difference (a -ℤ b) (p + m) (n + q)
-difference-sub {a} {b} d e = omega (arith, split-sub a b)
-
 pub difference-scale : {a : ℤ} {p n : ℕ} → Difference a p n → (k : ℕ) → Difference (a *ℤ pos k) (p * k) (n * k)
 difference-scale {a} d k = omega (arith, split-scale a k, ap (λ (m : ℕ). m * k) (d .parts))
 
@@ -55,6 +52,3 @@ difference-mul {a} {b} {p} {n} d e = omega (
 -- p − n ≤ q − m when p + m ≤ q + n, and the like for less
 pub difference-le : {a b : ℤ} {p n q m : ℕ} → Difference a p n → Difference b q m → (p + m ≤ q + n) ↔ (a ≤ℤ b)
 difference-le d e = (λ h. omega split, λ h. omega split)
-
-pub difference-lt : {a b : ℤ} {p n q m : ℕ} → Difference a p n → Difference b q m → (p + m < q + n) ↔ (a <ℤ b)
-difference-lt d e = (λ h. omega split, λ h. omega split)

@@ -17,9 +17,6 @@ pub ≤ℤ-of-≡ : {a b : ℤ} → a ≡ b → a ≤ℤ b
 pub ≤ℤ-trans : {a b c : ℤ} → a ≤ℤ b → b ≤ℤ c → a ≤ℤ c
 ≤ℤ-trans {a} {b} {c} h k = omega split
 
-pub ≤ℤ-antisymm : {a b : ℤ} → a ≤ℤ b → b ≤ℤ a → a ≡ b
-≤ℤ-antisymm {a} {b} h k = omega split
-
 -- a natural number is at least 0, and the order of ℕ is that of ℤ
 pub pos-nonneg : (n : ℕ) → pos 0 ≤ℤ pos n
 pos-nonneg n = omega split

@@ -39,12 +39,6 @@ loop-holds c =
     let f = c .args .t1 in
     (price-none (c .args .rate) f (size c) (c .pre .0), discount-none, survival-none f (size c) (c .pre .0), omega arith)
 
-mul-p : tie.Need-mul-p Inv-loop μ-loop
-mul-p c = omega arith
-
-array-copy-out-p : tie.Need-array-copy-out-p Inv-loop μ-loop
-array-copy-out-p c = omega arith
-
 with-factor-requires : tie.Need-with-factor-requires Inv-loop μ-loop
 with-factor-requires c κs =
     let l = c .before .before in
@@ -86,12 +80,6 @@ add-t19 c = let r = paid (c .before .before) in omega arith
 add-t20 : tie.Need-add-t20 Inv-loop μ-loop
 add-t20 c = let r = paid (c .before .before .before .before) in omega arith
 
-add-k : tie.Need-add-k Inv-loop μ-loop
-add-k c = omega arith
-
-loop-less : tie.Need-loop-less Inv-loop μ-loop
-loop-less c = omega arith
-
 loop-again : tie.Need-loop-again Inv-loop μ-loop
 unfolding plus
 loop-again c =
@@ -119,14 +107,14 @@ annuity-over-spec =
     Inv-loop
     μ-loop
     loop-holds
-    mul-p
-    array-copy-out-p
+    (λ c. omega arith)
+    (λ c. omega arith)
     with-factor-requires
     discounted-requires
     with-factor-requires-2
     add-t19
     add-t20
-    add-k
-    loop-less
+    (λ c. omega arith)
+    (λ c. omega arith)
     loop-again
     returns)

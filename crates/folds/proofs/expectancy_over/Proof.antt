@@ -36,12 +36,6 @@ loop-holds c =
     let f = c .args .t1 in
     (expectancy-none f (size c) (c .pre), survival-none f (size c) (c .pre), omega arith)
 
-mul-p : tie.Need-mul-p Inv-loop μ-loop
-mul-p c = omega arith
-
-array-copy-out-p : tie.Need-array-copy-out-p Inv-loop μ-loop
-array-copy-out-p c = omega arith
-
 with-factor-requires : tie.Need-with-factor-requires Inv-loop μ-loop
 with-factor-requires c κs =
     let l = c .before .before in
@@ -62,12 +56,6 @@ add-t14 c = let r = longer (c .before .before) in omega arith
 
 add-t15 : tie.Need-add-t15 Inv-loop μ-loop
 add-t15 c = let r = longer (c .before .before .before .before) in omega arith
-
-add-k : tie.Need-add-k Inv-loop μ-loop
-add-k c = omega arith
-
-loop-less : tie.Need-loop-less Inv-loop μ-loop
-loop-less c = omega arith
 
 loop-again : tie.Need-loop-again Inv-loop μ-loop
 unfolding plus
@@ -92,12 +80,12 @@ expectancy-over-spec =
     Inv-loop
     μ-loop
     loop-holds
-    mul-p
-    array-copy-out-p
+    (λ c. omega arith)
+    (λ c. omega arith)
     with-factor-requires
     add-t14
     add-t15
-    add-k
-    loop-less
+    (λ c. omega arith)
+    (λ c. omega arith)
     loop-again
     returns)

@@ -25,23 +25,11 @@ size c = search needs
 loop-holds : tie.Need-loop-holds Inv-loop μ-loop
 loop-holds c = (survival-none (c .args .t1) (size c) (c .pre), omega arith)
 
-mul-p : tie.Need-mul-p Inv-loop μ-loop
-mul-p c = omega arith
-
-array-copy-out-p : tie.Need-array-copy-out-p Inv-loop μ-loop
-array-copy-out-p c = omega arith
-
 with-factor-requires : tie.Need-with-factor-requires Inv-loop μ-loop
 with-factor-requires c κs =
     let l = c .before .before in
     let s = l .before in
     (l .loop .inv .0 .small, factor-small (s .args .t1) (size s) (s .pre) (l .loop .i) (omega arith))
-
-add-i : tie.Need-add-i Inv-loop μ-loop
-add-i c = omega arith
-
-loop-less : tie.Need-loop-less Inv-loop μ-loop
-loop-less c = omega arith
 
 loop-again : tie.Need-loop-again Inv-loop μ-loop
 loop-again c =
@@ -59,4 +47,4 @@ returns c =
 pub survival-over-spec : {M : Type 1} → statement M
 survival-over-spec =
     tie.close
-    (tie.spec Inv-loop μ-loop loop-holds mul-p array-copy-out-p with-factor-requires add-i loop-less loop-again returns)
+    (tie.spec Inv-loop μ-loop loop-holds (λ c. omega arith) (λ c. omega arith) with-factor-requires (λ c. omega arith) (λ c. omega arith) loop-again returns)

@@ -3,6 +3,7 @@ use Prim.Native.Nat.{_*_, _≤_}
 use native.Mathlib.Nat.{mul-le-mul}
 use native.Mathlib.Omega.{arith}
 use Rattle.expo.specs.Billionths.{billionths}
+use Rattle.expo.specs.Outward.{outwardOver}
 use Rattle.folds.specs.Folds.{withFactor}
 use Rattle.folds.proofs.with_factor.Statement.{statement}
 use Rattle.folds.proofs.with_factor.Tie as tie
@@ -23,7 +24,7 @@ ceil-div-u-requires : tie.Need-ceil-div-u-requires
 ceil-div-u-requires c κs = let p = products (c .before .before .before .before) in omega arith
 
 returns : tie.Need-returns
-unfolding withFactor
+unfolding withFactor outwardOver
 returns c = rw (c .ceil-div-u .ensures)
 
 pub with-factor-spec : {M : Type 1} → statement M
