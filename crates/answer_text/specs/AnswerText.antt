@@ -7,8 +7,7 @@ use Rattle.tokens.specs.Text.{bytesOf}
 use Rattle.tokens.specs.Number.{unsignedText}
 use Rattle.params.specs.declared.Refusal.{Refusal}
 use Rattle.params.specs.Refusals.{refusalNumber}
-use Rattle.exact.specs.declared.Figure.{Figure}
-use Rattle.figure_text.specs.FigureText.{figureText}
+use Rattle.figure_text.specs.FigureText.{shownText}
 use Rattle.path_quotes.specs.declared.Quote.{Quote}
 use Rattle.path_quotes.specs.declared.Answer.{Answer}
 use Rattle.path_quotes.specs.declared.Answer.the-variants.{Quoted, Refused}
@@ -17,19 +16,19 @@ use Rattle.path_quotes.specs.declared.Answer.the-variants.{Quoted, Refused}
 unfoldable pub refusalLine : Refusal → List ℕ
 refusalLine r = (bytesOf "no=" ++ unsignedText (refusalNumber r)) ++ bytesOf "\n"
 
--- the two ends, in whole units
-unfoldable pub endsText : ℕ → ℕ → List ℕ
-endsText lower upper = (bytesOf " lo=" ++ unsignedText lower) ++ (bytesOf " hi=" ++ unsignedText upper)
+-- the same behind what is refused
+unfoldable pub refusedText : Refusal → List ℕ
+refusedText r = bytesOf " " ++ refusalLine r
 
--- a figure, with so many decimals
-unfoldable pub shownText : ℕ → Figure → List ℕ
-shownText d figure = bytesOf " fig=" ++ (figureText d figure ++ bytesOf "\n")
+-- the two ends, in whole units, where they are asked for
+unfoldable pub endsText : Bool → ℕ → ℕ → List ℕ
+endsText ends lower upper = cond ends ((bytesOf " lo=" ++ unsignedText lower) ++ (bytesOf " hi=" ++ unsignedText upper)) []
 
--- a quote, with its ends where they are asked for
+-- a quote, its figure with so many decimals
 unfoldable pub quoteText : Bool → ℕ → Quote → List ℕ
-quoteText ends d a = cond ends (endsText (a .lower) (a .upper)) [] ++ shownText d (a .figure)
+quoteText ends d a = endsText ends (a .lower) (a .upper) ++ (shownText d (a .figure) ++ bytesOf "\n")
 
 -- an answer
 unfoldable pub answerText : Bool → ℕ → Answer → List ℕ
 answerText ends d (Quoted a) = quoteText ends d a
-answerText ends d (Refused r) = bytesOf " " ++ refusalLine r
+answerText ends d (Refused r) = refusedText r

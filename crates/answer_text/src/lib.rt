@@ -4,10 +4,8 @@ ghost use mathlib.Core.List.{_++_};
 ghost use Prim.Native.Nat.{_^_, _<_};
 ghost use Rattle.tokens.specs.Number.{mostDigits, unsignedText};
 ghost use Rattle.printing.specs.Put.{Room, Put};
-ghost use Rattle.figure_text.specs.FigureText.{Printable};
-ghost use Rattle.answer_text.specs.AnswerText.{refusalLine, endsText, shownText, quoteText, answerText};
+ghost use Rattle.answer_text.specs.AnswerText.{refusalLine, refusedText, endsText, quoteText, answerText};
 ghost use Rattle.answer_text.specs.Sizes.{Sized, SizedAnswer};
-use exact::Figure;
 use params::Refusal;
 use path_quotes::Answer;
 use path_quotes::Quote;
@@ -31,36 +29,36 @@ pub fn put_refusal(buffer: &mut [u8], at: usize, refusal: Refusal) -> usize
     printing::put_text(buffer, end, b"\n")
 }
 
-// Writes the two ends; the place after them.
-fn put_ends(buffer: &mut [u8], at: usize, lower: u64, upper: u64) -> usize
-    requires { ⌜ (lower < 10 ^ mostDigits) × (upper < 10 ^ mostDigits) × Room (now buffer) at (endsText lower upper) ⌝ }
-    ensures { λ r. ⌜ Put (now (buffer .entry)) at (endsText lower upper) (now (buffer .exit)) r ⌝ }
+// Writes a refusal behind what is refused; the place after it.
+pub fn put_refused(buffer: &mut [u8], at: usize, refusal: Refusal) -> usize
+    requires { ⌜ Room (now buffer) at (refusedText refusal) ⌝ }
+    ensures { λ r. ⌜ Put (now (buffer .entry)) at (refusedText refusal) (now (buffer .exit)) r ⌝ }
 {
+    let place = printing::put_text(buffer, at, b" ");
+    put_refusal(buffer, place, refusal)
+}
+
+// Writes the two ends where they are asked for; the place after them.
+fn put_ends(buffer: &mut [u8], at: usize, ends: bool, lower: u64, upper: u64) -> usize
+    requires { ⌜ (lower < 10 ^ mostDigits) × (upper < 10 ^ mostDigits) × Room (now buffer) at (endsText ends lower upper) ⌝ }
+    ensures { λ r. ⌜ Put (now (buffer .entry)) at (endsText ends lower upper) (now (buffer .exit)) r ⌝ }
+{
+    if !ends {
+        return at;
+    }
     let place = put_field(buffer, at, b" lo=", lower);
     put_field(buffer, place, b" hi=", upper)
 }
 
-// Writes ` fig=`, a figure with so many decimals, and the line feed; the place after it.
-fn put_shown(buffer: &mut [u8], at: usize, decimals: usize, figure: Figure) -> usize
-    requires { ⌜ Printable figure × Room (now buffer) at (shownText decimals figure) ⌝ }
-    ensures { λ r. ⌜ Put (now (buffer .entry)) at (shownText decimals figure) (now (buffer .exit)) r ⌝ }
-{
-    let place = printing::put_text(buffer, at, b" fig=");
-    let end = figure_text::put_figure(buffer, place, decimals, figure);
-    printing::put_text(buffer, end, b"\n")
-}
-
-// Writes what follows a query that is quoted, with the ends where they are shown; the place after it.
+// Writes what follows a query that is quoted, with the ends where they are asked for; the place after it.
 fn put_quote(buffer: &mut [u8], at: usize, ends: bool, decimals: usize, quote: Quote) -> usize
     requires { ⌜ Sized quote × Room (now buffer) at (quoteText ends decimals quote) ⌝ }
     ensures { λ r. ⌜ Put (now (buffer .entry)) at (quoteText ends decimals quote) (now (buffer .exit)) r ⌝ }
 {
     let figure = quote.figure;
-    if !ends {
-        return put_shown(buffer, at, decimals, figure);
-    }
-    let place = put_ends(buffer, at, quote.lower, quote.upper);
-    put_shown(buffer, place, decimals, figure)
+    let place = put_ends(buffer, at, ends, quote.lower, quote.upper);
+    let end = figure_text::put_shown(buffer, place, decimals, figure);
+    printing::put_text(buffer, end, b"\n")
 }
 
 // Writes what follows a query; the place after it.
@@ -76,9 +74,6 @@ pub fn put_answer(
 {
     match answer {
         Answer::Quoted(quote) => put_quote(buffer, at, ends, decimals, quote),
-        Answer::Refused(refusal) => {
-            let place = printing::put_text(buffer, at, b" ");
-            put_refusal(buffer, place, refusal)
-        }
+        Answer::Refused(refusal) => put_refused(buffer, at, refusal),
     }
 }

@@ -5,8 +5,8 @@ use mathlib.Core.List.{List, _++_}
 use Prim.Native.Nat.{ℕ}
 use Rattle.tokens.specs.Text.{bytesOf}
 use Rattle.tokens.specs.Number.{unsignedText}
-use Rattle.figure_text.specs.FigureText.{figureText}
-use Rattle.answer_text.specs.AnswerText.{refusalLine}
+use Rattle.figure_text.specs.FigureText.{shownText}
+use Rattle.answer_text.specs.AnswerText.{refusedText}
 use Rattle.compare_quotes.specs.declared.Excess.{Excess}
 use Rattle.compare_quotes.specs.declared.Values.{Values}
 use Rattle.compare_quotes.specs.declared.Values.the-variants.{Below, Above, Near}
@@ -26,9 +26,8 @@ valuesText (Near n) = bytesOf " values=near most=" ++ unsignedText n
 -- two figures with so many decimals, and the values
 unfoldable pub pairText : ℕ → Pair → List ℕ
 pairText d c =
-    (bytesOf " fig=" ++ figureText d (c .first))
-    ++ ((bytesOf " fig=" ++ figureText d (c .second)) ++ (valuesText (c .values) ++ bytesOf "\n"))
+    shownText d (c .first) ++ (shownText d (c .second) ++ (valuesText (c .values) ++ bytesOf "\n"))
 
 unfoldable pub comparisonText : ℕ → Comparison → List ℕ
 comparisonText d (Compared c) = pairText d c
-comparisonText d (NotCompared r) = bytesOf " " ++ refusalLine r
+comparisonText d (NotCompared r) = refusedText r

@@ -5,8 +5,8 @@ use lib.ListN.{length, length-append}
 use Rattle.tokens.specs.Text.{bytesOf}
 use Rattle.tokens.specs.Number.{mostDigits}
 use Rattle.tokens.specs.DecimalLaws.{unsigned-length}
-use Rattle.figure_text.specs.FigureTextLaws.{figure-length}
-use Rattle.answer_text.specs.Lengths.{refusal-length}
+use Rattle.figure_text.specs.FigureTextLaws.{shown-length}
+use Rattle.answer_text.specs.Lengths.{refused-length}
 use Rattle.compare_quotes.specs.declared.Excess.{Excess}
 use Rattle.compare_quotes.specs.declared.Values.{Values}
 use Rattle.compare_quotes.specs.declared.Values.the-variants.{Below, Above, Near}
@@ -33,9 +33,9 @@ pair-length : (d : ℕ) (c : Pair) → length (pairText d c) ≤ comparisonBytes
 unfolding pairText bytesOf
 pair-length d c =
     simp length-append
-    (omega (arith, figure-length d (c .first), figure-length d (c .second), values-length (c .values)))
+    (omega (arith, shown-length d (c .first), shown-length d (c .second), values-length (c .values)))
 
 pub comparison-length : (d : ℕ) (c : Comparison) → length (comparisonText d c) ≤ comparisonBytes + 2 * d
-unfolding comparisonText bytesOf
+unfolding comparisonText
 comparison-length d (Compared c) = pair-length d c
-comparison-length d (NotCompared r) = omega (arith, refusal-length r)
+comparison-length d (NotCompared r) = omega (arith, refused-length r)

@@ -1,24 +1,12 @@
 // What is printed after a query that two sheets answer, written into a buffer that the caller lends.
 ghost use mathlib.Core.List.{_++_};
-ghost use Rattle.tokens.specs.Text.{bytesOf};
 ghost use Rattle.printing.specs.Put.{Room, Put};
-ghost use Rattle.figure_text.specs.FigureText.{figureText, Printable};
 ghost use Rattle.compare_text.specs.CompareText.{excessText, valuesText, pairText, comparisonText};
 ghost use Rattle.compare_text.specs.Sizes.{SizedExcess, SizedValues, SizedPair, SizedComparison};
 use compare_quotes::Comparison;
 use compare_quotes::Excess;
 use compare_quotes::Pair;
 use compare_quotes::Values;
-use exact::Figure;
-
-// Writes ` fig=` and a figure with so many decimals; the place after it.
-fn put_shown(buffer: &mut [u8], at: usize, decimals: usize, figure: Figure) -> usize
-    requires { ⌜ Printable figure × Room (now buffer) at (bytesOf " fig=" ++ figureText decimals figure) ⌝ }
-    ensures { λ r. ⌜ Put (now (buffer .entry)) at (bytesOf " fig=" ++ figureText decimals figure) (now (buffer .exit)) r ⌝ }
-{
-    let place = printing::put_text(buffer, at, b" fig=");
-    figure_text::put_figure(buffer, place, decimals, figure)
-}
 
 // Writes a word, ` least=` and ` most=` with their numbers; the place after them.
 fn put_excess(buffer: &mut [u8], at: usize, word: &[u8], excess: Excess) -> usize
@@ -50,8 +38,8 @@ fn put_pair(buffer: &mut [u8], at: usize, decimals: usize, pair: Pair) -> usize
     let first = pair.first;
     let second = pair.second;
     let values = pair.values;
-    let place = put_shown(buffer, at, decimals, first);
-    let told = put_shown(buffer, place, decimals, second);
+    let place = figure_text::put_shown(buffer, at, decimals, first);
+    let told = figure_text::put_shown(buffer, place, decimals, second);
     let end = put_values(buffer, told, values);
     printing::put_text(buffer, end, b"\n")
 }
@@ -68,9 +56,6 @@ pub fn put_comparison(
 {
     match comparison {
         Comparison::Compared(pair) => put_pair(buffer, at, decimals, pair),
-        Comparison::NotCompared(refusal) => {
-            let place = printing::put_text(buffer, at, b" ");
-            answer_text::put_refusal(buffer, place, refusal)
-        }
+        Comparison::NotCompared(refusal) => answer_text::put_refused(buffer, at, refusal),
     }
 }

@@ -1,5 +1,8 @@
 // The ends program: a sheet and query lines on standard input, each query with its two ends and its figure, or its refusal,
 // on standard output.
+use run::Program;
+use run_line::Mode;
+
 fn main() {
-    console::answer(true);
+    run_console::answer(Program::Lines(Mode::Ends));
 }

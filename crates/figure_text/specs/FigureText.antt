@@ -20,6 +20,10 @@ unfoldable pub figureText : ℕ → Figure → List ℕ
 figureText d (Printed n) = stepsText d n
 figureText d Open = bytesOf "open"
 
+-- a figure with its name, as it follows a query
+unfoldable pub shownText : ℕ → Figure → List ℕ
+shownText d figure = bytesOf " fig=" ++ figureText d figure
+
 -- steps of at most 15 digits
 unfoldable pub Printable : Figure → Type 0
 Printable (Printed n) = n < 10 ^ mostDigits

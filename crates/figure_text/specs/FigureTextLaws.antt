@@ -9,7 +9,7 @@ use Rattle.tokens.specs.Number.{mostDigits}
 use Rattle.tokens.specs.DecimalLaws.{unsigned-length}
 use Rattle.exact.specs.declared.Figure.{Figure}
 use Rattle.exact.specs.declared.Figure.the-variants.{Printed, Open}
-use Rattle.figure_text.specs.FigureText.{lastDigits, stepsText, figureText}
+use Rattle.figure_text.specs.FigureText.{lastDigits, stepsText, figureText, shownText}
 
 -- ---- lengths
 
@@ -29,6 +29,11 @@ pub figure-length : (d : ℕ) (f : Figure) → length (figureText d f) ≤ suc m
 unfolding figureText bytesOf
 figure-length d (Printed n) = omega (arith, steps-length d n)
 figure-length d Open = omega arith
+
+-- with its name
+pub shown-length : (d : ℕ) (f : Figure) → length (shownText d f) ≤ 6 + mostDigits + d
+unfolding shownText bytesOf
+shown-length d f = omega (arith, figure-length d f)
 
 -- ---- one digit more
 

@@ -2,7 +2,7 @@
 ghost use mathlib.Core.Path.{_≡_};
 ghost use Prim.Native.Nat.{_/_, _^_};
 ghost use Rattle.printing.specs.Put.{Room, Put};
-ghost use Rattle.figure_text.specs.FigureText.{lastDigits, figureText, Printable};
+ghost use Rattle.figure_text.specs.FigureText.{lastDigits, figureText, shownText, Printable};
 use exact::Figure;
 
 // A number without its last digits.
@@ -34,7 +34,7 @@ fn put_last_digits(buffer: &mut [u8], at: usize, decimals: usize, n: u64) -> usi
 }
 
 // Writes a figure from a place on; the place after it.
-pub fn put_figure(buffer: &mut [u8], at: usize, decimals: usize, figure: Figure) -> usize
+fn put_figure(buffer: &mut [u8], at: usize, decimals: usize, figure: Figure) -> usize
     requires { ⌜ Printable figure × Room (now buffer) at (figureText decimals figure) ⌝ }
     ensures { λ r. ⌜ Put (now (buffer .entry)) at (figureText decimals figure) (now (buffer .exit)) r ⌝ }
 {
@@ -45,4 +45,13 @@ pub fn put_figure(buffer: &mut [u8], at: usize, decimals: usize, figure: Figure)
     let point = printing::put_number(buffer, at, whole);
     let first = printing::put_text(buffer, point, b".");
     put_last_digits(buffer, first, decimals, steps)
+}
+
+// Writes ` fig=` and a figure with so many decimals; the place after it.
+pub fn put_shown(buffer: &mut [u8], at: usize, decimals: usize, figure: Figure) -> usize
+    requires { ⌜ Printable figure × Room (now buffer) at (shownText decimals figure) ⌝ }
+    ensures { λ r. ⌜ Put (now (buffer .entry)) at (shownText decimals figure) (now (buffer .exit)) r ⌝ }
+{
+    let place = printing::put_text(buffer, at, b" fig=");
+    put_figure(buffer, place, decimals, figure)
 }

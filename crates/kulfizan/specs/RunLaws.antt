@@ -8,11 +8,16 @@ use lib.ListN.{length}
 use Rattle.params.specs.declared.Refusal.the-variants.{Accepted, BufferTooShort}
 use Rattle.params.specs.Refusals.{refusalNumber}
 use Rattle.sheet.specs.declared.Written.{Written}
-use Rattle.line_answer.specs.Into.{textAnswer, Into}
-use Rattle.query_run.specs.QueryRun.{runOf, runRoom}
+use Rattle.run_line.specs.Line.{longestLine}
+use Rattle.run_line.specs.declared.Mode.the-variants.{Quotes, Ends}
+use Rattle.run.specs.declared.Program.{Program}
+use Rattle.run.specs.declared.Program.the-variants.{Lines}
+use Rattle.run.specs.Into.{textAnswer, textBuffer}
+use Rattle.run.specs.IntoLaws.{Into}
+use Rattle.run.specs.Run.{runOf, runRoom}
 use Rattle.set_numbers.specs.SetNumbers.{toldLength}
 use Rattle.set_numbers.specs.AnswerLaws.{Told}
-use Rattle.kulfizan.specs.Run.{withEnds, runNo, runBuffer, runLength}
+use Rattle.kulfizan.specs.Run.{programOf, roomFor, runNo, runBuffer, runLength}
 
 -- the number, the buffer and the length after a run
 abbrev pub Ran : List ℕ → ℕ → List ℕ → ℕ → ℕ → List ℕ → ℕ → Type 0
@@ -31,12 +36,21 @@ told-length need text room before = go (leb need room)
     go true = refl
     go false = refl
 
-pub run-told : (input : List ℕ) (ends : ℕ) (buffer : List ℕ) (len : ℕ) {flag : Bool} → flag ≡ withEnds ends
-    → {got : Written} {after : List ℕ} → Into (runRoom (length input)) (runOf flag input) buffer got after
+-- both programs ask for the same room
+room-same : (ends n : ℕ) → runRoom (programOf ends) n ≡ roomFor n
+unfolding programOf runRoom roomFor longestLine
+room-same ends n = go (eqb ends 0)
+  where
+    go : (b : Bool) → runRoom (cond b (Lines Quotes) (Lines Ends)) n ≡ roomFor n
+    go true = refl
+    go false = refl
+
+pub run-told : (input : List ℕ) (ends : ℕ) (buffer : List ℕ) (len : ℕ) {program : Program} → program ≡ programOf ends
+    → {got : Written} {after : List ℕ} → Into (runRoom program (length input)) (runOf program input) buffer got after
     → {number told : ℕ} → Told got len number told → Ran input ends buffer len number after told
 unfolding runNo runBuffer runLength textAnswer
-run-told input ends buffer len {flag} f w n =
-    let k = n .1 ∙ ap (λ (g : Written). toldLength g len) (w .0) ∙ told-length _ (runOf flag input) (length buffer) len in (
-      n .0 ∙ ap (λ (g : Written). refusalNumber (g .refusal)) (w .0),
-      (rw (← f) (w .1), rw (← f) k),
-    )
+run-told input ends buffer len f {got} {after} w n =
+    let v : Into (roomFor (length input)) (runOf (programOf ends) input) buffer got after =
+    rw (← room-same ends (length input), ← f) w in
+    let k = n .1 ∙ ap (λ (g : Written). toldLength g len) (v .0) ∙ told-length _ (runOf (programOf ends) input) (length buffer) len in
+    (n .0 ∙ ap (λ (g : Written). refusalNumber (g .refusal)) (v .0), (v .1, k))

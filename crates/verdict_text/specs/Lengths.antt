@@ -5,7 +5,7 @@ use lib.IntN.{ℤ}
 use lib.ListN.{length, length-append}
 use Rattle.tokens.specs.Text.{bytesOf}
 use Rattle.tokens.specs.DecimalLaws.{number-length}
-use Rattle.answer_text.specs.Lengths.{refusal-length}
+use Rattle.answer_text.specs.Lengths.{refused-length}
 use Rattle.verdicts.specs.declared.Verdict.{Verdict}
 use Rattle.verdicts.specs.declared.Verdict.the-variants.{Right, Wrong, Open}
 use Rattle.verdicts.specs.declared.Judged.{Judged}
@@ -20,9 +20,9 @@ word-length Wrong = omega arith
 word-length Open = omega arith
 
 judged-length : (j : Judged) → length (judgedText j) ≤ 15
-unfolding judgedText bytesOf
+unfolding judgedText
 judged-length (Of v) = word-length v
-judged-length (Refused r) = omega (arith, refusal-length r)
+judged-length (Refused r) = omega (arith, refused-length r)
 
 pub line-most : (year : ℤ) (j : Judged) → length (verdictLine year j) ≤ mostVerdict
 unfolding verdictLine bytesOf

@@ -5,7 +5,7 @@ use Prim.Native.Nat.{ℕ}
 use lib.IntN.{ℤ}
 use Rattle.tokens.specs.Text.{bytesOf}
 use Rattle.tokens.specs.Number.{numberText}
-use Rattle.answer_text.specs.AnswerText.{refusalLine}
+use Rattle.answer_text.specs.AnswerText.{refusedText}
 use Rattle.verdicts.specs.declared.Verdict.{Verdict}
 use Rattle.verdicts.specs.declared.Judged.{Judged}
 use Rattle.verdicts.specs.declared.Judged.the-variants.{Of, Refused}
@@ -18,7 +18,7 @@ wordText v = bytesOf " verdict=" ++ (verdictWord v ++ bytesOf "\n")
 -- what follows the year
 unfoldable pub judgedText : Judged → List ℕ
 judgedText (Of v) = wordText v
-judgedText (Refused r) = bytesOf " " ++ refusalLine r
+judgedText (Refused r) = refusedText r
 
 unfoldable pub verdictLine : ℤ → Judged → List ℕ
 verdictLine year j = bytesOf "year=" ++ (numberText year ++ judgedText j)

@@ -29,10 +29,7 @@ fn put_judged(out: &mut [u8], at: usize, judged: Judged) -> usize
 {
     match judged {
         Judged::Of(verdict) => put_word(out, at, verdict),
-        Judged::Refused(refusal) => {
-            let place = printing::put_text(out, at, b" ");
-            answer_text::put_refusal(out, place, refusal)
-        }
+        Judged::Refused(refusal) => answer_text::put_refused(out, at, refusal),
     }
 }
 

@@ -1,59 +1,75 @@
--- `put_ends` meets its contract: the lower end, and right after it the upper one.
+-- `put_ends` meets its contract: nothing, or the lower end, and right after it the upper one.
 use borrow.Author.Needs.{needs}
+use mathlib.Core.Path.{_≡_, sym}
+use mathlib.Core.Bool.{Bool, true, false, not}
+use mathlib.Core.List.{[], _++_}
+use Prim.Native.Nat.{ℕ}
+use borrow.Author.Tests.{not-true, not-false}
 use Rattle.tokens.specs.Text.{bytesOf}
 use Rattle.tokens.specs.Number.{unsignedText}
-use mathlib.Core.List.{_++_}
 use Rattle.printing.specs.Put.{Room, Put}
-use Rattle.printing.specs.PutLaws.{room-first, room-rest, put-join}
+use Rattle.printing.specs.PutLaws.{put-none, put-as, room-as, room-first, room-rest, put-join}
 use Rattle.answer_text.specs.AnswerText.{endsText}
 use Rattle.answer_text.proofs.put_ends.Statement.{statement}
 use Rattle.answer_text.proofs.put_ends.Tie as tie
 
-room : (s : tie.Start) → Room (s .args .buffer .now) (s .args .at)
-    ((bytesOf " lo=" ++ unsignedText (s .args .lower)) ++ (bytesOf " hi=" ++ unsignedText (s .args .upper)))
-unfolding endsText
-room s = s .pre .2
+-- ---- the text, where the ends are not asked for and where they are
 
-lower : (c : tie.After-put-field) → let s = c .before .before .before .before .args in
+none : (b : Bool) (lower upper : ℕ) → not b ≡ true → endsText b lower upper ≡ []
+unfolding endsText
+none b lower upper e = rw (not-true b e)
+
+both : (b : Bool) (lower upper : ℕ) → not b ≡ false
+    → endsText b lower upper ≡ (bytesOf " lo=" ++ unsignedText lower) ++ (bytesOf " hi=" ++ unsignedText upper)
+unfolding endsText
+both b lower upper e = rw (not-false b e)
+
+-- ---- where they are
+
+room : (c : tie.Else1) → let s = c .before .before .args in
+    Room (s .buffer .now) (s .at) ((bytesOf " lo=" ++ unsignedText (s .lower)) ++ (bytesOf " hi=" ++ unsignedText (s .upper)))
+room c = let s = c .before .before in room-as (both (s .args .ends) (s .args .lower) (s .args .upper) (c .if1 .left)) (s .pre .2)
+
+lower : (c : tie.After-put-field) → let s = c .before .before .before .before .before .args in
     Put (s .buffer .now) (s .at) (bytesOf " lo=" ++ unsignedText (s .lower)) (c .put-field .last .0) (c .put-field .result)
 unfolding bytesOf
 lower c = c .put-field .ensures
 
-slice-aggregate-put-field : tie.Need-slice-aggregate-put-field
-slice-aggregate-put-field c = search needs
+-- ---- the needs
+
+returns : tie.Need-returns
+returns c =
+    let s = c .before .before .args in
+    put-as (sym (none (s .ends) (s .lower) (s .upper) (c .if1 .taken))) (put-none (s .buffer .now) (s .at))
 
 put-field-requires : tie.Need-put-field-requires
 unfolding bytesOf
-put-field-requires c κs =
-    let s = c .before .before .before in
-    (s .pre .0, room-first (bytesOf " hi=" ++ unsignedText (s .args .upper)) (room s))
-
-slice-aggregate-put-field-2 : tie.Need-slice-aggregate-put-field-2
-slice-aggregate-put-field-2 c = search needs
+put-field-requires c κs = let t = c .before .before in (t .before .before .pre .0, room-first _ (room t))
 
 put-field-requires-2 : tie.Need-put-field-requires-2
 unfolding bytesOf
 put-field-requires-2 c κs =
     let c₁ = c .before .before .before .before in
-    let s = c₁ .before .before .before .before in
-    (s .pre .1, room-rest (lower c₁) (room s))
+    let t = c₁ .before .before .before in
+    (t .before .before .pre .1, room-rest (lower c₁) (room t))
 
-same-length : tie.Need-same-length
-same-length c = search needs
-
-returns : tie.Need-returns
-unfolding endsText bytesOf
-returns c =
+returns-2 : tie.Need-returns-2
+unfolding bytesOf
+returns-2 c =
     let c₁ = c .before .before .before .before .before .before .before in
-    put-join (lower c₁) (c .before .before .put-field2 .ensures) (room (c₁ .before .before .before .before))
+    let t = c₁ .before .before .before in
+    let s = t .before .before .args in
+    put-as (sym (both (s .ends) (s .lower) (s .upper) (t .if1 .left)))
+    (put-join (lower c₁) (c .before .before .put-field2 .ensures) (room t))
 
 pub put-ends-spec : {M : Type 1} → statement M
 put-ends-spec =
     tie.close
     (tie.spec
-    slice-aggregate-put-field
+    returns
+    (λ c. search needs)
     put-field-requires
-    slice-aggregate-put-field-2
+    (λ c. search needs)
     put-field-requires-2
-    same-length
-    returns)
+    (λ c. search needs)
+    returns-2)

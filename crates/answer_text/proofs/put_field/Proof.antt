@@ -24,13 +24,10 @@ put-digits-requires c κs =
     let c₁ = c .before .before .before in
     (c₁ .before .before .before .before .pre .0, room-number c₁ .fits)
 
-same-length : tie.Need-same-length
-same-length c = search needs
-
 returns : tie.Need-returns
 returns c =
     let c₁ = c .before .before .before .before .before .before in
     put-join (name c₁) (put-of (c .before .before .put-digits .ensures)) (c₁ .before .before .before .before .pre .1)
 
 pub put-field-spec : {M : Type 1} → statement M
-put-field-spec = tie.close (tie.spec put-text-requires put-digits-requires same-length returns)
+put-field-spec = tie.close (tie.spec put-text-requires put-digits-requires (λ c. search needs) returns)

@@ -29,30 +29,15 @@ number : (c : tie.After-put-field) → let n = c .before .before .before in let 
 unfolding bytesOf
 number c = c .put-field .ensures
 
-refusal-number-requires : tie.Need-refusal-number-requires
-refusal-number-requires c κs = search needs
-
-cast-number : tie.Need-cast-number
-cast-number c = search needs
-
-slice-aggregate-put-field : tie.Need-slice-aggregate-put-field
-slice-aggregate-put-field c = search needs
-
 put-field-requires : tie.Need-put-field-requires
 unfolding bytesOf
 put-field-requires c κs = (search needs, room-first (bytesOf "\n") (room (c .before .before)))
-
-slice-aggregate-put-text : tie.Need-slice-aggregate-put-text
-slice-aggregate-put-text c = search needs
 
 put-text-requires : tie.Need-put-text-requires
 unfolding bytesOf
 put-text-requires c κs =
     let c₁ = c .before .before .before .before in
     room-rest {u = bytesOf "\n"} (number c₁) (room (c₁ .before .before .before)) .fits
-
-same-length : tie.Need-same-length
-same-length c = search needs
 
 returns : tie.Need-returns
 unfolding bytesOf
@@ -65,11 +50,11 @@ pub put-refusal-spec : {M : Type 1} → statement M
 put-refusal-spec =
     tie.close
     (tie.spec
-    refusal-number-requires
-    cast-number
-    slice-aggregate-put-field
+    (λ c κs. search needs)
+    (λ c. search needs)
+    (λ c. search needs)
     put-field-requires
-    slice-aggregate-put-text
+    (λ c. search needs)
     put-text-requires
-    same-length
+    (λ c. search needs)
     returns)

@@ -15,23 +15,11 @@ required : (s : tie.Start) {v : Values} → s .args .values ≡ v
     → SizedValues v × Room (s .args .buffer .now) (s .args .at) (valuesText v)
 required s e = (subst SizedValues e (s .pre .0), room-as (ap valuesText e) (s .pre .1))
 
-enum-known-values : tie.Need-enum-known-values
-enum-known-values c = search needs
-
-slice-aggregate-put-excess : tie.Need-slice-aggregate-put-excess
-slice-aggregate-put-excess c = search needs
-
 put-excess-requires : tie.Need-put-excess-requires
 unfolding SizedValues valuesText bytesOf
 put-excess-requires c κs =
     let w = c .before .before .before in
     required (w .before .before .before) (w .values .given .1)
-
-enum-known-values-2 : tie.Need-enum-known-values-2
-enum-known-values-2 c = search needs
-
-slice-aggregate-put-excess-2 : tie.Need-slice-aggregate-put-excess-2
-slice-aggregate-put-excess-2 c = search needs
 
 put-excess-requires-2 : tie.Need-put-excess-requires-2
 unfolding SizedValues valuesText bytesOf
@@ -39,20 +27,11 @@ put-excess-requires-2 c κs =
     let w = c .before .before .before in
     required (w .before .before .before) (w .values2 .given .1)
 
-enum-known-values-3 : tie.Need-enum-known-values-3
-enum-known-values-3 c = search needs
-
-slice-aggregate-put-field : tie.Need-slice-aggregate-put-field
-slice-aggregate-put-field c = search needs
-
 put-field-requires : tie.Need-put-field-requires
 unfolding SizedValues valuesText bytesOf
 put-field-requires c κs =
     let w = c .before .before .before in
     required (w .before .before .before) (w .values3 .given .1)
-
-same-length : tie.Need-same-length
-same-length c = search needs
 
 returns : tie.Need-returns
 unfolding valuesText bytesOf
@@ -60,17 +39,11 @@ returns c =
     put-as (sym (ap valuesText (c .before .before .before .before .before .before .values .given .1)))
     (c .before .before .put-excess .ensures)
 
-same-length-2 : tie.Need-same-length-2
-same-length-2 c = search needs
-
 returns-2 : tie.Need-returns-2
 unfolding valuesText bytesOf
 returns-2 c =
     put-as (sym (ap valuesText (c .before .before .before .before .before .before .values2 .given .1)))
     (c .before .before .put-excess2 .ensures)
-
-same-length-3 : tie.Need-same-length-3
-same-length-3 c = search needs
 
 returns-3 : tie.Need-returns-3
 unfolding valuesText bytesOf
@@ -82,18 +55,18 @@ pub put-values-spec : {M : Type 1} → statement M
 put-values-spec =
     tie.close
     (tie.spec
-    enum-known-values
-    slice-aggregate-put-excess
+    (λ c. search needs)
+    (λ c. search needs)
     put-excess-requires
-    enum-known-values-2
-    slice-aggregate-put-excess-2
+    (λ c. search needs)
+    (λ c. search needs)
     put-excess-requires-2
-    enum-known-values-3
-    slice-aggregate-put-field
+    (λ c. search needs)
+    (λ c. search needs)
     put-field-requires
-    same-length
+    (λ c. search needs)
     returns
-    same-length-2
+    (λ c. search needs)
     returns-2
-    same-length-3
+    (λ c. search needs)
     returns-3)

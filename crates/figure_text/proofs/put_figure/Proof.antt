@@ -83,32 +83,17 @@ point c = put-of (c .put-text2 .ensures)
 
 -- ---- the needs
 
-enum-known-figure : tie.Need-enum-known-figure
-enum-known-figure c = search needs
-
-enum-told : tie.Need-enum-told
-enum-told c = search needs
-
-slice-aggregate-put-text : tie.Need-slice-aggregate-put-text
-slice-aggregate-put-text c = search needs
-
 put-text-requires : tie.Need-put-text-requires
 unfolding bytesOf
 put-text-requires c κs =
     let t = c .before .before in
     room-as (open-text t) (t .before .before .before .pre .1) .fits
 
-same-length : tie.Need-same-length
-same-length c = search needs
-
 returns : tie.Need-returns
 unfolding bytesOf
 returns c =
     let p = c .before .before in
     put-as (sym (open-text (p .before .before .before))) (put-of (p .put-text .ensures))
-
-without-last-requires : tie.Need-without-last-requires
-without-last-requires c κs = search needs
 
 cast-whole : tie.Need-cast-whole
 cast-whole c = omega (arith, whole-small c)
@@ -119,9 +104,6 @@ put-number-requires c κs =
       rw (whole w) (omega (arith, whole-small w, w .without-last .ensures)),
       room-as (sym (whole-text w)) (three-first (texts (w .before))) .fits,
     )
-
-slice-aggregate-put-text-2 : tie.Need-slice-aggregate-put-text-2
-slice-aggregate-put-text-2 c = search needs
 
 put-text-requires-2 : tie.Need-put-text-requires-2
 unfolding bytesOf
@@ -135,9 +117,6 @@ put-last-digits-requires c κs =
     let n = second p in
     three-third (texts (first n .before)) (number n) (point p)
 
-same-length-2 : tie.Need-same-length-2
-same-length-2 c = search needs
-
 returns-2 : tie.Need-returns-2
 unfolding stepsText
 returns-2 c =
@@ -150,17 +129,17 @@ pub put-figure-spec : {M : Type 1} → statement M
 put-figure-spec =
     tie.close
     (tie.spec
-    enum-known-figure
-    enum-told
-    slice-aggregate-put-text
+    (λ c. search needs)
+    (λ c. search needs)
+    (λ c. search needs)
     put-text-requires
-    same-length
+    (λ c. search needs)
     returns
-    without-last-requires
+    (λ c κs. search needs)
     cast-whole
     put-number-requires
-    slice-aggregate-put-text-2
+    (λ c. search needs)
     put-text-requires-2
     put-last-digits-requires
-    same-length-2
+    (λ c. search needs)
     returns-2)

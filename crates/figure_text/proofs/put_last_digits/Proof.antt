@@ -14,23 +14,11 @@ abbrev μ-loop : tie.MeasureT-loop
 loop-holds : tie.Need-loop-holds Inv-loop μ-loop
 loop-holds c = tail-none (c .args .buffer .now) (c .args .at) (c .args .decimals) (c .args .n)
 
-sub-left : tie.Need-sub-left Inv-loop μ-loop
-sub-left c = omega arith
-
-cast-buffer : tie.Need-cast-buffer Inv-loop μ-loop
-cast-buffer c = omega arith
-
-add-buffer : tie.Need-add-buffer Inv-loop μ-loop
-add-buffer c = omega arith
-
 add-buffer-2 : tie.Need-add-buffer-2 Inv-loop μ-loop
 add-buffer-2 c = omega (arith, tail-room (c .before .loop .inv) (c .before .before .pre))
 
 slice-write-buffer : tie.Need-slice-write-buffer Inv-loop μ-loop
 slice-write-buffer c = omega (arith, tail-room (c .before .loop .inv) (c .before .before .pre))
-
-loop-less : tie.Need-loop-less Inv-loop μ-loop
-loop-less c = omega arith
 
 loop-again : tie.Need-loop-again Inv-loop μ-loop
 loop-again c = tail-more (c .before .loop .inv) (c .before .before .pre) (c .loop-test .taken)
@@ -53,12 +41,12 @@ put-last-digits-spec =
     Inv-loop
     μ-loop
     loop-holds
-    sub-left
-    cast-buffer
-    add-buffer
+    (λ c. omega arith)
+    (λ c. omega arith)
+    (λ c. omega arith)
     add-buffer-2
     slice-write-buffer
-    loop-less
+    (λ c. omega arith)
     loop-again
     add-result
     same-length

@@ -12,15 +12,6 @@ Inv-loop n decimals rest₀ left₀ rest left = rest / 10 ^ left ≡ n / 10 ^ de
 abbrev μ-loop : tie.MeasureT-loop
 μ-loop n decimals rest₀ left₀ rest left = left
 
-loop-holds : tie.Need-loop-holds Inv-loop μ-loop
-loop-holds c = refl
-
-sub-left : tie.Need-sub-left Inv-loop μ-loop
-sub-left c = omega arith
-
-loop-less : tie.Need-loop-less Inv-loop μ-loop
-loop-less c = omega arith
-
 loop-again : tie.Need-loop-again Inv-loop μ-loop
 loop-again c =
     let l = c .before .loop in
@@ -36,4 +27,4 @@ returns c =
 
 pub without-last-spec : {M : Type 1} → statement M
 without-last-spec =
-    tie.close (tie.spec Inv-loop μ-loop loop-holds sub-left loop-less loop-again returns)
+    tie.close (tie.spec Inv-loop μ-loop (λ c. refl) (λ c. omega arith) (λ c. omega arith) loop-again returns)

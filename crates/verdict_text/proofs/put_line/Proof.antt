@@ -41,9 +41,6 @@ number c = put-of (rw (year-back (start (first c))) at (c .put-number .ensures))
 
 -- ---- the needs
 
-slice-aggregate-put-text : tie.Need-slice-aggregate-put-text
-slice-aggregate-put-text c = search needs
-
 put-text-requires : tie.Need-put-text-requires
 unfolding bytesOf
 put-text-requires c κs = three-first (texts (c .before .before .before)) .fits
@@ -59,9 +56,6 @@ put-judged-requires c κs =
     let c₂ = c .before .before .before in
     three-third (texts (start (first c₂))) (name (first c₂)) (number c₂)
 
-same-length : tie.Need-same-length
-same-length c = search needs
-
 returns : tie.Need-returns
 unfolding verdictLine
 returns c =
@@ -72,9 +66,9 @@ pub put-line-spec : {M : Type 1} → statement M
 put-line-spec =
     tie.close
     (tie.spec
-    slice-aggregate-put-text
+    (λ c. search needs)
     put-text-requires
     put-number-requires
     put-judged-requires
-    same-length
+    (λ c. search needs)
     returns)

@@ -1,4 +1,0 @@
--- definitions
-pub mod Answers
--- laws
-pub mod AnswerLaws

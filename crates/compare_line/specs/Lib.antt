@@ -1,4 +1,0 @@
--- definitions
-pub mod CompareLine
--- laws
-pub mod CompareLaws

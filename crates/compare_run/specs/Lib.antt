@@ -1,4 +1,0 @@
--- definitions
-pub mod CompareRun
--- laws
-pub mod CompareRunLaws

@@ -1,5 +1,0 @@
--- definitions
-pub mod Line
-pub mod Into
--- laws
-pub mod LineLaws

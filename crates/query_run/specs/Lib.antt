@@ -1,5 +1,0 @@
--- definitions
-pub mod QueryRun
--- laws
-pub mod Sheets
-pub mod RunLaws

@@ -1,0 +1,17 @@
+-- `answer_to` meets its contract: the quote of the query's fields.
+use borrow.Author.Needs.{needs}
+use Rattle.tokens.specs.ReadLaws.{held}
+use Rattle.run_line.specs.Line.{queryAnswer}
+use Rattle.run_line.proofs.answer_to.Statement.{statement}
+use Rattle.run_line.proofs.answer_to.Tie as tie
+
+returns : tie.Need-returns
+unfolding queryAnswer
+returns c =
+    let d = c .before .before .before .struct-told .given in
+    let q = c .before .before .before .before .args .query in
+    rw (held (q .age) (d .1 .0 .1), held (q .year) (d .1 .1 .0 .1), held (q .span) (d .1 .1 .1 .0 .1))
+    at (c .quote-within .ensures)
+
+pub answer-to-spec : {M : Type 1} → statement M
+answer-to-spec = tie.close (tie.spec (λ c κs. search needs) returns)

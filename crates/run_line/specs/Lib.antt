@@ -1,0 +1,5 @@
+-- definitions
+pub mod Line
+-- laws
+pub mod LineLaws
+pub mod ReplyLaws

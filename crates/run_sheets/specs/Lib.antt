@@ -1,0 +1,4 @@
+-- definitions
+pub mod Front
+-- laws
+pub mod FrontLaws

@@ -1,0 +1,36 @@
+-- The run of the program `verdict` (paper 02, E3), from the input's bytes to the output's: a sheet, one line `year=` and a
+-- number formed as in a sheet, and the column, which is all that follows; it prints one line.
+use mathlib.Core.Bool.{false, cond}
+use mathlib.Core.List.{List}
+use Prim.Native.Nat.{ℕ}
+use lib.Dec.{eqb}
+use lib.IntN.{ℤ}
+use lib.ListN.{drop}
+use Rattle.tokens.specs.Text.{bytesOf, Parse, malformed, taken}
+use Rattle.params.specs.declared.Refusal.the-variants.{Malformed}
+use Rattle.params.specs.Refusals.{refusalNumber}
+use Rattle.sheet.specs.Sheet.{readLine}
+use Rattle.answer_text.specs.AnswerText.{refusalLine}
+use Rattle.run_sheets.specs.declared.Front.{Front}
+use Rattle.run_sheets.specs.Front.{frontOf}
+use Rattle.column_verdicts.specs.ColumnVerdict.{columnVerdict}
+use Rattle.verdict_text.specs.VerdictText.{verdictLine}
+
+-- a line as in a sheet, with the key `year`: its number, and what follows its line feed
+unfoldable pub readYear : List ℕ → Parse ℤ
+readYear bs = readLine (bytesOf "year") bs
+
+-- `no=` alone and its number, 1 or 2, where the sheet is refused; else the year's line
+unfoldable pub lineBy : Front → ℤ → List ℕ → List ℕ
+lineBy f year column =
+    cond (eqb (refusalNumber (f .refusal)) 0) (verdictLine year (columnVerdict (f .first) year column)) (refusalLine (f .refusal))
+
+-- the year's line follows the sheet, and behind it is the column; `no=` alone also where the line is malformed or missing. Of the
+-- two numbers the lower is given: a malformed year's line is 1 where the sheet is out of limits.
+unfoldable pub verdictBy : Front → List ℕ → List ℕ
+verdictBy f input =
+    elim (readYear (drop (f .next) input)) [ malformed ↦ refusalLine Malformed | taken year column ↦ lineBy f year column ]
+
+-- the whole run; an input past 65,536 bytes has a malformed sheet
+unfoldable pub verdictRun : List ℕ → List ℕ
+verdictRun input = verdictBy (frontOf false input) input

@@ -1,4 +1,0 @@
--- definitions
-pub mod TwoSheets
--- laws
-pub mod TwoSheetLaws
