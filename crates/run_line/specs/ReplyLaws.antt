@@ -8,8 +8,8 @@ use lib.ListN.{length, length-append}
 use lib.Seq.{take-append-seam}
 use Rattle.tokens.specs.Text.{bytesOf, taken}
 use Rattle.params.specs.declared.Params.{Params}
-use Rattle.kinds.specs.declared.Fold.{Fold}
-use Rattle.kinds.specs.declared.Fold.the-variants.{Death, Survival, Expectancy, Annuity}
+use Rattle.paths.specs.declared.Fold.{Fold}
+use Rattle.paths.specs.declared.Fold.the-variants.{Death, Survival, Expectancy, Annuity}
 use Rattle.kinds.specs.Kinds.{ruleOf, decimalsOf}
 use Rattle.path_quotes.specs.declared.Answer.{Answer}
 use Rattle.query.specs.declared.Query.{Query}
