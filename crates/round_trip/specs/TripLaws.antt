@@ -18,7 +18,7 @@ use Rattle.params.specs.Refusals.{refusalNumber}
 use Rattle.params.specs.RefusalLaws.{accepted as is-accepted}
 use Rattle.params.specs.Set.{Whole}
 use Rattle.params.specs.Limits.{inLimits}
-use Rattle.sheet.specs.Sheet.{sheetText, headText, readHead, readSet, refused, judged, readSheet}
+use Rattle.sheet.specs.Sheet.{sheetText, headText, readHead, readSet, refused, readingOf, readSheet}
 use Rattle.sheet.specs.Sheet.{writeRefusal, writtenLength, writeAnswer, writtenBuffer}
 use Rattle.sheet_writer.specs.Answers.{Answers}
 use Rattle.sheet.specs.SheetTrip.{written-reads-back, read-writes-back}
@@ -28,7 +28,7 @@ use Rattle.round_trip.specs.Trips.{accepted, readBack, copies, copied, c
 
 -- an empty input is malformed
 empty-malformed : readSheet [] ≡ refused Malformed
-unfolding readSheet readSet readHead headText bytesOf takeText judged
+unfolding readSheet readSet readHead headText bytesOf takeText readingOf
 empty-malformed = refl
 
 -- what was written is within the buffer

@@ -132,12 +132,12 @@ unfoldable pub refused : Refusal → Reading
 refused r = record { refusal = r; set = blank }
 
 -- "Refusal 1 is decided over the whole sheet before 2."
-unfoldable pub judged : Parse Params → Reading
-judged malformed = refused Malformed
-judged (taken p rest) = cond (inLimits p) (record { refusal = Accepted; set = p }) (refused OutOfLimits)
+unfoldable pub readingOf : Parse Params → Reading
+readingOf malformed = refused Malformed
+readingOf (taken p rest) = cond (inLimits p) (record { refusal = Accepted; set = p }) (refused OutOfLimits)
 
 unfoldable pub readSheet : List ℕ → Reading
-readSheet bs = cond (leb (length bs) mostBytes) (judged (readSet bs)) (refused Malformed)
+readSheet bs = cond (leb (length bs) mostBytes) (readingOf (readSet bs)) (refused Malformed)
 
 -- ---- writing
 

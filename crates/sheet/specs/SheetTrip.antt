@@ -28,7 +28,7 @@ use Rattle.params.specs.Set.{A, B, alpha, beta, ages, Whole}
 use Rattle.params.specs.Limits.{inLimits}
 use Rattle.sheet.specs.Sheet.{mostBytes, headBytes, forAges, ageKeys, keys, ageValues, values, lineText, linesText, headText}
 use Rattle.sheet.specs.Sheet.{sheetText, readLine, readLines, readHead, paramsOf, readSet}
-use Rattle.sheet.specs.Sheet.{refused, judged, readSheet}
+use Rattle.sheet.specs.Sheet.{refused, readingOf, readSheet}
 use Rattle.params.specs.LimitsLaws.{in-limits-age, in-limits-series}
 use Rattle.tokens.specs.NumberTrip.{malformed-not-taken, number-reads, number-read}
 use Rattle.sheet.specs.SetTrip.{keys-length, values-length, values-params, params-values}
@@ -251,7 +251,7 @@ sheet-length p =
 -- the sheet of a whole set in limits reads back as the set
 pub written-reads-back : (p : Params) → Whole p → T (inLimits p)
     → readSheet (sheetText p) ≡ record { refusal = Accepted; set = p }
-unfolding readSheet judged
+unfolding readSheet readingOf
 written-reads-back p w t =
     let h = le-leb (length (sheetText p)) mostBytes (omega (arith, sheet-length p)) in
     rw (h, set-reads p w (in-limits-small p t), is-true (inLimits p) t)
@@ -259,7 +259,7 @@ written-reads-back p w t =
 -- and that of a set past a limit, its numbers as long as a sheet's, is refused
 pub written-out-of-limits : (p : Params) → Whole p → AllSmall (values p) → inLimits p ≡ false
     → readSheet (sheetText p) ≡ refused OutOfLimits
-unfolding readSheet judged
+unfolding readSheet readingOf
 written-out-of-limits p w s e =
     let h = le-leb (length (sheetText p)) mostBytes (omega (arith, sheet-length p)) in rw (h, set-reads p w s, e)
 
@@ -270,11 +270,11 @@ unfolding refused refusalNumber
 refused-not-accepted r h e =
     let z : refusalNumber r ≡ 0 = ap (λ (q : Reading). refusalNumber (q .refusal)) e in absurd (omega arith)
 
-judged-accepted : {X : Type 0} (q : Parse Params) (p : Params) → judged q ≡ record { refusal = Accepted; set = p }
+reading-accepted : {X : Type 0} (q : Parse Params) (p : Params) → readingOf q ≡ record { refusal = Accepted; set = p }
     → ((rest : List ℕ) → q ≡ taken p rest → T (inLimits p) → X) → X
-unfolding judged refusalNumber
-judged-accepted malformed p e f = refused-not-accepted Malformed (omega arith) e
-judged-accepted {X} (taken p′ rest) p e f = go (inLimits p′) refl e
+unfolding readingOf refusalNumber
+reading-accepted malformed p e f = refused-not-accepted Malformed (omega arith) e
+reading-accepted {X} (taken p′ rest) p e f = go (inLimits p′) refl e
   where
     go : (c : Bool) → inLimits p′ ≡ c
         → cond c (record { refusal = Accepted; set = p′ }) (refused OutOfLimits) ≡ record { refusal = Accepted; set = p }
@@ -290,8 +290,8 @@ pub read-writes-back : (bs : List ℕ) (p : Params) → readSheet bs ≡ record 
 unfolding readSheet refusalNumber
 read-writes-back bs p e = go (leb (length bs) mostBytes) e
   where
-    go : (c : Bool) → cond c (judged (readSet bs)) (refused Malformed) ≡ record { refusal = Accepted; set = p }
+    go : (c : Bool) → cond c (readingOf (readSet bs)) (refused Malformed) ≡ record { refusal = Accepted; set = p }
         → (sheetText p ≡ bs) × (T (inLimits p)) × Whole p
-    go true q = judged-accepted (readSet bs) p q λ rest r t.
+    go true q = reading-accepted (readSet bs) p q λ rest r t.
         let (same, whole) = set-read bs p rest r in (same, t, whole)
     go false q = refused-not-accepted Malformed (omega arith) q

@@ -22,7 +22,7 @@ use Rattle.params.specs.declared.Sex.{Sex}
 use Rattle.params.specs.declared.Sex.the-variants.{M, F}
 use Rattle.params.specs.declared.Refusal.the-variants.{Malformed}
 use Rattle.sheet.specs.Sheet.{mostBytes, sheetLines, forAges, ageKeys, keys, lineText, linesText, headText, readLines, readHead}
-use Rattle.sheet.specs.Sheet.{paramsOf, readSet, refused, judged, readSheet}
+use Rattle.sheet.specs.Sheet.{paramsOf, readSet, refused, readingOf, readSheet}
 use Rattle.tokens.specs.NumberTrip.{malformed-not-taken}
 use Rattle.sheet.specs.SetTrip.{keys-length}
 use Rattle.sheet.specs.SheetTrip.{then-taken, lines-reads, lines-read, head-reads, head-read, params-sheet, sheet-length}
@@ -116,13 +116,13 @@ module _ (bs : List ℕ) where
     first-text : (f : Front p bs rest) → firstLines sheetLines bs ≡ f .text
     first-text f = ap (firstLines sheetLines) (f .is) ∙ f .cuts .first rest
 
-    pub first-read : readSheet (firstLines sheetLines bs) ≡ judged (taken p [])
+    pub first-read : readSheet (firstLines sheetLines bs) ≡ readingOf (taken p [])
     unfolding whole
     first-read =
         let f = front-read bs p rest e in
         rw (first-text f)
         (not-too-long (f .text) (f .fits)
-        ∙ ap judged (front-whole (f .text) ∙ ap whole (ap setFront (sym (append-nil (f .text))) ∙ f .reads [])))
+        ∙ ap readingOf (front-whole (f .text) ∙ ap whole (ap setFront (sym (append-nil (f .text))) ∙ f .reads [])))
 
     pub first-ends : length (firstLines sheetLines bs) + length rest ≡ length bs
     first-ends =
@@ -131,12 +131,12 @@ module _ (bs : List ℕ) where
 
   -- none is read: the first lines are none
   pub first-none : setFront bs ≡ malformed → readSheet (firstLines sheetLines bs) ≡ refused Malformed
-  unfolding judged whole
+  unfolding readingOf whole
   first-none e = by-length (firstLines sheetLines bs) (front-whole _ ∙ ap whole (go (setFront (firstLines sheetLines bs)) refl))
     where
       by-length : (l : List ℕ) → readSet l ≡ malformed → readSheet l ≡ refused Malformed
       by-length l m = elim (decLe (length l) mostBytes) [
-        | yes k ↦ not-too-long l k ∙ ap judged m
+        | yes k ↦ not-too-long l k ∙ ap readingOf m
         | no k ↦ too-long l (omega arith)
       ]
 
@@ -153,12 +153,12 @@ module _ (bs : List ℕ) where
 
 module _ (bytes : List ℕ) (r : SetRead) (e : setRead bytes r ≡ setFront bytes) where
   -- the first lines' sheet
-  pub first-judged : judged (cond (r .ok) (taken (r .set) []) malformed) ≡ readSheet (firstLines sheetLines bytes)
-  unfolding judged
-  first-judged = go (r .ok) refl
+  pub first-reading : readingOf (cond (r .ok) (taken (r .set) []) malformed) ≡ readSheet (firstLines sheetLines bytes)
+  unfolding readingOf
+  first-reading = go (r .ok) refl
     where
       go : (b : Bool) → r .ok ≡ b
-          → judged (cond b (taken (r .set) []) malformed) ≡ readSheet (firstLines sheetLines bytes)
+          → readingOf (cond b (taken (r .set) []) malformed) ≡ readSheet (firstLines sheetLines bytes)
       go true o = sym (first-read bytes (r .set) (drop (r .next) bytes) (sym e ∙ rw o))
       go false o = sym (first-none bytes (sym e ∙ rw o))
 

@@ -21,7 +21,7 @@ use Rattle.params.specs.Refusals.{refusalNumber}
 use Rattle.params.specs.Set.{blank}
 use Rattle.params.specs.Limits.{inLimits}
 use Rattle.sheet.specs.Sheet.{mostBytes, headBytes, keys, headText, readLines, readHead, paramsOf, readSet}
-use Rattle.sheet.specs.Sheet.{refused, judged, readSheet}
+use Rattle.sheet.specs.Sheet.{refused, readingOf, readSheet}
 use Rattle.sheet_set.specs.declared.SetRead.{SetRead}
 use Rattle.sheet_set.specs.Ages.{setRead}
 use Rattle.sheet_set.specs.SetLines.{fromLines}
@@ -34,7 +34,7 @@ pub too-long : (bs : List ℕ) → mostBytes < length bs → readSheet bs ≡ re
 unfolding readSheet
 too-long bs h = rw (lt-leb (length bs) mostBytes h)
 
-pub not-too-long : (bs : List ℕ) → length bs ≤ mostBytes → readSheet bs ≡ judged (readSet bs)
+pub not-too-long : (bs : List ℕ) → length bs ≤ mostBytes → readSheet bs ≡ readingOf (readSet bs)
 unfolding readSheet
 not-too-long bs h = rw (le-leb (length bs) mostBytes h)
 
@@ -175,30 +175,30 @@ then-accepted e f = rw (e, f)
 -- a sheet that is or is not whole, with its set
 module _ (w : Bool) (p : Params) {f : Refusal} (d : f ≡ refusalOf w (inLimits p)) where
   -- a refusal is given with the blank set
-  pub judged-refused : {s : Params} → s ≡ blank → (refusalNumber f ≡ 0 → ⊥)
-      → judged (cond w (taken p []) malformed) ≡ record { refusal = f; set = s }
-  unfolding judged refused refusalOf refusalNumber
-  judged-refused b h = rw (d, b) (go w (inLimits p) refl (λ k. h (ap refusalNumber d ∙ k)))
+  pub reading-refused : {s : Params} → s ≡ blank → (refusalNumber f ≡ 0 → ⊥)
+      → readingOf (cond w (taken p []) malformed) ≡ record { refusal = f; set = s }
+  unfolding readingOf refused refusalOf refusalNumber
+  reading-refused b h = rw (d, b) (go w (inLimits p) refl (λ k. h (ap refusalNumber d ∙ k)))
     where
       go : (v i : Bool) → inLimits p ≡ i → (refusalNumber (refusalOf v i) ≡ 0 → ⊥)
-          → judged (cond v (taken p []) malformed) ≡ refused (refusalOf v i)
+          → readingOf (cond v (taken p []) malformed) ≡ refused (refusalOf v i)
       go true true e h = absurd (h refl)
       go true false e h = rw e
       go false i e h = refl
 
   -- and where there is none, the set is the one that was read
-  pub judged-accepted : refusalNumber f ≡ 0 → judged (cond w (taken p []) malformed) ≡ record { refusal = f; set = p }
-  unfolding judged refusalOf refusalNumber
-  judged-accepted h = rw d (go w (inLimits p) refl (ap refusalNumber (sym d) ∙ h))
+  pub reading-accepted : refusalNumber f ≡ 0 → readingOf (cond w (taken p []) malformed) ≡ record { refusal = f; set = p }
+  unfolding readingOf refusalOf refusalNumber
+  reading-accepted h = rw d (go w (inLimits p) refl (ap refusalNumber (sym d) ∙ h))
     where
       go : (v i : Bool) → inLimits p ≡ i → refusalNumber (refusalOf v i) ≡ 0
-          → judged (cond v (taken p []) malformed) ≡ record { refusal = refusalOf v i; set = p }
+          → readingOf (cond v (taken p []) malformed) ≡ record { refusal = refusalOf v i; set = p }
       go true true e h = rw e
       go true false e h = absurd (omega arith)
       go false i e h = absurd (omega arith)
 
--- what was read at the front, judged where nothing follows it, is the sheet that the bytes are
-pub read-judged : (bytes : List ℕ) (r : SetRead) → setRead bytes r ≡ setFront bytes → length bytes ≤ mostBytes
-    → judged (cond (atEnd (r .ok) (r .next) (length bytes)) (taken (r .set) []) malformed) ≡ readSheet bytes
-read-judged bytes r e h =
-    ap judged (sym (whole-set bytes r) ∙ ap whole e ∙ sym (front-whole bytes)) ∙ sym (not-too-long bytes h)
+-- what was read at the front, readingOf where nothing follows it, is the sheet that the bytes are
+pub whole-reading : (bytes : List ℕ) (r : SetRead) → setRead bytes r ≡ setFront bytes → length bytes ≤ mostBytes
+    → readingOf (cond (atEnd (r .ok) (r .next) (length bytes)) (taken (r .set) []) malformed) ≡ readSheet bytes
+whole-reading bytes r e h =
+    ap readingOf (sym (whole-set bytes r) ∙ ap whole e ∙ sym (front-whole bytes)) ∙ sym (not-too-long bytes h)

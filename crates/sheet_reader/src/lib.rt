@@ -6,7 +6,7 @@ ghost use lib.ListN.{length};
 ghost use Rattle.tokens.specs.Text.{malformed, taken};
 ghost use Rattle.lines.specs.Lines.{firstLines};
 ghost use Rattle.params.specs.declared.Refusal.the-variants.{Malformed};
-ghost use Rattle.sheet.specs.Sheet.{sheetLines, refused, judged, readSheet};
+ghost use Rattle.sheet.specs.Sheet.{sheetLines, refused, readingOf, readSheet};
 ghost use Rattle.sheet_set.specs.Ages.{setRead};
 ghost use Rattle.sheet_reader.specs.Read.{setFront, atEnd, refusalOf};
 use params::Params;
@@ -39,7 +39,7 @@ fn malformed() -> Reading
 }
 
 // Whether a sheet's lines were read, and nothing follows them in so many bytes.
-fn ends(ok: bool, next: usize, len: usize) -> bool
+fn at_end(ok: bool, next: usize, len: usize) -> bool
     ensures { λ r. ⌜ r ≡ atEnd ok next len ⌝ }
 {
     if !ok {
@@ -65,8 +65,8 @@ fn refusal_of(whole: bool, within: bool) -> Refusal
 }
 
 // A sheet that is or is not whole, with its set.
-fn judge(whole: bool, set: Params) -> Reading
-    ensures { λ r. ⌜ r ≡ judged (cond whole (taken set []) malformed) ⌝ }
+fn reading_of(whole: bool, set: Params) -> Reading
+    ensures { λ r. ⌜ r ≡ readingOf (cond whole (taken set []) malformed) ⌝ }
 {
     let refusal = refusal_of(whole, limits::in_limits(set));
     if params::refusal_number(refusal) != 0 {
@@ -115,7 +115,7 @@ pub fn read(bytes: &[u8]) -> Reading
     }
     let got = front(bytes);
     let set = got.set;
-    judge(ends(got.ok, got.next, bytes.len()), set)
+    reading_of(at_end(got.ok, got.next, bytes.len()), set)
 }
 
 // The sheet that the first lines of the bytes are, and the place after them. It is read where it stands; only where there is
@@ -126,7 +126,7 @@ pub fn read_first(bytes: &[u8]) -> First
 {
     let got = front(bytes);
     let set = got.set;
-    let sheet = judge(got.ok, set);
+    let sheet = reading_of(got.ok, set);
     if !got.ok {
         let end = lines::lines_end(bytes, SHEET_LINES);
         return First { sheet, next: end };

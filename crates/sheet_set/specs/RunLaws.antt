@@ -56,7 +56,7 @@ run-end {l} r = sym (take-all ages l (omega (arith, r .long))) ∙ r .front
 -- ---- the set
 
 -- the first x ages are read, up to the place next: their values, and where the set has them
-pub record Filled (bs rest : List ℕ) (start : Params) (x : ℕ) (p : Params) : Type 0 where
+pub record AgesRead (bs rest : List ℕ) (start : Params) (x : ℕ) (p : Params) : Type 0 where
   pub vs : List ℤ
   pub read : readLines (forAges ageKeys x) bs ≡ taken vs rest
   pub long : length vs ≡ 4 * x
@@ -70,9 +70,9 @@ pub record Filled (bs rest : List ℕ) (start : Params) (x : ℕ) (p : Params) :
   pub alpha : Run (p .alpha) 2 vs x
   pub beta : Run (p .beta) 3 vs x
 
-pub fill-start : (bs : List ℕ) (start : Params) → Whole start → Filled bs bs start 0 start
+pub ages-start : (bs : List ℕ) (start : Params) → Whole start → AgesRead bs bs start 0 start
 unfolding readLines forAges
-fill-start bs start w =
+ages-start bs start w =
     record {
       vs = [];
       read = refl;
@@ -103,10 +103,10 @@ stored p x v₀ v₁ v₂ v₃ =
       beta = set (p .beta) x v₃;
     }
 
-pub fill-next : {bs rest next : List ℕ} {start : Params} {x : ℕ} {p : Params} {v₀ v₁ v₂ v₃ : ℤ} → x < ages
-    → readLines (ageKeys x) rest ≡ taken (v₀ ∷ v₁ ∷ v₂ ∷ v₃ ∷ []) next → Filled bs rest start x p
-    → Filled bs next start (suc x) (stored p x v₀ v₁ v₂ v₃)
-fill-next {bs} {rest} {next} {start} {x} {p} {v₀} {v₁} {v₂} {v₃} h e f =
+pub ages-next : {bs rest next : List ℕ} {start : Params} {x : ℕ} {p : Params} {v₀ v₁ v₂ v₃ : ℤ} → x < ages
+    → readLines (ageKeys x) rest ≡ taken (v₀ ∷ v₁ ∷ v₂ ∷ v₃ ∷ []) next → AgesRead bs rest start x p
+    → AgesRead bs next start (suc x) (stored p x v₀ v₁ v₂ v₃)
+ages-next {bs} {rest} {next} {start} {x} {p} {v₀} {v₁} {v₂} {v₃} h e f =
     record {
       vs = f .vs ++ (v₀ ∷ v₁ ∷ v₂ ∷ v₃ ∷ []);
       read = rw (ages-suc ageKeys x) (lines-then (forAges ageKeys x) (ageKeys x) bs (f .read) ∙ ap (after (f .vs)) e);
@@ -123,19 +123,19 @@ fill-next {bs} {rest} {next} {start} {x} {p} {v₀} {v₁} {v₂} {v₃} h e f =
     }
 
 -- an age's lines are malformed, so all are
-pub fill-malformed : {bs rest : List ℕ} {start : Params} {x : ℕ} {p : Params} → x < ages
-    → readLines (ageKeys x) rest ≡ malformed → Filled bs rest start x p → fromAges start bs ≡ malformed
+pub ages-malformed : {bs rest : List ℕ} {start : Params} {x : ℕ} {p : Params} → x < ages
+    → readLines (ageKeys x) rest ≡ malformed → AgesRead bs rest start x p → fromAges start bs ≡ malformed
 unfolding fromAges
-fill-malformed {bs} {x} h e f =
+ages-malformed {bs} {x} h e f =
     let t : readLines (forAges ageKeys x ++ ageKeys x) bs ≡ malformed =
     lines-then (forAges ageKeys x) (ageKeys x) bs (f .read) ∙ ap (after (f .vs)) e in
     let k : ages - suc x + suc x ≡ ages = omega arith in
     stops _ (rw k at (more-malformed ageKeys bs (ages - suc x) (suc x) (rw (ages-suc ageKeys x) t)))
 
 -- all are read
-filled : {bs rest : List ℕ} {start p : Params} (f : Filled bs rest start ages p) → withRuns start (f .vs) ≡ p
+runs-read : {bs rest : List ℕ} {start p : Params} (f : AgesRead bs rest start ages p) → withRuns start (f .vs) ≡ p
 unfolding withRuns
-filled f =
+runs-read f =
     rw (
       ← f .sex,
       ← f .a,
@@ -148,6 +148,6 @@ filled f =
       ← run-end (f .beta),
     )
 
-pub fill-end : {bs rest : List ℕ} {start p : Params} → Filled bs rest start ages p → fromAges start bs ≡ taken p rest
+pub ages-end : {bs rest : List ℕ} {start p : Params} → AgesRead bs rest start ages p → fromAges start bs ≡ taken p rest
 unfolding fromAges
-fill-end {rest} f = goes _ (f .read) ∙ ap (λ (p : Params). taken p rest) (filled f)
+ages-end {rest} f = goes _ (f .read) ∙ ap (λ (p : Params). taken p rest) (runs-read f)

@@ -48,17 +48,17 @@ digits-front (d ∷ ds) rest a n =
 -- what is read as digits, and what follows
 record Front (ds rest : List ℕ) : Type 0 where
   all : AllDigits ds
-  ends : T (noDigitFirst rest)
+  stops : T (noDigitFirst rest)
 
 front : (bs : List ℕ) → Front (digits bs) (afterDigits bs)
 unfolding digits afterDigits
-front [] = record { all = tt; ends = tt }
+front [] = record { all = tt; stops = tt }
 front (b ∷ bs) = go (isDigit b) refl (front bs)
   where
     go : (c : Bool) → isDigit b ≡ c → Front (digits bs) (afterDigits bs)
         → Front (digits (b ∷ bs)) (afterDigits (b ∷ bs))
-    go true e f = rw (digits-more b bs e, after-more b bs e) (record { all = (e, f .all); ends = f .ends })
-    go false e f = rw (digits-end b bs e, after-end b bs e) (record { all = tt; ends = rw e tt })
+    go true e f = rw (digits-more b bs e, after-more b bs e) (record { all = (e, f .all); stops = f .stops })
+    go false e f = rw (digits-end b bs e, after-end b bs e) (record { all = tt; stops = rw e tt })
 
 -- ---- decimal digits
 
@@ -172,11 +172,11 @@ unsigned-reads n rest h t =
     (decimal-no-leading 14 n h) (le→leb (length (decimal 15 n)) 15 (unsigned-length n .1))) in
     rw (f .0, f .1, w, decimal-value 15 n h)
 
--- what was read, and where it ends
+-- what was read, and where it stops
 pub record TextOf (text : List ℕ) (size : ℕ) (bs rest : List ℕ) : Type 0 where
   pub is : bs ≡ text ++ rest
   pub small : size < 10 ^ 15
-  pub ends : T (noDigitFirst rest)
+  pub stops : T (noDigitFirst rest)
 
 unsigned-read : (bs : List ℕ) (n : ℕ) (rest : List ℕ) → readUnsigned bs ≡ taken n rest
     → TextOf (unsignedText n) n bs rest
@@ -194,7 +194,7 @@ unsigned-read bs n rest e = go (wellFormed (digits bs)) refl e
         let z = and-l (noLeadingZero (digits bs)) (leb (length (digits bs)) 15) t in
         let d = value-decimal 14 (digits bs) (f .all) z (well-bounds (digits bs) w .1) in
         rw (← v, ← r)
-        (record { is = rw (d, digits-split bs); small = digits-taken bs w .small; ends = f .ends })
+        (record { is = rw (d, digits-split bs); small = digits-taken bs w .small; stops = f .stops })
     go false w q = malformed-not-taken q
 
 -- ---- a number
@@ -231,7 +231,7 @@ negated-read bs v rest (taken (suc n) r) u e =
     let x : negsuc n ≡ v = cc in
     let y : r ≡ rest = cc in
     let t = unsigned-read bs (suc n) r u in
-    rw (← x, ← y) (record { is = ap (λ (l : List ℕ). minusSign ∷ l) (t .is); small = t .small; ends = t .ends })
+    rw (← x, ← y) (record { is = ap (λ (l : List ℕ). minusSign ∷ l) (t .is); small = t .small; stops = t .stops })
 
 positive-read : (bs : List ℕ) (v : ℤ) (rest : List ℕ) (q : Parse ℕ) → readUnsigned bs ≡ q → positive q ≡ taken v rest
     → TextOf (numberText v) (natAbs v) bs rest

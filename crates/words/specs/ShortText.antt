@@ -16,13 +16,13 @@ pub record Sized (s : Short) : Type 0 where
   pub short : s .len ≤ wordBytes
 
 -- it has at most eight bytes, and its word nothing above them
-pub record Filled (s : Short) : Type 0 where
+pub record Padded (s : Short) : Type 0 where
   pub short : s .len ≤ wordBytes
   pub clear : s .word < 2 ^ (s .len * byteBits)
 
 -- a short text that holds just these bytes
 pub record Holds (s : Short) (text : List ℕ) : Type 0 where
-  pub filled : Filled s
+  pub padded : Padded s
   pub holds : textOf s ≡ text
 
 -- a test tells whether a fact holds
@@ -32,7 +32,7 @@ pub record Tells (r : Bool) (P : Type 0) : Type 0 where
 
 -- two short texts that fit one after the other, the second of at least a byte
 pub record Joins (s t : Short) : Type 0 where
-  pub first : Filled s
-  pub second : Filled t
+  pub first : Padded s
+  pub second : Padded t
   pub some : 0 < t .len
   pub room : s .len + t .len ≤ wordBytes

@@ -51,7 +51,7 @@ pub holds-sum : (s : Short) (text : List ℕ) → Below (2 ^ byteBits) text → 
     → s .word ≡ wordOf text → Holds s text
 holds-sum s text b l n w =
     record {
-      filled = record { short = omega arith; clear = rw (n, w) (sum-below byteBits b) };
+      padded = record { short = omega arith; clear = rw (n, w) (sum-below byteBits b) };
       holds = rw (n, w) (lanes-of-sum byteBits (length text) b (le-refl _) ∙ take-all (length text) text (le-refl _));
     }
 
@@ -75,7 +75,7 @@ module _ (s t : Short) (j : Joins s t) where
       → Holds r (textOf s ++ textOf t)
   side-holds r n w =
       record {
-        filled = record { short = omega (arith, j .room); clear = rw (n, w) side-by-side };
+        padded = record { short = omega (arith, j .room); clear = rw (n, w) side-by-side };
         holds = rw (n, w) (lanes-joined byteBits (s .len) (t .len) (s .word) (t .word) (j .first .clear));
       }
 
@@ -84,15 +84,15 @@ pub holds-length : {s : Short} {text : List ℕ} → Holds s text → s .len ≡
 holds-length {s} h = sym (lanes-length byteBits (s .len) (s .word)) ∙ ap length (h .holds)
 
 pub holds-sized : {s : Short} {text : List ℕ} → Holds s text → 0 < length text → Sized s
-holds-sized h l = record { some = omega (arith, holds-length h); short = h .filled .short }
+holds-sized h l = record { some = omega (arith, holds-length h); short = h .padded .short }
 
 -- two short texts that hold texts of at most eight bytes together
 pub holds-joins : {s t : Short} {u v : List ℕ} → Holds s u → Holds t v → 0 < length v → length u + length v ≤ wordBytes
     → Joins s t
 holds-joins h k l m =
     record {
-      first = h .filled;
-      second = k .filled;
+      first = h .padded;
+      second = k .padded;
       some = omega (arith, holds-length k);
       room = omega (arith, holds-length h, holds-length k);
     }

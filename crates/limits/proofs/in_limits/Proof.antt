@@ -25,9 +25,9 @@ abbrev turn : tie.After-age-of-runs Inv-loop μ-loop → tie.At-loop Inv-loop μ
 turn c = c .before .before .before .before .before .before .before
 
 -- the test of an age is that of the set's
-judged : (c : tie.After-age-in-limits Inv-loop μ-loop) → let l = turn (c .before) in
+age-tested : (c : tie.After-age-in-limits Inv-loop μ-loop) → let l = turn (c .before) in
     c .age-in-limits .result ≡ ageInLimits (ageOf (l .before .before .before .args .t1) (l .loop .x))
-judged c = c .age-in-limits .ensures ∙ ap ageInLimits (c .before .age-of-runs .ensures ∙ four-age _ _)
+age-tested c = c .age-in-limits .ensures ∙ ap ageInLimits (c .before .age-of-runs .ensures ∙ four-age _ _)
 
 returns : tie.Need-returns Inv-loop μ-loop
 unfolding inLimits
@@ -42,7 +42,7 @@ unfolding inLimits
 returns-2 c =
     let l = turn (c .before .before) in
     let a = c .before .age-in-limits in
-    let e = sym (judged (c .before)) ∙ not-true (a .result) (c .if2 .taken) in
+    let e = sym (age-tested (c .before)) ∙ not-true (a .result) (c .if2 .taken) in
     let h : l .loop .x < ages = omega arith in
     let out = age-out _ _ ages h e in
     passes (l .before .if1 .left) (l .before .before .series-in-limits .ensures) (sym out)
@@ -52,7 +52,7 @@ unfolding agesInLimits
 loop-again c =
     let l = turn (c .before .before) .loop in
     let a = c .before .age-in-limits in
-    (search needs, rw (add-one (l .x), l .inv .1, ← judged (c .before), not-false (a .result) (c .if2 .left)))
+    (search needs, rw (add-one (l .x), l .inv .1, ← age-tested (c .before), not-false (a .result) (c .if2 .left)))
 
 returns-3 : tie.Need-returns-3 Inv-loop μ-loop
 unfolding inLimits

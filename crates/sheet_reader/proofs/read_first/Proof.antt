@@ -8,16 +8,16 @@ use native.Mathlib.Omega.{arith}
 use lib.ListN.{length}
 use Rattle.lines.specs.Lines.{firstLines}
 use Rattle.sheet.specs.Sheet.{sheetLines, readSheet}
-use Rattle.sheet_reader.specs.FirstLaws.{first-judged, first-place}
+use Rattle.sheet_reader.specs.FirstLaws.{first-reading, first-place}
 use Rattle.sheet_reader.proofs.read_first.Statement.{statement}
 use Rattle.sheet_reader.proofs.read_first.Tie as tie
 
 -- the sheet
-reads : (c : tie.After-judge) → let bytes = c .before .before .before .before .args .bytes .now in
-    c .judge .result ≡ readSheet (firstLines sheetLines bytes)
+reads : (c : tie.After-reading-of) → let bytes = c .before .before .before .before .args .bytes .now in
+    c .reading-of .result ≡ readSheet (firstLines sheetLines bytes)
 reads c =
     let f = c .before .before .front in
-    c .judge .ensures ∙ first-judged _ (f .result) (f .ensures)
+    c .reading-of .ensures ∙ first-reading _ (f .result) (f .ensures)
 
 -- the place after it, and what is left of the bytes
 place : (c : tie.Else1) → let f = c .before .before .before .before in

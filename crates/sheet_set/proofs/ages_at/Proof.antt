@@ -7,27 +7,27 @@ use native.Mathlib.Omega.{arith}
 use native.Mathlib.Numerals.{add-one}
 use lib.ListN.{drop}
 use Rattle.params.specs.Set.{ages}
-use Rattle.sheet_set.specs.RunLaws.{Filled, fill-start, fill-next, fill-malformed, fill-end}
+use Rattle.sheet_set.specs.RunLaws.{AgesRead, ages-start, ages-next, ages-malformed, ages-end}
 use Rattle.tokens.specs.ReadLaws.{held}
 use Rattle.sheet.specs.ResultLaws.{four-malformed, four-taken}
 use Rattle.sheet_set.proofs.ages_at.Statement.{statement}
 use Rattle.sheet_set.proofs.ages_at.Tie as tie
 
 abbrev Inv-loop : tie.InvT-loop
-Inv-loop bytes at set₀ next₀ x₀ set next x = (x ≤ ages) × Filled (drop at bytes) (drop next bytes) set₀ x set
+Inv-loop bytes at set₀ next₀ x₀ set next x = (x ≤ ages) × AgesRead (drop at bytes) (drop next bytes) set₀ x set
 
 abbrev μ-loop : tie.MeasureT-loop
 μ-loop bytes at set₀ next₀ x₀ set next x = ages - x
 
 loop-holds : tie.Need-loop-holds Inv-loop μ-loop
-loop-holds c = (omega arith, fill-start _ _ (c .before .pre))
+loop-holds c = (omega arith, ages-start _ _ (c .before .pre))
 
 returns : tie.Need-returns Inv-loop μ-loop
 returns c =
     let called = c .before .before in
     let head = called .before .before in
     sym
-    (fill-malformed (called .before .loop-test .taken) (four-malformed _ (called .age-at .ensures) (c .enum-told .given .1))
+    (ages-malformed (called .before .loop-test .taken) (four-malformed _ (called .age-at .ensures) (c .enum-told .given .1))
     (head .loop .inv .1))
 
 loop-again : tie.Need-loop-again Inv-loop μ-loop
@@ -45,7 +45,7 @@ loop-again c =
         held (vs .1 .1 .0) (told .1 .1 .0 .1),
         held (vs .1 .1 .1 .0) (told .1 .1 .1 .0 .1),
       )
-          (fill-next (called .before .loop-test .taken) (four-taken _ (called .age-at .ensures) (read .after .given .1))
+          (ages-next (called .before .loop-test .taken) (four-taken _ (called .age-at .ensures) (read .after .given .1))
           (head .loop .inv .1)),
     )
 
@@ -53,7 +53,7 @@ returns-2 : tie.Need-returns-2 Inv-loop μ-loop
 returns-2 c =
     let head = c .before in
     let h : head .loop .x ≡ ages = omega arith in
-    sym (fill-end (rw h at (head .loop .inv .1)))
+    sym (ages-end (rw h at (head .loop .inv .1)))
 
 pub ages-at-spec : {M : Type 1} → statement M
 ages-at-spec =

@@ -29,7 +29,7 @@ unfolding bytesOf
 four-at-requires c κs =
     let j = c .before .before in (
       holds-sized (j .before .before .before .two .ensures) (omega arith),
-      holds-sized (record { filled = j .joined .ensures .filled; holds = theta j }) (omega arith),
+      holds-sized (record { padded = j .joined .ensures .padded; holds = theta j }) (omega arith),
       holds-sized (c .before .two2 .ensures) (omega arith),
       holds-sized (c .two3 .ensures) (omega arith),
     )
