@@ -1,2 +1,2 @@
 pub mod Closed
-pub mod Filled
+pub mod Fitting

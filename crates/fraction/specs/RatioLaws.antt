@@ -89,11 +89,6 @@ pub whole/-*/ : (a b : ℕ) → whole/ (a * b) ≈/ whole/ a */ whole/ b
 unfolding whole/ _*/_
 whole/-*/ a b = omega arith
 
--- a fraction is above 0 when its numerator is positive
-pub num-positive : {x : Ratio} → (0 < x .num) ↔ (whole/ 0 </ x)
-unfolding whole/
-num-positive = (λ h. omega arith, λ h. omega arith)
-
 pub whole/-positive : {k : ℕ} → 0 < k → 0 < (whole/ k) .num
 unfolding whole/
 whole/-positive p = p

@@ -30,8 +30,8 @@ pub product : {x y a b z : ℤ} → x ≡ a → y ≡ b → z ≡ a *ℤ b → S
 product f g e h = rw (f, g, ← e) (h, toZ-ofZ h)
 
 -- two ends that are those of e
-pub ends : {l u : ℤ} {e : SignedEnds} → l ≡ e .lower → u ≡ e .upper → record { lower = l; upper = u } ≡ e
-ends f g = rw (f, g)
+pub both-ends : {l u : ℤ} {e : SignedEnds} → l ≡ e .lower → u ≡ e .upper → record { lower = l; upper = u } ≡ e
+both-ends f g = rw (f, g)
 
 -- the code's two ends fit
 pub record EndsFit (e : SignedEnds) : Type 0 where
@@ -44,9 +44,11 @@ chosen : {c : ℤ} {b : Bool} (l u : ℤ) → Sign c b → cond (nonNeg c) (c *�
 chosen l u (minus n) = refl
 chosen l u (plain n) = refl
 
+abbrev pub Chosen : ℤ → ℤ → ℤ → Bool → ℤ → Type 0
+Chosen c l u b r = SFits w64 (bits c *ℤ bits (cond b u l)) × (bits (bits c *ℤ bits (cond b u l)) ≡ r)
+
 pub choice : {c l u : ℤ} {b : Bool} → SFits w64 c → SFits w64 l → SFits w64 u → ltZ (bits c) (pos 0) ≡ b
-    → SFits w64 (cond (nonNeg c) (c *ℤ l) (c *ℤ u))
-    → SFits w64 (bits c *ℤ bits (cond b u l)) × (bits (bits c *ℤ bits (cond b u l)) ≡ cond (nonNeg c) (c *ℤ l) (c *ℤ u))
+    → SFits w64 (cond (nonNeg c) (c *ℤ l) (c *ℤ u)) → Chosen c l u b (cond (nonNeg c) (c *ℤ l) (c *ℤ u))
 choice {c} {l} {u} {b} f fl fu t h =
     let e = chosen l u (sign c (rw (toZ-ofZ f) at t)) in
     product (toZ-ofZ f) (read-choice b) e h

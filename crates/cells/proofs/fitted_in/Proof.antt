@@ -19,12 +19,12 @@ use Rattle.force.specs.Force.{negated}
 use Rattle.mortality.specs.Cell.{youngForce, fittedEnds}
 use Rattle.series.specs.YearLaws.{cell-within, year-force}
 use Rattle.cells.specs.Fitted.{LentIn}
-use Rattle.cells.proofs.Filled.{Filled, filled-none, filled-more, filled-out, filled-all}
+use Rattle.cells.proofs.Fitting.{FittedTo, fitted-none, fitted-more, fitted-out, fitted-all}
 use Rattle.cells.proofs.fitted_in.Statement.{statement}
 use Rattle.cells.proofs.fitted_in.Tie as tie
 
 abbrev Inv-loop : tie.InvT-loop
-Inv-loop l s a b y ends₀ i₀ ends i = (o : LentIn l s a b y) → Filled (o .set) (y .number) ends i
+Inv-loop l s a b y ends₀ i₀ ends i = (o : LentIn l s a b y) → FittedTo (o .set) (y .number) ends i
 
 abbrev μ-loop : tie.MeasureT-loop
 μ-loop l s a b y ends₀ i₀ ends i = fitted - i
@@ -58,7 +58,7 @@ in-range : (c : tie.Else1 Inv-loop μ-loop) → let a = c .before .before .befor
 in-range c o = sym (tested (c .before) o) ∙ not-false _ (c .if1 .left)
 
 loop-holds : tie.Need-loop-holds Inv-loop μ-loop
-loop-holds c o = filled-none (o .set) (c .args .y .number) refl
+loop-holds c o = fitted-none (o .set) (c .args .y .number) refl
 
 add-age-of-runs : tie.Need-add-age-of-runs Inv-loop μ-loop
 add-age-of-runs c = omega arith
@@ -79,7 +79,7 @@ returns c o =
     let a = c .before .before .before in
     let t = a .before in
     let l = t .before in
-    filled-out (o .set) (start a .args .y .number) (l .loop .i) (l .loop .ends) (t .loop-test .taken)
+    fitted-out (o .set) (start a .args .y .number) (l .loop .i) (l .loop .ends) (t .loop-test .taken)
     (sym (tested (c .before) o) ∙ not-true _ (c .if1 .taken))
 
 inverse-logistic-requires : tie.Need-inverse-logistic-requires Inv-loop μ-loop
@@ -108,7 +108,7 @@ loop-again c o =
     let e = c .before in
     let m = e .before .before in
     let t = m .before .before in
-    filled-more (t .before .loop .inv o) (t .loop-test .taken) (rw (in-range e o) tt)
+    fitted-more (t .before .loop .inv o) (t .loop-test .taken) (rw (in-range e o) tt)
     (c .inverse-logistic .ensures
     ∙ ap (λ (k : SignedEnds). inverseLogistic billionths k (expBetween billionths (negated k))) (forced m o))
 
@@ -117,7 +117,7 @@ returns-2 c o =
     let l = c .before in
     let f = l .loop .inv o in
     let i : l .loop .i ≡ fitted = omega (arith, f .count, c .loop-test .left) in
-    filled-all (o .set) (l .before .args .y .number) (l .loop .ends) (o .year .limits) (o .year .year) (rw i at f)
+    fitted-all (o .set) (l .before .args .y .number) (l .loop .ends) (o .year .limits) (o .year .year) (rw i at f)
 
 pub fitted-in-spec : {M : Type 1} → statement M
 fitted-in-spec =

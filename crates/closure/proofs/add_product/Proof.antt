@@ -1,7 +1,7 @@
 -- `add_product` meets its contract: the products and the sums with them fit.
 use Rattle.whole.specs.Bound.{fits, back}
 use Rattle.whole.specs.EndLaws.{least-under, greatest-under}
-use Rattle.whole.proofs.Signed.{ends}
+use Rattle.whole.proofs.Signed.{both-ends}
 use Rattle.closure.specs.Code.{withProduct}
 use Rattle.closure.proofs.Sums.{next-least, next-greatest}
 use Rattle.closure.proofs.add_product.Statement.{statement}
@@ -35,7 +35,7 @@ returns c =
     let g = c .before .before .before .before in
     let l = g .before in
     let p = l .before .pre in
-    ends (next-least (p .0 .low) (p .1) (p .2) (l .least-product .ensures) .1)
+    both-ends (next-least (p .0 .low) (p .1) (p .2) (l .least-product .ensures) .1)
     (next-greatest (p .0 .high) (p .1) (p .2) (g .greatest-product .ensures) .1)
 
 pub add-product-spec : {M : Type 1} → statement M

@@ -8,7 +8,7 @@ use Rattle.whole.specs.Bound.{bits, fits, back}
 use Rattle.whole.specs.declared.SignedEnds.{SignedEnds}
 use Rattle.whole.specs.SignedEnds.{outward}
 use Rattle.whole.specs.EndLaws.{Within}
-use Rattle.whole.proofs.Signed.{read, read-floor, read-ceil, ends}
+use Rattle.whole.proofs.Signed.{read, read-floor, read-ceil, both-ends}
 use Rattle.closure.specs.Weights.{fitted, weightUnit}
 use Rattle.closure.specs.Closure.{leastSum, greatestSum, weightedMean}
 use Rattle.closure.specs.Code.{sumsLimit, weightOf}
@@ -95,7 +95,7 @@ returns c =
     let u = sums-within (s .args .t1) (s .args .t2) (p .0) (p .1) fitted (omega arith) in
     let low = fits (u .low) tt in
     let high = fits (u .high) tt in
-    ends (read-floor weightUnit (read (ap (λ (k : SignedEnds). k .lower) e) low) low (f .outward-div .ensures))
+    both-ends (read-floor weightUnit (read (ap (λ (k : SignedEnds). k .lower) e) low) low (f .outward-div .ensures))
     (read-ceil weightUnit (read (ap (λ (k : SignedEnds). k .upper) e) high) high (c .outward-div2 .ensures))
 
 pub closed-sum-spec : {M : Type 1} → statement M

@@ -7,7 +7,7 @@ use lib.IntN.{pos, _+ℤ_}
 use Rattle.expo.specs.declared.Ends.{Ends}
 use Rattle.expo.specs.Billionths.{billionths}
 use Rattle.expo.specs.Exponential.{expBetween}
-use Rattle.whole.proofs.Signed.{ends}
+use Rattle.whole.proofs.Signed.{both-ends}
 use Rattle.logarithm.specs.Logarithm.{logLower, logUpper, inverseLogistic}
 use Rattle.force.specs.Force.{negated}
 use Rattle.force.proofs.Ends.{logLimit, under-lower, under-upper, exp-small, log-lower-small, log-upper-small, end-sum}
@@ -55,7 +55,7 @@ returns c =
     let r = f .before .pre in
     let m = f .before .args .m in
     let e = forced f in
-    ends
+    both-ends
     (end-sum (under-lower r) (lower-small l) .1
     ∙ ap (λ (n : ℕ). m .lower +ℤ pos n) (l .log-between .ensures .0 ∙ ap (λ (k : Ends). logLower billionths (k .lower)) e))
     (end-sum (under-upper r) (upper-small l) .1

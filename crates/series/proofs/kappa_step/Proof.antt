@@ -6,7 +6,7 @@ use mir.Facts.{toZ-ofZ}
 use Rattle.whole.specs.Bound.{fits}
 use Rattle.whole.specs.SignedEnds.{leastProduct, greatestProduct, outward}
 use Rattle.whole.specs.EndLaws.{least-under, greatest-under}
-use Rattle.whole.proofs.Signed.{read, read-floor, read-ceil, ends}
+use Rattle.whole.proofs.Signed.{read, read-floor, read-ceil, both-ends}
 use Rattle.series.specs.Series.{coefficientUnit, kappaStep}
 use Rattle.series.proofs.kappa_step.Statement.{statement}
 use Rattle.series.proofs.kappa_step.Tie as tie
@@ -39,7 +39,7 @@ returns c =
     let a = toZ-ofZ (s .fits .a) in
     let low = read (rw a at (l .least-product .ensures)) (least-fits s) in
     let high = read (rw a at (g .greatest-product .ensures)) (greatest-fits s) in
-    ends (read-floor coefficientUnit low (least-fits s) (f .outward-div .ensures))
+    both-ends (read-floor coefficientUnit low (least-fits s) (f .outward-div .ensures))
     (read-ceil coefficientUnit high (greatest-fits s) (c .outward-div2 .ensures))
 
 pub kappa-step-spec : {M : Type 1} → statement M

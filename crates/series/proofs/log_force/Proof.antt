@@ -1,6 +1,6 @@
 -- `log_force` meets its contract: for a cell in its limits nothing overflows, and the ends are those of the definition.
 use borrow.Author.Needs.{needs}
-use Rattle.whole.proofs.Signed.{ends}
+use Rattle.whole.proofs.Signed.{both-ends}
 use Rattle.series.proofs.Cell.{fixed, trend, least-read-fits, greatest-read-fits, low, high, lower-end, upper-end}
 use Rattle.series.proofs.log_force.Statement.{statement}
 use Rattle.series.proofs.log_force.Tie as tie
@@ -59,7 +59,7 @@ returns c =
     let l = start₁ d .pre in
     let m = low l (trend l .1) (d .least-product .ensures) .1 in
     let n = high l (trend l .1) (g .greatest-product .ensures) .1 in
-    ends (lower-end l (fixed l .1) m (q .outward-div .ensures) .1) (upper-end l (fixed l .1) n (c .outward-div2 .ensures) .1)
+    both-ends (lower-end l (fixed l .1) m (q .outward-div .ensures) .1) (upper-end l (fixed l .1) n (c .outward-div2 .ensures) .1)
 
 pub log-force-spec : {M : Type 1} → statement M
 log-force-spec =

@@ -36,15 +36,15 @@ use Rattle.cells.specs.Fitted.{FittedOf}
 use Rattle.force.proofs.Ends.{under-lower, under-upper, exp-small, log-lower-small, log-upper-small, end-under}
 
 -- the first i cells are in range, and the first i ends are those of H
-pub record Filled (p : Params) (n : ℕ) (es : List SignedEnds) (i : ℕ) : Type 0 where
+pub record FittedTo (p : Params) (n : ℕ) (es : List SignedEnds) (i : ℕ) : Type 0 where
   pub count : i ≤ fitted
   pub range : T (fittedInRange p n i)
   pub ends : take i es ≡ listed (fittedEnds billionths p n) firstFitted i
   pub size : length es ≡ fitted
 
-pub filled-none : (p : Params) (n : ℕ) {es : List SignedEnds} → length es ≡ fitted → Filled p n es 0
+pub fitted-none : (p : Params) (n : ℕ) {es : List SignedEnds} → length es ≡ fitted → FittedTo p n es 0
 unfolding fittedInRange listed
-filled-none p n h = record { count = lit≤ tt; range = tt; ends = refl; size = h }
+fitted-none p n h = record { count = lit≤ tt; range = tt; ends = refl; size = h }
 
 -- one end more
 list-more : (p : Params) (n i : ℕ) (es : List SignedEnds) (e : SignedEnds) → i < length es
@@ -53,11 +53,11 @@ list-more : (p : Params) (n i : ℕ) (es : List SignedEnds) (e : SignedEnds) →
 list-more p n i es e l h k =
     rw (listed-more (fittedEnds billionths p n) firstFitted i, take-suc-set es i e l, h, k)
 
-pub filled-more : {p : Params} {n i : ℕ} {es : List SignedEnds} {e : SignedEnds} → Filled p n es i → i < fitted
+pub fitted-more : {p : Params} {n i : ℕ} {es : List SignedEnds} {e : SignedEnds} → FittedTo p n es i → i < fitted
     → T (inRange (logForce p (firstFitted + i) n)) → e ≡ fittedEnds billionths p n (firstFitted + i)
-    → Filled p n (set es i e) (i + 1)
+    → FittedTo p n (set es i e) (i + 1)
 unfolding fittedInRange
-filled-more {p} {n} {i} {es} {e} f l t k =
+fitted-more {p} {n} {i} {es} {e} f l t k =
     rw (add-one i)
     (record {
       count = l;
@@ -74,9 +74,9 @@ range-out p n i (suc k) h e =
     ⊎-elim (λ q. rw (← q, e) (and-false (fittedInRange p n i))) (λ l. rw (range-out p n i k l e))
     (eq-or-lt-of-le (le-of-suc-le-suc h))
 
-pub filled-out : (p : Params) (n i : ℕ) (es : List SignedEnds) → i < fitted → inRange (logForce p (firstFitted + i) n) ≡ false
+pub fitted-out : (p : Params) (n i : ℕ) (es : List SignedEnds) → i < fitted → inRange (logForce p (firstFitted + i) n) ≡ false
     → FittedOf p n (record { ok = false; ends = es })
-filled-out p n i es h e =
+fitted-out p n i es h e =
     record { ok = sym (range-out p n i fitted h e); ends = λ t. absurd t; limit = λ t. absurd t }
 
 -- the ends of H are within their limit
@@ -96,10 +96,10 @@ needed : {p : Params} {n : ℕ} → T (inLimits p) → n ≤ lastYears → T (fi
 unfolding neededInRange
 needed t l r = record { limits = t; age = lit≤ tt; year = l; needed = r }
 
-pub filled-all : (p : Params) (n : ℕ) (es : List SignedEnds) → T (inLimits p) → n ≤ lastYears → Filled p n es fitted
+pub fitted-all : (p : Params) (n : ℕ) (es : List SignedEnds) → T (inLimits p) → n ≤ lastYears → FittedTo p n es fitted
     → FittedOf p n (record { ok = true; ends = es })
 unfolding fittedList
-filled-all p n es t l f =
+fitted-all p n es t l f =
     let e : es ≡ fittedList billionths p n = sym (take-all fitted es (omega (arith, f .size))) ∙ f .ends in
     let a = needed t l (f .range) in
     record {
