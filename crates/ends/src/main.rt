@@ -4,5 +4,5 @@ use run::Program;
 use run_line::Mode;
 
 fn main() {
-    run_console::answer(Program::Lines(Mode::Ends));
+    run_console::answer(Program::Lines(Mode::Quotes(true)));
 }

@@ -1,12 +1,12 @@
 -- The whole run of an input as a call gives it: its number, and the buffer and the length after it.
 use Prim.Native.Nat.{ℕ, _+_, _*_}
-use mathlib.Core.Bool.{cond}
+use mathlib.Core.Bool.{not, cond}
 use mathlib.Core.List.{List}
 use lib.Dec.{eqb, leb}
 use lib.ListN.{length}
 use Rattle.params.specs.declared.Refusal.the-variants.{Accepted, BufferTooShort}
 use Rattle.params.specs.Refusals.{refusalNumber}
-use Rattle.run_line.specs.declared.Mode.the-variants.{Quotes, Ends}
+use Rattle.run_line.specs.declared.Mode.the-variants.{Quotes}
 use Rattle.run.specs.declared.Program.{Program}
 use Rattle.run.specs.declared.Program.the-variants.{Lines}
 use Rattle.run.specs.Into.{textBuffer}
@@ -14,7 +14,7 @@ use Rattle.run.specs.Run.{runOf}
 
 -- 0 prints as the program `quotes` does, any other number as `ends`
 unfoldable pub programOf : ℕ → Program
-programOf ends = cond (eqb ends 0) (Lines Quotes) (Lines Ends)
+programOf ends = Lines (Quotes (not (eqb ends 0)))
 
 -- room for the output of any input of n bytes
 unfoldable pub roomFor : ℕ → ℕ

@@ -9,9 +9,7 @@ use Rattle.params.specs.declared.Refusal.the-variants.{Accepted, BufferTooShort
 use Rattle.params.specs.Refusals.{refusalNumber}
 use Rattle.sheet.specs.declared.Written.{Written}
 use Rattle.run_line.specs.Line.{longestLine}
-use Rattle.run_line.specs.declared.Mode.the-variants.{Quotes, Ends}
 use Rattle.run.specs.declared.Program.{Program}
-use Rattle.run.specs.declared.Program.the-variants.{Lines}
 use Rattle.run.specs.Into.{textAnswer, textBuffer}
 use Rattle.run.specs.IntoLaws.{Into}
 use Rattle.run.specs.Run.{runOf, runRoom}
@@ -36,14 +34,10 @@ told-length need text room before = go (leb need room)
     go true = refl
     go false = refl
 
--- both programs ask for the same room
+-- the room does not depend on the ends
 room-same : (ends n : ℕ) → runRoom (programOf ends) n ≡ roomFor n
 unfolding programOf runRoom roomFor longestLine
-room-same ends n = go (eqb ends 0)
-  where
-    go : (b : Bool) → runRoom (cond b (Lines Quotes) (Lines Ends)) n ≡ roomFor n
-    go true = refl
-    go false = refl
+room-same ends n = refl
 
 pub run-told : (input : List ℕ) (ends : ℕ) (buffer : List ℕ) (len : ℕ) {program : Program} → program ≡ programOf ends
     → {got : Written} {after : List ℕ} → Into (runRoom program (length input)) (runOf program input) buffer got after

@@ -5,7 +5,7 @@ ghost use lib.ListN.{length};
 ghost use Rattle.set_numbers.specs.SetNumbers.{readNo, numbersAfter, writeNo, bufferAfter, lengthAfter};
 ghost use Rattle.sheet_quote.specs.SheetQuote.{kindOf, ratedKindOf, sheetAnswer, quoteNo, quoteAfter};
 ghost use Rattle.column_verdicts.specs.SheetVerdict.{sheetVerdict, verdictNo, verdictAfter};
-ghost use Rattle.kulfizan.specs.Run.{runNo, runBuffer, runLength, programOf};
+ghost use Rattle.kulfizan.specs.Run.{runNo, runBuffer, runLength};
 use run::Program;
 use run_line::Mode;
 
@@ -82,16 +82,6 @@ pub extern "C" fn kulfizan_verdict(sheet: &[u8], year: i64, column: &[u8], verdi
     column_verdicts::verdict_into(sheet, year, column, verdict)
 }
 
-// The program that a number names: `quotes` by 0, `ends` by any other.
-fn program_of(ends: u8) -> Program
-    ensures { λ r. ⌜ r ≡ programOf ends ⌝ }
-{
-    if ends == 0 {
-        return Program::Lines(Mode::Quotes);
-    }
-    Program::Lines(Mode::Ends)
-}
-
 // Writes the whole run of an input into the buffer, and its length: as the program `quotes` prints it where
 // `ends` is 0, else as `ends` does. 0, or 7 where the buffer has fewer than 5·n + 161 bytes for n bytes of input; refused, the
 // call leaves every byte and the length as they were.
@@ -101,5 +91,6 @@ pub extern "C" fn kulfizan_run(input: &[u8], ends: u8, out: &mut [u8], len: &mut
     ensures { λ r. ⌜ now (out .exit) ≡ runBuffer (now (input .entry)) ends (now (out .entry)) ⌝ }
     ensures { λ r. ⌜ now (len .exit) ≡ runLength (now (input .entry)) ends (length (now (out .entry))) (now (len .entry)) ⌝ }
 {
-    set_numbers::tell(run::run(program_of(ends), input, out), len)
+    let program = Program::Lines(Mode::Quotes(ends != 0));
+    set_numbers::tell(run::run(program, input, out), len)
 }

@@ -3,5 +3,5 @@ use run::Program;
 use run_line::Mode;
 
 fn main() {
-    run_console::answer(Program::Lines(Mode::Quotes));
+    run_console::answer(Program::Lines(Mode::Quotes(false)));
 }

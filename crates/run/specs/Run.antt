@@ -12,7 +12,7 @@ use Rattle.answer_text.specs.AnswerText.{refusalLine, refusedText}
 use Rattle.run_sheets.specs.declared.Front.{Front}
 use Rattle.run_sheets.specs.Front.{frontOf}
 use Rattle.run_line.specs.declared.Mode.{Mode}
-use Rattle.run_line.specs.declared.Mode.the-variants.{Quotes, Ends, Compare}
+use Rattle.run_line.specs.declared.Mode.the-variants.{Quotes, Compare}
 use Rattle.run_line.specs.Line.{lineAnswer, longestLine}
 use Rattle.run_verdict.specs.VerdictRun.{verdictRun}
 use Rattle.verdict_text.specs.VerdictText.{mostVerdict}
@@ -24,8 +24,7 @@ use Rattle.run.specs.Answers.{answersFrom}
 
 -- a comparison takes two sheets
 unfoldable pub takesTwo : Mode → Bool
-takesTwo Quotes = false
-takesTwo Ends = false
+takesTwo (Quotes ends) = false
 takesTwo Compare = true
 
 -- "a refused sheet .. prints `no=` and its number as the one line of the run"; of two sheets it is named, `sheet=1 no=…` or

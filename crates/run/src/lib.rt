@@ -27,8 +27,7 @@ fn takes_two(mode: Mode) -> bool
     ensures { λ r. ⌜ r ≡ takesTwo mode ⌝ }
 {
     match mode {
-        Mode::Quotes => false,
-        Mode::Ends => false,
+        Mode::Quotes(_) => false,
         Mode::Compare => true,
     }
 }

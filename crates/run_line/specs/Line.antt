@@ -1,6 +1,5 @@
 -- "It echoes each with ` fig=` and a figure or `open`, or ` no=` and a refusal. .. A torn query prints `no=1` only": the
 -- answer to a line, by the program's mode and two sets, of which a program of one sheet takes the first.
-use mathlib.Core.Bool.{true, false}
 use mathlib.Core.List.{List, _++_}
 use Prim.Native.Nat.{ℕ, _-_}
 use lib.ListN.{length, take}
@@ -17,7 +16,7 @@ use Rattle.answer_text.specs.AnswerText.{refusalLine, answerText}
 use Rattle.compare_quotes.specs.Compare.{comparisonOf}
 use Rattle.compare_text.specs.CompareText.{comparisonText}
 use Rattle.run_line.specs.declared.Mode.{Mode}
-use Rattle.run_line.specs.declared.Mode.the-variants.{Quotes, Ends, Compare}
+use Rattle.run_line.specs.declared.Mode.the-variants.{Quotes, Compare}
 
 -- a line without its last byte, the line feed
 abbrev pub withoutFeed : List ℕ → List ℕ
@@ -38,10 +37,9 @@ queryAnswer p q = answerOf p (q .kind) (q .age) (q .year) (q .span)
 abbrev pub kindDecimals : Kind → ℕ
 kindDecimals kind = decimalsOf (ruleOf kind .fold)
 
--- what follows a query: its answer without the ends or with them, or its answers by the first set and by the second, compared
+-- what follows a query: its answer, with the ends where they are asked for, or its answers by the first set and by the second, compared
 unfoldable pub reply : Mode → Params → Params → Query → List ℕ
-reply Quotes p p′ q = answerText false (kindDecimals (q .kind)) (queryAnswer p q)
-reply Ends p p′ q = answerText true (kindDecimals (q .kind)) (queryAnswer p q)
+reply (Quotes ends) p p′ q = answerText ends (kindDecimals (q .kind)) (queryAnswer p q)
 reply Compare p p′ q = comparisonText (kindDecimals (q .kind)) (comparisonOf (queryAnswer p q) (queryAnswer p′ q))
 
 -- ---- any line
@@ -51,8 +49,7 @@ lineAnswer mode p p′ line = answered readQuery (reply mode p p′) line
 
 -- no answer is longer
 unfoldable pub longestLine : Mode → ℕ
-longestLine Quotes = 161
-longestLine Ends = 161
+longestLine (Quotes ends) = 161
 longestLine Compare = 205
 
 -- whichever the mode

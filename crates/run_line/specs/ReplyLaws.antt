@@ -1,6 +1,6 @@
 -- What follows a query: how great its numbers are and how long it is; and so how long the answer to a line is.
 use mathlib.Core.Path.{_≡_, ap}
-use mathlib.Core.Bool.{true, false}
+use mathlib.Core.Bool.{Bool}
 use mathlib.Core.List.{List}
 use Prim.Native.Nat.{ℕ, suc, _+_, _-_, _≤_}
 use native.Mathlib.Omega.{arith}
@@ -24,7 +24,7 @@ use Rattle.compare_text.specs.CompareText.{comparisonText}
 use Rattle.compare_text.specs.Sizes.{SizedComparison, comparison-sized}
 use Rattle.compare_text.specs.Lengths.{comparison-length}
 use Rattle.run_line.specs.declared.Mode.{Mode}
-use Rattle.run_line.specs.declared.Mode.the-variants.{Quotes, Ends, Compare}
+use Rattle.run_line.specs.declared.Mode.the-variants.{Quotes, Compare}
 use Rattle.run_line.specs.Line.{withoutFeed, queryAnswer, kindDecimals, reply, lineAnswer, longestLine, mostLine}
 use Rattle.run_line.specs.LineLaws.{Bounded, Lengths, answered-bounded}
 
@@ -57,20 +57,18 @@ query-sized p q = answer-sized p (q .kind) (q .age) (q .year) (q .span)
 
 -- ---- the text by the mode, from a query's decimals and its answers
 
-module _ (mode : Mode) (p p′ : Params) (q : Query) {d : ℕ} (f : d ≡ kindDecimals (q .kind)) {a : Answer} (g : a ≡ queryAnswer p q) where
-  pub reply-quotes : mode ≡ Quotes → reply mode p p′ q ≡ answerText false d a
+module _ (mode : Mode) (p p′ : Params) (q : Query) {d : ℕ} (f : d ≡ kindDecimals (q .kind)) {a : Answer}
+    (g : a ≡ queryAnswer p q) where
+  pub reply-quotes : {ends : Bool} → mode ≡ Quotes ends → reply mode p p′ q ≡ answerText ends d a
   unfolding reply
   reply-quotes e = rw (e, f, g)
-
-  pub reply-ends : mode ≡ Ends → reply mode p p′ q ≡ answerText true d a
-  unfolding reply
-  reply-ends e = rw (e, f, g)
 
   pub reply-compare : mode ≡ Compare → {b : Answer} → b ≡ queryAnswer p′ q → {k : Comparison} → k ≡ comparisonOf a b
       → (reply mode p p′ q ≡ comparisonText d k) × SizedComparison k
   unfolding reply
   reply-compare e h k =
-      (rw (e, k, f, g, h), rw (k, g, h) (comparison-sized (queryAnswer p q) (queryAnswer p′ q) (query-sized p q) (query-sized p′ q)))
+      let sized = comparison-sized (queryAnswer p q) (queryAnswer p′ q) (query-sized p q) (query-sized p′ q) in
+      (rw (e, k, f, g, h), rw (k, g, h) sized)
 
 -- ---- lengths
 
@@ -84,17 +82,15 @@ decimals-most (Annuity rate) = omega arith
 -- the most bytes that follow a query
 pub reply-length : (mode : Mode) (p p′ : Params) (q : Query) → length (reply mode p p′ q) + 96 ≤ longestLine mode
 unfolding reply longestLine
-reply-length Quotes p p′ q =
-    omega (arith, answer-length false (kindDecimals (q .kind)) (queryAnswer p q), decimals-most (ruleOf (q .kind) .fold))
-reply-length Ends p p′ q =
-    omega (arith, answer-length true (kindDecimals (q .kind)) (queryAnswer p q), decimals-most (ruleOf (q .kind) .fold))
+reply-length (Quotes ends) p p′ q =
+    omega (arith, answer-length ends (kindDecimals (q .kind)) (queryAnswer p q), decimals-most (ruleOf (q .kind) .fold))
 reply-length Compare p p′ q =
-    omega (arith, comparison-length (kindDecimals (q .kind)) (comparisonOf (queryAnswer p q) (queryAnswer p′ q)), decimals-most (ruleOf (q .kind) .fold))
+    let k = comparisonOf (queryAnswer p q) (queryAnswer p′ q) in
+    omega (arith, comparison-length (kindDecimals (q .kind)) k, decimals-most (ruleOf (q .kind) .fold))
 
 pub longest-between : (mode : Mode) → (161 ≤ longestLine mode) × (longestLine mode ≤ mostLine)
 unfolding longestLine
-longest-between Quotes = omega arith
-longest-between Ends = omega arith
+longest-between (Quotes ends) = omega arith
 longest-between Compare = omega arith
 
 pub line-bounded : (mode : Mode) (p p′ : Params) → Bounded (longestLine mode) (lineAnswer mode p p′)

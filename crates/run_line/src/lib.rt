@@ -13,10 +13,9 @@ use path_quotes::Answer;
 use query::Query;
 use query::QueryRead;
 
-// What a program answers a query with: its figure, the figure with its ends, or the figures by two sheets.
+// What a program answers a query with: its figure, behind the two ends where they are asked for, or the figures by two sheets.
 pub enum Mode {
-    Quotes,
-    Ends,
+    Quotes(bool),
     Compare,
 }
 
@@ -28,8 +27,7 @@ pub fn longest_line(mode: Mode) -> usize
     ensures { λ r. ⌜ r ≡ longestLine mode ⌝ }
 {
     match mode {
-        Mode::Quotes => 161,
-        Mode::Ends => 161,
+        Mode::Quotes(_) => 161,
         Mode::Compare => 205,
     }
 }
@@ -68,8 +66,7 @@ fn put_reply(
     let decimals = decimals_for(kind);
     let answer = answer_to(first, query);
     match mode {
-        Mode::Quotes => answer_text::put_answer(buffer, at, false, decimals, answer),
-        Mode::Ends => answer_text::put_answer(buffer, at, true, decimals, answer),
+        Mode::Quotes(ends) => answer_text::put_answer(buffer, at, ends, decimals, answer),
         Mode::Compare => {
             let other = answer_to(second, query);
             let comparison = compare_quotes::compare(answer, other);

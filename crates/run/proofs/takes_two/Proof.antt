@@ -12,10 +12,5 @@ returns-2 : tie.Need-returns-2
 unfolding takesTwo
 returns-2 c = search needs
 
-returns-3 : tie.Need-returns-3
-unfolding takesTwo
-returns-3 c = search needs
-
 pub takes-two-spec : {M : Type 1} → statement M
-takes-two-spec =
-    tie.close (tie.spec (λ c. search needs) (λ c. search needs) (λ c. search needs) returns returns-2 returns-3)
+takes-two-spec = tie.close (tie.spec (λ c. search needs) (λ c. search needs) returns returns-2)

@@ -1,36 +1,33 @@
 -- `put_reply` meets its contract: the text of the mode.
 use borrow.Author.Needs.{needs}
 use mathlib.Core.Path.{_≡_, sym}
-use mathlib.Core.Bool.{true, false}
 use Rattle.printing.specs.PutLaws.{put-as, room-as}
 use Rattle.answer_text.specs.AnswerText.{answerText}
 use Rattle.answer_text.specs.Sizes.{SizedAnswer}
 use Rattle.compare_text.specs.CompareText.{comparisonText}
 use Rattle.compare_text.specs.Sizes.{SizedComparison}
 use Rattle.run_line.specs.Line.{reply}
-use Rattle.run_line.specs.ReplyLaws.{query-sized, reply-quotes, reply-ends, reply-compare}
+use Rattle.run_line.specs.ReplyLaws.{query-sized, reply-quotes, reply-compare}
 use Rattle.run_line.proofs.put_reply.Statement.{statement}
 use Rattle.run_line.proofs.put_reply.Tie as tie
 
 abbrev start : tie.After-answer-to → tie.Start
 start c = c .before .before .before
 
+-- ---- an answer
+
+abbrev one : tie.After-mode → tie.After-answer-to
+one c = c .before .before
+
+quoted : (c : tie.After-mode) → let w = one c in let s = start w .args in
+    reply (s .mode) (s .first) (s .second) (s .query)
+    ≡ answerText (c .mode .given .0 .0) (w .before .decimals-for .result) (w .answer-to .result)
+quoted c = reply-quotes _ _ _ _ (one c .before .decimals-for .ensures) (one c .answer-to .ensures) (c .mode .given .1)
+
 sized : (c : tie.After-answer-to) → SizedAnswer (c .answer-to .result)
 sized c = let s = start c .args in rw (c .answer-to .ensures) (query-sized (s .first) (s .query))
 
--- ---- the text of each mode
-
-quotes : (c : tie.After-enum-told) → let w = c .before .before in let s = start w .args in
-    reply (s .mode) (s .first) (s .second) (s .query) ≡ answerText false (w .before .decimals-for .result) (w .answer-to .result)
-quotes c =
-    let w = c .before .before in
-    reply-quotes _ _ _ _ (w .before .decimals-for .ensures) (w .answer-to .ensures) (c .enum-told .given .1)
-
-ends : (c : tie.After-enum-told2) → let w = c .before .before in let s = start w .args in
-    reply (s .mode) (s .first) (s .second) (s .query) ≡ answerText true (w .before .decimals-for .result) (w .answer-to .result)
-ends c =
-    let w = c .before .before in
-    reply-ends _ _ _ _ (w .before .decimals-for .ensures) (w .answer-to .ensures) (c .enum-told2 .given .1)
+-- ---- two answers, compared
 
 abbrev both : tie.After-compare → tie.After-answer-to
 both c = c .before .before .before .before
@@ -40,20 +37,15 @@ compared : (c : tie.After-compare) → let w = both c in let s = start w .args i
     × SizedComparison (c .compare .result)
 compared c =
     let w = both c in
-    reply-compare _ _ _ _ (w .before .decimals-for .ensures) (w .answer-to .ensures) (c .before .before .enum-told3 .given .1)
+    reply-compare _ _ _ _ (w .before .decimals-for .ensures) (w .answer-to .ensures) (c .before .before .enum-told .given .1)
     (c .before .answer-to2 .ensures) (c .compare .ensures)
 
 -- ---- the needs
 
 put-answer-requires : tie.Need-put-answer-requires
 put-answer-requires c κs =
-    let w = c .before .before .before in
-    (sized w, room-as (quotes (c .before)) (start w .pre .2))
-
-put-answer-requires-2 : tie.Need-put-answer-requires-2
-put-answer-requires-2 c κs =
-    let w = c .before .before .before in
-    (sized w, room-as (ends (c .before)) (start w .pre .2))
+    let m = c .before .before in
+    (sized (one m), room-as (quoted m) (start (one m) .pre .2))
 
 put-comparison-requires : tie.Need-put-comparison-requires
 put-comparison-requires c κs =
@@ -61,13 +53,10 @@ put-comparison-requires c κs =
     (t .1, room-as (t .0) (start (both (c .before)) .pre .2))
 
 returns : tie.Need-returns
-returns c = put-as (sym (quotes (c .before .before .before .before))) (c .before .before .put-answer .ensures)
+returns c = put-as (sym (quoted (c .before .before .before .before .before))) (c .before .before .put-answer .ensures)
 
 returns-2 : tie.Need-returns-2
-returns-2 c = put-as (sym (ends (c .before .before .before .before))) (c .before .before .put-answer2 .ensures)
-
-returns-3 : tie.Need-returns-3
-returns-3 c = put-as (sym (compared (c .before .before .before .before) .0)) (c .before .before .put-comparison .ensures)
+returns-2 c = put-as (sym (compared (c .before .before .before .before) .0)) (c .before .before .put-comparison .ensures)
 
 pub put-reply-spec : {M : Type 1} → statement M
 put-reply-spec =
@@ -78,14 +67,10 @@ put-reply-spec =
     (λ c. search needs)
     put-answer-requires
     (λ c. search needs)
-    put-answer-requires-2
-    (λ c. search needs)
     (λ c κs. search needs)
     (λ c κs. search needs)
     put-comparison-requires
     (λ c. search needs)
     returns
     (λ c. search needs)
-    returns-2
-    (λ c. search needs)
-    returns-3)
+    returns-2)
