@@ -28,10 +28,10 @@ use Rattle.run_sheets.specs.Front.{sheetOf, sheetEnd, stopped, oneSheet,
 abbrev ReadWell : Reading → Type 0
 ReadWell sheet = refusalNumber (sheet .refusal) ≡ 0 → T (inLimits (sheet .set))
 
-readingOf-well : (q : Parse Params) → ReadWell (readingOf q)
+reading-well : (q : Parse Params) → ReadWell (readingOf q)
 unfolding readingOf refused refusalNumber
-readingOf-well malformed e = absurd (omega arith)
-readingOf-well (taken p rest) e = go (inLimits p) refl e
+reading-well malformed e = absurd (omega arith)
+reading-well (taken p rest) e = go (inLimits p) refl e
   where
     go : (b : Bool) → inLimits p ≡ b
         → refusalNumber (cond b (record { refusal = Accepted; set = p }) (refused OutOfLimits) .refusal) ≡ 0
@@ -41,7 +41,7 @@ readingOf-well (taken p rest) e = go (inLimits p) refl e
 
 sheet-well : (input : List ℕ) → ReadWell (sheetOf input)
 unfolding sheetOf readSheet refused refusalNumber
-sheet-well input e = let sheet = firstLines sheetLines input in go (leb (length sheet) mostBytes) (readingOf (readSet sheet)) (readingOf-well (readSet sheet)) e
+sheet-well input e = let sheet = firstLines sheetLines input in go (leb (length sheet) mostBytes) (readingOf (readSet sheet)) (reading-well (readSet sheet)) e
   where
     go : (b : Bool) (r : Reading) → ReadWell r → ReadWell (cond b r (refused Malformed))
     go true r h e = h e

@@ -10,15 +10,7 @@ use Rattle.folds.specs.Folds.{plus}
 use Rattle.folds.specs.Code.{mostFactors}
 use Rattle.folds.proofs.Running.{SurvivalTo, survival-none, survival-more, factor-small}
 use Rattle.annuity.specs.Annuity.{annuityOver}
-use Rattle.annuity.proofs.Running.{
-  DiscountTo,
-  discount-none,
-  discount-more,
-  PaymentTo,
-  payment-to,
-  PriceTo,
-  price-none,
-  price-more,
+use Rattle.annuity.proofs.Running.{ DiscountTo, discount-none, discount-more, PaymentTo, payment-to, PriceTo, price-none, price-more,
 }
 use Rattle.annuity.proofs.annuity_over.Statement.{statement}
 use Rattle.annuity.proofs.annuity_over.Tie as tie
@@ -103,18 +95,5 @@ returns c =
 pub annuity-over-spec : {M : Type 1} → statement M
 annuity-over-spec =
     tie.close
-    (tie.spec
-    Inv-loop
-    μ-loop
-    loop-holds
-    (λ c. omega arith)
-    (λ c. omega arith)
-    with-factor-requires
-    discounted-requires
-    with-factor-requires-2
-    add-t19
-    add-t20
-    (λ c. omega arith)
-    (λ c. omega arith)
-    loop-again
-    returns)
+    (tie.spec Inv-loop μ-loop loop-holds (λ c. omega arith) (λ c. omega arith) with-factor-requires discounted-requires
+    with-factor-requires-2 add-t19 add-t20 (λ c. omega arith) (λ c. omega arith) loop-again returns)

@@ -10,4 +10,6 @@ unfolding discounted outwardOver
 returns c = rw (c .ceil-div-u .ensures)
 
 pub discounted-spec : {M : Type 1} → statement M
-discounted-spec = tie.close (tie.spec (λ c. omega arith) (λ c. omega arith) (λ c. omega arith) (λ c. omega arith) (λ c κs. omega arith) returns)
+discounted-spec =
+    tie.close
+    (tie.spec (λ c. omega arith) (λ c. omega arith) (λ c. omega arith) (λ c. omega arith) (λ c κs. omega arith) returns)

@@ -65,11 +65,5 @@ returns-2 c =
 pub put-ends-spec : {M : Type 1} → statement M
 put-ends-spec =
     tie.close
-    (tie.spec
-    returns
-    (λ c. search needs)
-    put-field-requires
-    (λ c. search needs)
-    put-field-requires-2
-    (λ c. search needs)
-    returns-2)
+    (tie.spec returns (λ c. search needs) put-field-requires (λ c. search needs) put-field-requires-2
+    (λ c. search needs) returns-2)

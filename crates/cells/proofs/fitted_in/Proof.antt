@@ -60,19 +60,10 @@ in-range c o = sym (tested (c .before) o) ∙ not-false _ (c .if1 .left)
 loop-holds : tie.Need-loop-holds Inv-loop μ-loop
 loop-holds c o = fitted-none (o .set) (c .args .y .number) refl
 
-add-age-of-runs : tie.Need-add-age-of-runs Inv-loop μ-loop
-add-age-of-runs c = omega arith
-
-age-of-runs-requires : tie.Need-age-of-runs-requires Inv-loop μ-loop
-age-of-runs-requires c κs = omega arith
-
 log-force-at-requires : tie.Need-log-force-at-requires Inv-loop μ-loop
 log-force-at-requires c κs =
     let o = start c .pre in
     rw (age-read c o) (cell-within (o .year) {x = age c} (omega (arith, c .before .loop-test .taken)) .limits)
-
-in-range-requires : tie.Need-in-range-requires Inv-loop μ-loop
-in-range-requires c κs = search needs
 
 returns : tie.Need-returns Inv-loop μ-loop
 returns c o =
@@ -89,18 +80,6 @@ inverse-logistic-requires c κs =
     let o = start a .pre in
     rw (forced m o)
     (logForce-negated (o .set) (o .year .limits) (omega (arith, a .before .loop-test .taken)) (o .year .year) (rw (in-range c o) tt))
-
-mul-ends : tie.Need-mul-ends Inv-loop μ-loop
-mul-ends c = omega arith
-
-array-set-from-ends : tie.Need-array-set-from-ends Inv-loop μ-loop
-array-set-from-ends c = omega arith
-
-add-i : tie.Need-add-i Inv-loop μ-loop
-add-i c = omega arith
-
-loop-less : tie.Need-loop-less Inv-loop μ-loop
-loop-less c = omega arith
 
 loop-again : tie.Need-loop-again Inv-loop μ-loop
 unfolding fittedEnds youngForce
@@ -122,19 +101,6 @@ returns-2 c o =
 pub fitted-in-spec : {M : Type 1} → statement M
 fitted-in-spec =
     tie.close
-    (tie.spec
-    Inv-loop
-    μ-loop
-    loop-holds
-    add-age-of-runs
-    age-of-runs-requires
-    log-force-at-requires
-    in-range-requires
-    returns
-    inverse-logistic-requires
-    mul-ends
-    array-set-from-ends
-    add-i
-    loop-less
-    loop-again
-    returns-2)
+    (tie.spec Inv-loop μ-loop loop-holds (λ c. omega arith) (λ c κs. omega arith) log-force-at-requires
+    (λ c κs. search needs) returns inverse-logistic-requires (λ c. omega arith) (λ c. omega arith) (λ c. omega arith)
+    (λ c. omega arith) loop-again returns-2)

@@ -31,9 +31,6 @@ logistic-requires c κs =
     let s = e .before .before in
     rw (c .closed-sum .ensures) (closed-within (s .args .row) (s .args .f .ends) (s .pre .0) (in-limit e))
 
-exp-between-requires : tie.Need-exp-between-requires
-exp-between-requires c κs = search needs
-
 returns-2 : tie.Need-returns-2
 unfolding oldCell
 returns-2 c =
@@ -46,5 +43,4 @@ returns-2 c =
     ∙ ap (expBetween billionths) (l .logistic .ensures ∙ ap (logistic billionths) (g .closed-sum .ensures))))
 
 pub old-cell-spec : {M : Type 1} → statement M
-old-cell-spec =
-    tie.close (tie.spec returns closed-sum-requires logistic-requires exp-between-requires returns-2)
+old-cell-spec = tie.close (tie.spec returns closed-sum-requires logistic-requires (λ c κs. search needs) returns-2)

@@ -25,12 +25,6 @@ tested c = c .in-range .ensures ∙ ap inRange (c .before .log-force-at .ensures
 in-range : (c : tie.Else1) → inRange (force (c .before .before .before)) ≡ true
 in-range c = sym (tested (c .before)) ∙ not-false _ (c .if1 .left)
 
-log-force-at-requires : tie.Need-log-force-at-requires
-log-force-at-requires c κs = c .pre .limits
-
-in-range-requires : tie.Need-in-range-requires
-in-range-requires c κs = search needs
-
 returns : tie.Need-returns
 unfolding youngCell
 returns c = let e = sym (tested (c .before)) ∙ not-true _ (c .if1 .taken) in rw e
@@ -53,10 +47,4 @@ returns-2 c =
 
 pub young-cell-spec : {M : Type 1} → statement M
 young-cell-spec =
-    tie.close
-    (tie.spec
-    log-force-at-requires
-    in-range-requires
-    returns
-    survival-to-90-requires
-    returns-2)
+    tie.close (tie.spec (λ c κs. c .pre .limits) (λ c κs. search needs) returns survival-to-90-requires returns-2)

@@ -33,18 +33,6 @@ loop-holds : tie.Need-loop-holds Inv-loop μ-loop
 unfolding leastSum greatestSum
 loop-holds c = (refl, omega arith)
 
-mul-e : tie.Need-mul-e Inv-loop μ-loop
-mul-e c = omega arith
-
-array-copy-out-e : tie.Need-array-copy-out-e Inv-loop μ-loop
-array-copy-out-e c = omega arith
-
-mul-add-product : tie.Need-mul-add-product Inv-loop μ-loop
-mul-add-product c = omega arith
-
-array-copy-out-add-product : tie.Need-array-copy-out-add-product Inv-loop μ-loop
-array-copy-out-add-product c = omega arith
-
 -- the weight, as it is read
 weight-read : (c : tie.After-add-product-arg Inv-loop μ-loop) → let l = c .before .before .before in
     bits (weightOf (l .before .args .t1) (l .loop .i)) ≡ weightOf (l .before .args .t1) (l .loop .i)
@@ -64,24 +52,12 @@ add-product-requires c κs =
       p .1 (l .loop .i) (t .loop-test .taken),
     )
 
-add-i : tie.Need-add-i Inv-loop μ-loop
-add-i c = omega arith
-
-loop-less : tie.Need-loop-less Inv-loop μ-loop
-loop-less c = omega arith
-
 loop-again : tie.Need-loop-again Inv-loop μ-loop
 loop-again c =
     let l = c .before .before .before .before in
     let s = l .before in
     let e = rw (l .loop .inv .0, weight-read (c .before)) at (c .add-product .ensures) in
     (e ∙ sums-next (weightOf (s .args .t1)) (s .args .t2) (l .loop .i), omega arith)
-
-outward-div-requires : tie.Need-outward-div-requires Inv-loop μ-loop
-outward-div-requires c κs = search needs
-
-outward-div-requires-2 : tie.Need-outward-div-requires-2 Inv-loop μ-loop
-outward-div-requires-2 c κs = search needs
 
 returns : tie.Need-returns Inv-loop μ-loop
 unfolding weightedMean outward
@@ -101,18 +77,6 @@ returns c =
 pub closed-sum-spec : {M : Type 1} → statement M
 closed-sum-spec =
     tie.close
-    (tie.spec
-    Inv-loop
-    μ-loop
-    loop-holds
-    mul-e
-    array-copy-out-e
-    mul-add-product
-    array-copy-out-add-product
-    add-product-requires
-    add-i
-    loop-less
-    loop-again
-    outward-div-requires
-    outward-div-requires-2
+    (tie.spec Inv-loop μ-loop loop-holds (λ c. omega arith) (λ c. omega arith) (λ c. omega arith) (λ c. omega arith)
+    add-product-requires (λ c. omega arith) (λ c. omega arith) loop-again (λ c κs. search needs) (λ c κs. search needs)
     returns)

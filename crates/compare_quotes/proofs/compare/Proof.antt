@@ -5,21 +5,6 @@ use Rattle.compare_quotes.specs.CompareLaws.{first-refused, second-refus
 use Rattle.compare_quotes.proofs.compare.Statement.{statement}
 use Rattle.compare_quotes.proofs.compare.Tie as tie
 
-enum-known-a : tie.Need-enum-known-a
-enum-known-a c = search needs
-
-enum-known-b : tie.Need-enum-known-b
-enum-known-b c = search needs
-
-values-of-requires : tie.Need-values-of-requires
-values-of-requires c κs = search needs
-
-enum-known-b-2 : tie.Need-enum-known-b-2
-enum-known-b-2 c = search needs
-
-enum-known-a-2 : tie.Need-enum-known-a-2
-enum-known-a-2 c = search needs
-
 returns : tie.Need-returns
 returns c =
     let s = c .before .before in
@@ -38,12 +23,5 @@ returns-3 c = let f = c .before in sym (first-refused (f .before .before .args .
 pub compare-spec : {M : Type 1} → statement M
 compare-spec =
     tie.close
-    (tie.spec
-    enum-known-a
-    enum-known-b
-    values-of-requires
-    enum-known-b-2
-    enum-known-a-2
-    returns
-    returns-2
-    returns-3)
+    (tie.spec (λ c. search needs) (λ c. search needs) (λ c κs. search needs) (λ c. search needs) (λ c. search needs)
+    returns returns-2 returns-3)

@@ -5,12 +5,6 @@ use Rattle.compare_quotes.specs.CompareLaws.{excess-is}
 use Rattle.compare_quotes.proofs.excess_of.Statement.{statement}
 use Rattle.compare_quotes.proofs.excess_of.Tie as tie
 
-less-requires : tie.Need-less-requires
-less-requires c κs = search needs
-
-less-requires-2 : tie.Need-less-requires-2
-less-requires-2 c κs = search needs
-
 returns : tie.Need-returns
 unfolding quotedEnds
 returns c =
@@ -18,4 +12,4 @@ returns c =
     excess-is (quotedEnds (s .a)) (quotedEnds (s .b)) (c .before .less .ensures) (c .less2 .ensures)
 
 pub excess-of-spec : {M : Type 1} → statement M
-excess-of-spec = tie.close (tie.spec less-requires less-requires-2 returns)
+excess-of-spec = tie.close (tie.spec (λ c κs. search needs) (λ c κs. search needs) returns)

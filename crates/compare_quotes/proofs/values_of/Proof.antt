@@ -30,12 +30,6 @@ not-above : (c : tie.Else2) → let s = passed (c .before .before .before) in fi
 unfolding quotedEnds
 not-above c = omega (arith, c .if2 .left)
 
-excess-of-requires : tie.Need-excess-of-requires
-excess-of-requires c κs = search needs
-
-excess-of-requires-2 : tie.Need-excess-of-requires-2
-excess-of-requires-2 c κs = search needs
-
 returns : tie.Need-returns
 unfolding quotedEnds
 returns c =
@@ -74,4 +68,4 @@ returns-4 c =
 
 pub values-of-spec : {M : Type 1} → statement M
 values-of-spec =
-    tie.close (tie.spec excess-of-requires returns excess-of-requires-2 returns-2 returns-3 returns-4)
+    tie.close (tie.spec (λ c κs. search needs) returns (λ c κs. search needs) returns-2 returns-3 returns-4)

@@ -39,12 +39,5 @@ returns-2 c =
 pub put-comparison-spec : {M : Type 1} → statement M
 put-comparison-spec =
     tie.close
-    (tie.spec
-    (λ c. search needs)
-    put-pair-requires
-    (λ c. search needs)
-    put-refused-requires
-    (λ c. search needs)
-    returns
-    (λ c. search needs)
-    returns-2)
+    (tie.spec (λ c. search needs) put-pair-requires (λ c. search needs) put-refused-requires (λ c. search needs) returns
+    (λ c. search needs) returns-2)

@@ -67,11 +67,5 @@ returns c =
 pub put-excess-spec : {M : Type 1} → statement M
 put-excess-spec =
     tie.close
-    (tie.spec
-    put-text-requires
-    (λ c. search needs)
-    put-field-requires
-    (λ c. search needs)
-    put-field-requires-2
-    (λ c. search needs)
-    returns)
+    (tie.spec put-text-requires (λ c. search needs) put-field-requires (λ c. search needs) put-field-requires-2
+    (λ c. search needs) returns)

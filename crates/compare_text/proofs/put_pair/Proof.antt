@@ -67,11 +67,5 @@ returns c =
 pub put-pair-spec : {M : Type 1} → statement M
 put-pair-spec =
     tie.close
-    (tie.spec
-    put-shown-requires
-    put-shown-requires-2
-    put-values-requires
-    (λ c. search needs)
-    put-text-requires
-    (λ c. search needs)
-    returns)
+    (tie.spec put-shown-requires put-shown-requires-2 put-values-requires (λ c. search needs) put-text-requires
+    (λ c. search needs) returns)

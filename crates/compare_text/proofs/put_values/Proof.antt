@@ -54,19 +54,6 @@ returns-3 c =
 pub put-values-spec : {M : Type 1} → statement M
 put-values-spec =
     tie.close
-    (tie.spec
-    (λ c. search needs)
-    (λ c. search needs)
-    put-excess-requires
-    (λ c. search needs)
-    (λ c. search needs)
-    put-excess-requires-2
-    (λ c. search needs)
-    (λ c. search needs)
-    put-field-requires
-    (λ c. search needs)
-    returns
-    (λ c. search needs)
-    returns-2
-    (λ c. search needs)
-    returns-3)
+    (tie.spec (λ c. search needs) (λ c. search needs) put-excess-requires (λ c. search needs) (λ c. search needs)
+    put-excess-requires-2 (λ c. search needs) (λ c. search needs) put-field-requires (λ c. search needs) returns
+    (λ c. search needs) returns-2 (λ c. search needs) returns-3)

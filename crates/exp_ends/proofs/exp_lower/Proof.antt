@@ -42,15 +42,6 @@ returns-3 c = rw (le-ltb _ _ (past c))
 
 -- ---- what each step asks
 
-sum-lower-requires : tie.Need-sum-lower-requires
-sum-lower-requires c κs = search needs
-
-mul-result : tie.Need-mul-result
-mul-result c = search needs
-
-array-read-result : tie.Need-array-read-result
-array-read-result c = search needs
-
 mul-result-2 : tie.Need-mul-result-2
 unfolding constantLower wholeParts
 mul-result-2 c = omega (arith, lower-product _ _ (below (c .before .before)) (c .before .sum-lower .ensures))
@@ -58,4 +49,4 @@ mul-result-2 c = omega (arith, lower-product _ _ (below (c .before .before)) (c 
 pub exp-lower-spec : {M : Type 1} → statement M
 exp-lower-spec =
     tie.close
-    (tie.spec sum-lower-requires returns mul-result array-read-result mul-result-2 returns-2 returns-3)
+    (tie.spec (λ c κs. search needs) returns (λ c. search needs) (λ c. search needs) mul-result-2 returns-2 returns-3)

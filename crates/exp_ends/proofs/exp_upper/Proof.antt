@@ -39,15 +39,6 @@ returns-3 c = rw (le-ltb _ _ (past c))
 
 -- ---- what each step asks
 
-sum-upper-requires : tie.Need-sum-upper-requires
-sum-upper-requires c κs = search needs
-
-mul-ceil-div-u : tie.Need-mul-ceil-div-u
-mul-ceil-div-u c = search needs
-
-array-read-ceil-div-u : tie.Need-array-read-ceil-div-u
-array-read-ceil-div-u c = search needs
-
 add-ceil-div-u : tie.Need-add-ceil-div-u
 unfolding constantLower wholeParts
 add-ceil-div-u c = omega (arith, constant-bound _ (below (c .before .before)))
@@ -63,13 +54,5 @@ ceil-div-u-requires c κs = omega (arith, upper-product _ _ (below (c .before .b
 pub exp-upper-spec : {M : Type 1} → statement M
 exp-upper-spec =
     tie.close
-    (tie.spec
-    sum-upper-requires
-    returns
-    mul-ceil-div-u
-    array-read-ceil-div-u
-    add-ceil-div-u
-    mul-ceil-div-u-2
-    ceil-div-u-requires
-    returns-2
-    returns-3)
+    (tie.spec (λ c κs. search needs) returns (λ c. search needs) (λ c. search needs) add-ceil-div-u mul-ceil-div-u-2
+    ceil-div-u-requires returns-2 returns-3)

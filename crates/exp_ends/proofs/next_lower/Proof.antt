@@ -10,15 +10,9 @@ use Rattle.exp_ends.proofs.next_lower.Tie as tie
 mul-result : tie.Need-mul-result
 mul-result c = omega (arith, mul-le-mul (c .pre .term) (c .pre .rest))
 
-mul-result-2 : tie.Need-mul-result-2
-mul-result-2 c = search needs
-
-div-result : tie.Need-div-result
-div-result c = search needs
-
 returns : tie.Need-returns
 unfolding nextLower
 returns c = refl
 
 pub next-lower-spec : {M : Type 1} → statement M
-next-lower-spec = tie.close (tie.spec mul-result mul-result-2 div-result returns)
+next-lower-spec = tie.close (tie.spec mul-result (λ c. search needs) (λ c. search needs) returns)

@@ -9,9 +9,6 @@ use Rattle.exp_ends.proofs.next_upper.Tie as tie
 mul-ceil-div-u : tie.Need-mul-ceil-div-u
 mul-ceil-div-u c = omega (arith, mul-le-mul (c .pre .term) (c .pre .rest))
 
-mul-ceil-div-u-2 : tie.Need-mul-ceil-div-u-2
-mul-ceil-div-u-2 c = search needs
-
 ceil-div-u-requires : tie.Need-ceil-div-u-requires
 ceil-div-u-requires c κs = omega (arith, mul-le-mul (c .pre .term) (c .pre .rest))
 
@@ -20,4 +17,4 @@ unfolding nextUpper
 returns c = c .ceil-div-u .ensures
 
 pub next-upper-spec : {M : Type 1} → statement M
-next-upper-spec = tie.close (tie.spec mul-ceil-div-u mul-ceil-div-u-2 ceil-div-u-requires returns)
+next-upper-spec = tie.close (tie.spec mul-ceil-div-u (λ c. search needs) ceil-div-u-requires returns)

@@ -62,26 +62,8 @@ loop-holds : tie.Need-loop-holds Inv-loop μ-loop
 unfolding termLower
 loop-holds c = (none _ _ _ refl, omega arith)
 
-mul-k : tie.Need-mul-k Inv-loop μ-loop
-mul-k c = omega arith
-
-add-k : tie.Need-add-k Inv-loop μ-loop
-add-k c = omega arith
-
-next-upper-requires : tie.Need-next-upper-requires Inv-loop μ-loop
-next-upper-requires c κs = search needs
-
-next-lower-requires : tie.Need-next-lower-requires Inv-loop μ-loop
-next-lower-requires c κs = search needs
-
-add-next-lower : tie.Need-add-next-lower Inv-loop μ-loop
-add-next-lower c = omega arith
-
 next-lower-requires-2 : tie.Need-next-lower-requires-2 Inv-loop μ-loop
 next-lower-requires-2 c κs = let t = odd-lower c in search needs
-
-add-next-upper : tie.Need-add-next-upper Inv-loop μ-loop
-add-next-upper c = omega arith
 
 next-upper-requires-2 : tie.Need-next-upper-requires-2 Inv-loop μ-loop
 next-upper-requires-2 c κs = let t = odd-upper (c .before .before) in search needs
@@ -92,21 +74,12 @@ add-evens c = omega (arith, even-lower (c .before))
 add-odds : tie.Need-add-odds Inv-loop μ-loop
 add-odds c = omega (arith, odd-upper (c .before .before .before))
 
-add-i : tie.Need-add-i Inv-loop μ-loop
-add-i c = omega arith
-
-loop-less : tie.Need-loop-less Inv-loop μ-loop
-loop-less c = omega arith
-
 loop-again : tie.Need-loop-again Inv-loop μ-loop
 loop-again c =
     let l = even-lower (c .before) in (
       more (c .before .before .before .before .before .loop .inv .0) l (even-upper c) l (odd-upper (c .before .before .before)),
       omega arith,
     )
-
-next-upper-requires-3 : tie.Need-next-upper-requires-3 Inv-loop μ-loop
-next-upper-requires-3 c κs = search needs
 
 add-result : tie.Need-add-result Inv-loop μ-loop
 add-result c = omega (arith, last-upper c)
@@ -122,24 +95,6 @@ returns c =
 pub sum-lower-spec : {M : Type 1} → statement M
 sum-lower-spec =
     tie.close
-    (tie.spec
-    Inv-loop
-    μ-loop
-    loop-holds
-    mul-k
-    add-k
-    next-upper-requires
-    next-lower-requires
-    add-next-lower
-    next-lower-requires-2
-    add-next-upper
-    next-upper-requires-2
-    add-evens
-    add-odds
-    add-i
-    loop-less
-    loop-again
-    next-upper-requires-3
-    add-result
-    sub-result
-    returns)
+    (tie.spec Inv-loop μ-loop loop-holds (λ c. omega arith) (λ c. omega arith) (λ c κs. search needs)
+    (λ c κs. search needs) (λ c. omega arith) next-lower-requires-2 (λ c. omega arith) next-upper-requires-2 add-evens
+    add-odds (λ c. omega arith) (λ c. omega arith) loop-again (λ c κs. search needs) add-result sub-result returns)

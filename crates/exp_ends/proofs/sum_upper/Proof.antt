@@ -88,26 +88,8 @@ loop-holds : tie.Need-loop-holds Inv-loop μ-loop
 unfolding termUpper
 loop-holds c = (none _ _ _ refl, omega arith)
 
-mul-k : tie.Need-mul-k Inv-loop μ-loop
-mul-k c = omega arith
-
-add-k : tie.Need-add-k Inv-loop μ-loop
-add-k c = omega arith
-
-next-lower-requires : tie.Need-next-lower-requires Inv-loop μ-loop
-next-lower-requires c κs = search needs
-
-add-next-lower : tie.Need-add-next-lower Inv-loop μ-loop
-add-next-lower c = omega arith
-
 next-lower-requires-2 : tie.Need-next-lower-requires-2 Inv-loop μ-loop
 next-lower-requires-2 c κs = let t = odd-lower c in search needs
-
-next-upper-requires : tie.Need-next-upper-requires Inv-loop μ-loop
-next-upper-requires c κs = search needs
-
-add-next-upper : tie.Need-add-next-upper Inv-loop μ-loop
-add-next-upper c = omega arith
 
 next-upper-requires-2 : tie.Need-next-upper-requires-2 Inv-loop μ-loop
 next-upper-requires-2 c κs = let t = odd-upper c in search needs
@@ -118,12 +100,6 @@ add-evens c = omega (arith, even-upper c)
 add-odds : tie.Need-add-odds Inv-loop μ-loop
 add-odds c = omega (arith, odd-lower (c .before .before .before))
 
-add-i : tie.Need-add-i Inv-loop μ-loop
-add-i c = omega arith
-
-loop-less : tie.Need-loop-less Inv-loop μ-loop
-loop-less c = omega arith
-
 loop-again : tie.Need-loop-again Inv-loop μ-loop
 loop-again c =
     let h = even-upper c in (
@@ -132,14 +108,8 @@ loop-again c =
       omega arith,
     )
 
-next-lower-requires-3 : tie.Need-next-lower-requires-3 Inv-loop μ-loop
-next-lower-requires-3 c κs = search needs
-
 add-odds-2 : tie.Need-add-odds-2 Inv-loop μ-loop
 add-odds-2 c = omega (arith, last-lower c)
-
-next-upper-requires-3 : tie.Need-next-upper-requires-3 Inv-loop μ-loop
-next-upper-requires-3 c κs = search needs
 
 next-upper-requires-4 : tie.Need-next-upper-requires-4 Inv-loop μ-loop
 next-upper-requires-4 c κs = let t = upper-eleven c in search needs
@@ -159,28 +129,7 @@ returns-2 c = sym (min-eq-left (c .if1 .left)) ∙ difference (c .before) .1
 pub sum-upper-spec : {M : Type 1} → statement M
 sum-upper-spec =
     tie.close
-    (tie.spec
-    Inv-loop
-    μ-loop
-    loop-holds
-    mul-k
-    add-k
-    next-lower-requires
-    add-next-lower
-    next-lower-requires-2
-    next-upper-requires
-    add-next-upper
-    next-upper-requires-2
-    add-evens
-    add-odds
-    add-i
-    loop-less
-    loop-again
-    next-lower-requires-3
-    add-odds-2
-    next-upper-requires-3
-    next-upper-requires-4
-    add-evens-2
-    sub-sum
-    returns
-    returns-2)
+    (tie.spec Inv-loop μ-loop loop-holds (λ c. omega arith) (λ c. omega arith) (λ c κs. search needs) (λ c. omega arith)
+    next-lower-requires-2 (λ c κs. search needs) (λ c. omega arith) next-upper-requires-2 add-evens add-odds
+    (λ c. omega arith) (λ c. omega arith) loop-again (λ c κs. search needs) add-odds-2 (λ c κs. search needs)
+    next-upper-requires-4 add-evens-2 sub-sum returns returns-2)

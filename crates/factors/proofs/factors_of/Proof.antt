@@ -7,9 +7,6 @@ use Rattle.factors.proofs.All.{worked-all, out-all}
 use Rattle.factors.proofs.factors_of.Statement.{statement}
 use Rattle.factors.proofs.factors_of.Tie as tie
 
-young-factors-requires : tie.Need-young-factors-requires
-young-factors-requires c κs = c .pre
-
 returns : tie.Need-returns
 returns c =
     let y = c .before .before .before in
@@ -26,9 +23,6 @@ old-factors-requires c κs =
     let y = e .before .before .before in
     (y .before .pre, y .young-factors .ensures, rw (ok e) tt, c .if2 .taken)
 
-returns-2 : tie.Need-returns-2
-returns-2 c = c .old-factors .ensures
-
 returns-3 : tie.Need-returns-3
 returns-3 c =
     let e = c .before .before .before in
@@ -38,4 +32,4 @@ returns-3 c =
 
 pub factors-of-spec : {M : Type 1} → statement M
 factors-of-spec =
-    tie.close (tie.spec young-factors-requires returns old-factors-requires returns-2 returns-3)
+    tie.close (tie.spec (λ c κs. c .pre) returns old-factors-requires (λ c. c .old-factors .ensures) returns-3)

@@ -103,12 +103,6 @@ cell-read c n y =
     ap (cellOf (s .args .t1) (closing t)) (sym (y .place (on-path t)))
     ∙ sym (rw (row-read r) at (c .old-cell .ensures) ∙ old-cell (l .loop .inv .heights) (closed t .0))
 
-worked-count-requires : tie.Need-worked-count-requires Inv-loop μ-loop
-worked-count-requires c κs = c .pre .0 .age
-
-table-requires : tie.Need-table-requires Inv-loop μ-loop
-table-requires c κs = search needs
-
 fitted-in-requires : tie.Need-fitted-in-requires Inv-loop μ-loop
 fitted-in-requires c κs =
     let s = c .before .before .before .before .before .before .before .before .before in
@@ -126,9 +120,6 @@ loop-holds c =
 add-x : tie.Need-add-x Inv-loop μ-loop
 add-x c = let s = begun (c .before) in omega (arith, s .pre .0 .age, s .pre .0 .room, on-path c)
 
-closed-row-requires : tie.Need-closed-row-requires Inv-loop μ-loop
-closed-row-requires c κs = c .before .loop .inv .above
-
 mul-row : tie.Need-mul-row Inv-loop μ-loop
 mul-row c = omega (arith, c .closed-row .ensures)
 
@@ -140,12 +131,6 @@ old-cell-requires c κs =
     let r = c .before in
     let t = r .before in
     (rw (row-read r) (row-within (closed t .0) (closed t .1)), t .before .loop .inv .heights .limit)
-
-enum-known-e : tie.Need-enum-known-e Inv-loop μ-loop
-enum-known-e c = search needs
-
-enum-told : tie.Need-enum-told Inv-loop μ-loop
-enum-told c = search needs
 
 returns : tie.Need-returns Inv-loop μ-loop
 returns c =
@@ -167,9 +152,6 @@ array-set-from-ends c = let t = turn c in omega (arith, on-path t, short (begun 
 
 add-done : tie.Need-add-done Inv-loop μ-loop
 add-done c = let t = turn c in omega (arith, on-path t, short (begun (t .before)))
-
-goes-on-requires : tie.Need-goes-on-requires Inv-loop μ-loop
-goes-on-requires c κs = search needs
 
 year-after-requires : tie.Need-year-after-requires Inv-loop μ-loop
 year-after-requires c κs =
@@ -264,30 +246,7 @@ returns-2 c =
 pub old-factors-spec : {M : Type 1} → statement M
 old-factors-spec =
     tie.close
-    (tie.spec
-    Inv-loop
-    μ-loop
-    worked-count-requires
-    table-requires
-    fitted-in-requires
-    loop-holds
-    add-x
-    closed-row-requires
-    mul-row
-    array-copy-out-row
-    old-cell-requires
-    enum-known-e
-    enum-told
-    returns
-    mul-ends
-    array-set-from-ends
-    add-done
-    goes-on-requires
-    year-after-requires
-    fitted-in-requires-2
-    loop-less
-    loop-again
-    loop-less-2
-    loop-again-2
-    repeated-requires
-    returns-2)
+    (tie.spec Inv-loop μ-loop (λ c κs. c .pre .0 .age) (λ c κs. search needs) fitted-in-requires loop-holds add-x
+    (λ c κs. c .before .loop .inv .above) mul-row array-copy-out-row old-cell-requires (λ c. search needs)
+    (λ c. search needs) returns mul-ends array-set-from-ends add-done (λ c κs. search needs) year-after-requires
+    fitted-in-requires-2 loop-less loop-again loop-less-2 loop-again-2 repeated-requires returns-2)

@@ -70,9 +70,6 @@ turn c = let p = c .before .before .before .pre in omega (arith, c .loop-test .t
 mul-all : tie.Need-mul-all Inv-loop μ-loop
 mul-all c = omega (arith, turn c)
 
-array-set-from-all : tie.Need-array-set-from-all Inv-loop μ-loop
-array-set-from-all c = turn c
-
 add-i : tie.Need-add-i Inv-loop μ-loop
 add-i c = omega (arith, turn c)
 
@@ -93,5 +90,5 @@ returns c =
 pub repeated-spec : {M : Type 1} → statement M
 repeated-spec =
     tie.close
-    (tie.spec Inv-loop μ-loop sub-last mul-last array-copy-out-last loop-holds mul-all array-set-from-all add-i loop-less loop-again
+    (tie.spec Inv-loop μ-loop sub-last mul-last array-copy-out-last loop-holds mul-all turn add-i loop-less loop-again
     returns)

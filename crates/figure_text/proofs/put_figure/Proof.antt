@@ -128,18 +128,6 @@ returns-2 c =
 pub put-figure-spec : {M : Type 1} → statement M
 put-figure-spec =
     tie.close
-    (tie.spec
-    (λ c. search needs)
-    (λ c. search needs)
-    (λ c. search needs)
-    put-text-requires
-    (λ c. search needs)
-    returns
-    (λ c κs. search needs)
-    cast-whole
-    put-number-requires
-    (λ c. search needs)
-    put-text-requires-2
-    put-last-digits-requires
-    (λ c. search needs)
-    returns-2)
+    (tie.spec (λ c. search needs) (λ c. search needs) (λ c. search needs) put-text-requires (λ c. search needs) returns
+    (λ c κs. search needs) cast-whole put-number-requires (λ c. search needs) put-text-requires-2
+    put-last-digits-requires (λ c. search needs) returns-2)

@@ -28,26 +28,11 @@ add-result c =
     let a = c .before .before .args in
     omega (arith, last-length (a .decimals) (a .n))
 
-same-length : tie.Need-same-length Inv-loop μ-loop
-same-length c = c .before .loop .inv .size
-
 returns : tie.Need-returns Inv-loop μ-loop
 returns c = tail-put (c .before .loop .inv) (c .before .before .pre) (omega arith)
 
 pub put-last-digits-spec : {M : Type 1} → statement M
 put-last-digits-spec =
     tie.close
-    (tie.spec
-    Inv-loop
-    μ-loop
-    loop-holds
-    (λ c. omega arith)
-    (λ c. omega arith)
-    (λ c. omega arith)
-    add-buffer-2
-    slice-write-buffer
-    (λ c. omega arith)
-    loop-again
-    add-result
-    same-length
-    returns)
+    (tie.spec Inv-loop μ-loop loop-holds (λ c. omega arith) (λ c. omega arith) (λ c. omega arith) add-buffer-2
+    slice-write-buffer (λ c. omega arith) loop-again add-result (λ c. c .before .loop .inv .size) returns)

@@ -36,4 +36,5 @@ returns c =
     put-join (name c₁) (c .before .before .put-figure .ensures) (room (start c₁))
 
 pub put-shown-spec : {M : Type 1} → statement M
-put-shown-spec = tie.close (tie.spec (λ c. search needs) put-text-requires put-figure-requires (λ c. search needs) returns)
+put-shown-spec =
+    tie.close (tie.spec (λ c. search needs) put-text-requires put-figure-requires (λ c. search needs) returns)

@@ -8,14 +8,7 @@ use lib.ListN.{length, take}
 use Rattle.expo.specs.Billionths.{billionths}
 use Rattle.folds.specs.Folds.{plus, expectancyOver}
 use Rattle.folds.specs.Code.{mostFactors}
-use Rattle.folds.proofs.Running.{
-  SurvivalTo,
-  ExpectancyTo,
-  survival-none,
-  survival-more,
-  expectancy-none,
-  expectancy-more,
-  factor-small,
+use Rattle.folds.proofs.Running.{ SurvivalTo, ExpectancyTo, survival-none, survival-more, expectancy-none, expectancy-more, factor-small,
 }
 use Rattle.folds.proofs.expectancy_over.Statement.{statement}
 use Rattle.folds.proofs.expectancy_over.Tie as tie
@@ -76,16 +69,5 @@ returns c =
 pub expectancy-over-spec : {M : Type 1} → statement M
 expectancy-over-spec =
     tie.close
-    (tie.spec
-    Inv-loop
-    μ-loop
-    loop-holds
-    (λ c. omega arith)
-    (λ c. omega arith)
-    with-factor-requires
-    add-t14
-    add-t15
-    (λ c. omega arith)
-    (λ c. omega arith)
-    loop-again
-    returns)
+    (tie.spec Inv-loop μ-loop loop-holds (λ c. omega arith) (λ c. omega arith) with-factor-requires add-t14 add-t15
+    (λ c. omega arith) (λ c. omega arith) loop-again returns)

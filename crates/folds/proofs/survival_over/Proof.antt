@@ -47,4 +47,5 @@ returns c =
 pub survival-over-spec : {M : Type 1} → statement M
 survival-over-spec =
     tie.close
-    (tie.spec Inv-loop μ-loop loop-holds (λ c. omega arith) (λ c. omega arith) with-factor-requires (λ c. omega arith) (λ c. omega arith) loop-again returns)
+    (tie.spec Inv-loop μ-loop loop-holds (λ c. omega arith) (λ c. omega arith) with-factor-requires (λ c. omega arith)
+    (λ c. omega arith) loop-again returns)

@@ -17,9 +17,6 @@ sub-t4 c = minus-lower (c .before .before .before .before .pre) .fits
 cast-t5 : tie.Need-cast-t5
 cast-t5 c = minus-lower (c .before .before .before .before .pre) .cast
 
-exp-between-requires : tie.Need-exp-between-requires
-exp-between-requires c κs = search needs
-
 returns : tie.Need-returns
 unfolding negated
 returns c =
@@ -27,4 +24,4 @@ returns c =
     rw (minus-lower r .size, minus-upper r .size) at (c .exp-between .ensures)
 
 pub force-to-90-spec : {M : Type 1} → statement M
-force-to-90-spec = tie.close (tie.spec sub-t2 cast-t3 sub-t4 cast-t5 exp-between-requires returns)
+force-to-90-spec = tie.close (tie.spec sub-t2 cast-t3 sub-t4 cast-t5 (λ c κs. search needs) returns)

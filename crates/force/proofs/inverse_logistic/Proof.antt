@@ -14,9 +14,6 @@ use Rattle.force.proofs.Ends.{logLimit, under-lower, under-upper, exp-s
 use Rattle.force.proofs.inverse_logistic.Statement.{statement}
 use Rattle.force.proofs.inverse_logistic.Tie as tie
 
-force-requires : tie.Need-force-to-90-requires
-force-requires c κs = search needs
-
 -- what H is worked from is the force
 forced : (c : tie.After-force-to-90) → c .force-to-90 .result ≡ expBetween billionths (negated (c .before .args .m))
 forced c = c .force-to-90 .ensures
@@ -63,4 +60,4 @@ returns c =
 
 pub inverse-logistic-spec : {M : Type 1} → statement M
 inverse-logistic-spec =
-    tie.close (tie.spec force-requires log-between-requires cast-t4 add-t5 cast-t6 add-t7 returns)
+    tie.close (tie.spec (λ c κs. search needs) log-between-requires cast-t4 add-t5 cast-t6 add-t7 returns)

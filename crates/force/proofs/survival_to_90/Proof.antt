@@ -6,14 +6,8 @@ use Rattle.expo.specs.Exponential.{expBetween}
 use Rattle.force.proofs.survival_to_90.Statement.{statement}
 use Rattle.force.proofs.survival_to_90.Tie as tie
 
-force-to-90-requires : tie.Need-force-to-90-requires
-force-to-90-requires c κs = search needs
-
-exp-between-requires : tie.Need-exp-between-requires
-exp-between-requires c κs = search needs
-
 returns : tie.Need-returns
 returns c = c .exp-between .ensures ∙ ap (expBetween billionths) (c .before .force-to-90 .ensures)
 
 pub survival-to-90-spec : {M : Type 1} → statement M
-survival-to-90-spec = tie.close (tie.spec force-to-90-requires exp-between-requires returns)
+survival-to-90-spec = tie.close (tie.spec (λ c κs. search needs) (λ c κs. search needs) returns)

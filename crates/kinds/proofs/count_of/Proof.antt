@@ -6,24 +6,6 @@ use Rattle.kinds.specs.Kinds.{countOf}
 use Rattle.kinds.proofs.count_of.Statement.{statement}
 use Rattle.kinds.proofs.count_of.Tie as tie
 
-enum-told : tie.Need-enum-told
-enum-told c = search needs
-
-enum-told-2 : tie.Need-enum-told-2
-enum-told-2 c = search needs
-
-enum-told-3 : tie.Need-enum-told-3
-enum-told-3 c = search needs
-
-years-on-requires : tie.Need-years-on-requires
-years-on-requires c κs = search needs
-
-enum-told-4 : tie.Need-enum-told-4
-enum-told-4 c = search needs
-
-years-on-requires-2 : tie.Need-years-on-requires-2
-years-on-requires-2 c κs = search needs
-
 returns : tie.Need-returns
 unfolding countOf
 returns c = sym (ap (λ (f : Fold). countOf f (c .before .before .args .year) (c .before .before .args .span)) (c .enum-told .given .1))
@@ -46,4 +28,6 @@ returns-4 c =
 
 pub count-of-spec : {M : Type 1} → statement M
 count-of-spec =
-    tie.close (tie.spec enum-told enum-told-2 enum-told-3 years-on-requires enum-told-4 years-on-requires-2 returns returns-2 returns-3 returns-4)
+    tie.close
+    (tie.spec (λ c. search needs) (λ c. search needs) (λ c. search needs) (λ c κs. search needs) (λ c. search needs)
+    (λ c κs. search needs) returns returns-2 returns-3 returns-4)

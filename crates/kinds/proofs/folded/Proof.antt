@@ -20,33 +20,12 @@ use Rattle.kinds.proofs.Casts.{cast-whole}
 use Rattle.kinds.proofs.folded.Statement.{statement}
 use Rattle.kinds.proofs.folded.Tie as tie
 
-enum-told : tie.Need-enum-told
-enum-told c = search needs
-
-survival-over-requires : tie.Need-survival-over-requires
-survival-over-requires c κs = search needs
-
 death-of-requires : tie.Need-death-of-requires
 death-of-requires c κs =
     let e = c .before .before .before in
     let h = survival-at-most billionths (lit< tt) (e .pre .0 .each) in
     let k : AtMost (billionths .unit) (c .survival-over .result) = rw (c .survival-over .ensures) h in
     (k .lower, k .upper)
-
-enum-told-2 : tie.Need-enum-told-2
-enum-told-2 c = search needs
-
-survival-over-requires-2 : tie.Need-survival-over-requires-2
-survival-over-requires-2 c κs = search needs
-
-enum-told-3 : tie.Need-enum-told-3
-enum-told-3 c = search needs
-
-expectancy-over-requires : tie.Need-expectancy-over-requires
-expectancy-over-requires c κs = search needs
-
-enum-known-fold : tie.Need-enum-known-fold
-enum-known-fold c = search needs
 
 -- the rate in the annuity's arm
 abbrev rate : tie.After-known-told → ℤ
@@ -96,18 +75,6 @@ returns-4 c =
 pub folded-spec : {M : Type 1} → statement M
 folded-spec =
     tie.close
-    (tie.spec
-    enum-told
-    survival-over-requires
-    death-of-requires
-    enum-told-2
-    survival-over-requires-2
-    enum-told-3
-    expectancy-over-requires
-    enum-known-fold
-    cast-annuity-over
-    annuity-over-requires
-    returns
-    returns-2
-    returns-3
-    returns-4)
+    (tie.spec (λ c. search needs) (λ c κs. search needs) death-of-requires (λ c. search needs) (λ c κs. search needs)
+    (λ c. search needs) (λ c κs. search needs) (λ c. search needs) cast-annuity-over annuity-over-requires returns
+    returns-2 returns-3 returns-4)

@@ -6,24 +6,6 @@ use Rattle.kinds.specs.Kinds.{mostSpan}
 use Rattle.kinds.proofs.most_span.Statement.{statement}
 use Rattle.kinds.proofs.most_span.Tie as tie
 
-enum-told : tie.Need-enum-told
-enum-told c = search needs
-
-enum-told-2 : tie.Need-enum-told-2
-enum-told-2 c = search needs
-
-add-result : tie.Need-add-result
-add-result c = search needs
-
-sub-result : tie.Need-sub-result
-sub-result c = search needs
-
-enum-told-3 : tie.Need-enum-told-3
-enum-told-3 c = search needs
-
-enum-told-4 : tie.Need-enum-told-4
-enum-told-4 c = search needs
-
 returns : tie.Need-returns
 unfolding mostSpan
 returns c = sym (ap (λ (f : Fold). mostSpan f (c .before .before .args .age)) (c .enum-told .given .1))
@@ -42,4 +24,6 @@ returns-4 c = sym (ap (λ (f : Fold). mostSpan f (c .before .before .args .age))
 
 pub most-span-spec : {M : Type 1} → statement M
 most-span-spec =
-    tie.close (tie.spec enum-told enum-told-2 add-result sub-result enum-told-3 enum-told-4 returns returns-2 returns-3 returns-4)
+    tie.close
+    (tie.spec (λ c. search needs) (λ c. search needs) (λ c. search needs) (λ c. search needs) (λ c. search needs)
+    (λ c. search needs) returns returns-2 returns-3 returns-4)

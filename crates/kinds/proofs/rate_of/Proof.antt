@@ -6,18 +6,6 @@ use Rattle.kinds.specs.Kinds.{rateOf}
 use Rattle.kinds.proofs.rate_of.Statement.{statement}
 use Rattle.kinds.proofs.rate_of.Tie as tie
 
-enum-told : tie.Need-enum-told
-enum-told c = search needs
-
-enum-told-2 : tie.Need-enum-told-2
-enum-told-2 c = search needs
-
-enum-told-3 : tie.Need-enum-told-3
-enum-told-3 c = search needs
-
-enum-known-fold : tie.Need-enum-known-fold
-enum-known-fold c = search needs
-
 returns : tie.Need-returns
 unfolding rateOf
 returns c = sym (ap rateOf (c .enum-told .given .1))
@@ -37,12 +25,5 @@ returns-4 c = toZ-ofZ (record { sfits = c .known-told .given .0 .1 }) ∙ sym (a
 pub rate-of-spec : {M : Type 1} → statement M
 rate-of-spec =
     tie.close
-    (tie.spec
-    enum-told
-    enum-told-2
-    enum-told-3
-    enum-known-fold
-    returns
-    returns-2
-    returns-3
-    returns-4)
+    (tie.spec (λ c. search needs) (λ c. search needs) (λ c. search needs) (λ c. search needs) returns returns-2
+    returns-3 returns-4)

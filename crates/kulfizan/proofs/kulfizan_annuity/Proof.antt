@@ -4,12 +4,6 @@ use mir.Facts.{toZ-ofZ}
 use Rattle.kulfizan.proofs.kulfizan_annuity.Statement.{statement}
 use Rattle.kulfizan.proofs.kulfizan_annuity.Tie as tie
 
-annuity-into-requires : tie.Need-annuity-into-requires
-annuity-into-requires c κs = search needs
-
-same-length : tie.Need-same-length
-same-length c = search needs
-
 returns : tie.Need-returns
 returns c =
     let q = c .before .before in
@@ -17,4 +11,4 @@ returns c =
     rw (toZ-ofZ (f .age), toZ-ofZ (f .year), toZ-ofZ (f .span), toZ-ofZ (f .rate)) at (q .annuity-into .ensures)
 
 pub kulfizan-annuity-spec : {M : Type 1} → statement M
-kulfizan-annuity-spec = tie.close (tie.spec annuity-into-requires same-length returns)
+kulfizan-annuity-spec = tie.close (tie.spec (λ c κs. search needs) (λ c. search needs) returns)

@@ -4,12 +4,6 @@ use mir.Facts.{toZ-ofZ}
 use Rattle.kulfizan.proofs.kulfizan_quote.Statement.{statement}
 use Rattle.kulfizan.proofs.kulfizan_quote.Tie as tie
 
-quote-into-requires : tie.Need-quote-into-requires
-quote-into-requires c κs = search needs
-
-same-length : tie.Need-same-length
-same-length c = search needs
-
 returns : tie.Need-returns
 returns c =
     let q = c .before .before in
@@ -17,4 +11,4 @@ returns c =
     rw (toZ-ofZ (f .age), toZ-ofZ (f .year), toZ-ofZ (f .span)) at (q .quote-into .ensures)
 
 pub kulfizan-quote-spec : {M : Type 1} → statement M
-kulfizan-quote-spec = tie.close (tie.spec quote-into-requires same-length returns)
+kulfizan-quote-spec = tie.close (tie.spec (λ c κs. search needs) (λ c. search needs) returns)

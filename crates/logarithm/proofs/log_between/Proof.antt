@@ -24,17 +24,8 @@ mul-down c = omega (arith, product-small (c .before .before .pre .0) (c .before 
 mul-up : tie.Need-mul-up Inv-loop μ-loop
 mul-up c = omega (arith, product-small (c .before .before .pre .1) (c .before .loop .inv .1 .power-small))
 
-sub-up : tie.Need-sub-up Inv-loop μ-loop
-sub-up c = omega arith
-
 add-up : tie.Need-add-up Inv-loop μ-loop
 add-up c = omega (arith, product-small (c .before .before .pre .1) (c .before .loop .inv .1 .power-small))
-
-add-least : tie.Need-add-least Inv-loop μ-loop
-add-least c = omega arith
-
-div-least : tie.Need-div-least Inv-loop μ-loop
-div-least c = omega arith
 
 add-least-2 : tie.Need-add-least-2 Inv-loop μ-loop
 add-least-2 c = omega (arith, lower-more (c .before .before .pre .0) (c .before .loop .inv .0) (omega arith) .sum-small)
@@ -43,21 +34,9 @@ add-most : tie.Need-add-most Inv-loop μ-loop
 unfolding ceilDivℕ
 add-most c = omega (arith, upper-next (c .before .before .pre .1) (c .before .loop .inv .1) .1)
 
-add-most-2 : tie.Need-add-most-2 Inv-loop μ-loop
-add-most-2 c = omega arith
-
-div-most : tie.Need-div-most Inv-loop μ-loop
-div-most c = omega arith
-
 add-most-3 : tie.Need-add-most-3 Inv-loop μ-loop
 unfolding ceilDivℕ
 add-most-3 c = omega (arith, upper-more (c .before .before .pre .1) (c .before .loop .inv .1) (omega arith) .sum-small)
-
-add-k : tie.Need-add-k Inv-loop μ-loop
-add-k c = omega arith
-
-loop-less : tie.Need-loop-less Inv-loop μ-loop
-loop-less c = omega arith
 
 loop-again : tie.Need-loop-again Inv-loop μ-loop
 unfolding ceilDivℕ
@@ -69,9 +48,6 @@ loop-again c = (
 mul-rest : tie.Need-mul-rest Inv-loop μ-loop
 mul-rest c = omega (arith, product-small (c .before .before .pre .1) (c .before .loop .inv .1 .power-small))
 
-sub-rest : tie.Need-sub-rest Inv-loop μ-loop
-sub-rest c = omega arith
-
 add-rest : tie.Need-add-rest Inv-loop μ-loop
 add-rest c = omega (arith, product-small (c .before .before .pre .1) (c .before .loop .inv .1 .power-small))
 
@@ -82,12 +58,6 @@ mul-rest-2 c = omega (arith, upper-next (c .before .before .pre .1) (c .before .
 add-t14 : tie.Need-add-t14 Inv-loop μ-loop
 unfolding ceilDivℕ
 add-t14 c = omega (arith, upper-next (c .before .before .pre .1) (c .before .loop .inv .1) .1)
-
-add-t17 : tie.Need-add-t17 Inv-loop μ-loop
-add-t17 c = omega arith
-
-div-t16 : tie.Need-div-t16 Inv-loop μ-loop
-div-t16 c = omega arith
 
 add-t15 : tie.Need-add-t15 Inv-loop μ-loop
 unfolding ceilDivℕ
@@ -103,30 +73,7 @@ returns c = (
 pub log-between-spec : {M : Type 1} → statement M
 log-between-spec =
     tie.close
-    (tie.spec
-    Inv-loop
-    μ-loop
-    loop-holds
-    mul-down
-    mul-up
-    sub-up
-    add-up
-    add-least
-    div-least
-    add-least-2
-    add-most
-    add-most-2
-    div-most
-    add-most-3
-    add-k
-    loop-less
-    loop-again
-    mul-rest
-    sub-rest
-    add-rest
-    mul-rest-2
-    add-t14
-    add-t17
-    div-t16
-    add-t15
+    (tie.spec Inv-loop μ-loop loop-holds mul-down mul-up (λ c. omega arith) add-up (λ c. omega arith) (λ c. omega arith)
+    add-least-2 add-most (λ c. omega arith) (λ c. omega arith) add-most-3 (λ c. omega arith) (λ c. omega arith)
+    loop-again mul-rest (λ c. omega arith) add-rest mul-rest-2 add-t14 (λ c. omega arith) (λ c. omega arith) add-t15
     returns)

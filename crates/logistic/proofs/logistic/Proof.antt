@@ -5,12 +5,6 @@ use Rattle.logistic.specs.Logistic.{logistic}
 use Rattle.logistic.proofs.logistic.Statement.{statement}
 use Rattle.logistic.proofs.logistic.Tie as tie
 
-logistic-end-requires : tie.Need-logistic-end-requires
-logistic-end-requires c κs = search needs
-
-logistic-end-requires-2 : tie.Need-logistic-end-requires-2
-logistic-end-requires-2 c κs = search needs
-
 returns : tie.Need-returns
 unfolding logistic
 returns c =
@@ -19,4 +13,4 @@ returns c =
     rw (l .logistic-end .ensures, c .logistic-end2 .ensures, back (p .low) tt, back (p .high) tt)
 
 pub logistic-spec : {M : Type 1} → statement M
-logistic-spec = tie.close (tie.spec logistic-end-requires logistic-end-requires-2 returns)
+logistic-spec = tie.close (tie.spec (λ c κs. search needs) (λ c κs. search needs) returns)

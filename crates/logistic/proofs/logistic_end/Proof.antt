@@ -22,9 +22,6 @@ sub-exp-end c = negative (c .before .pre) (c .if1 .taken) .fits
 cast-exp-end : tie.Need-cast-exp-end
 cast-exp-end c = negative (c .before .pre) (c .if1 .taken) .cast
 
-exp-end-requires : tie.Need-exp-end-requires
-exp-end-requires c κs = search needs
-
 mul-quotient : tie.Need-mul-quotient
 mul-quotient c = omega (arith, e-small c)
 
@@ -41,14 +38,8 @@ returns c =
     let s = t .before in
     c .quotient .ensures ∙ share-end (s .args .upper) (negative (s .pre) (t .if1 .taken)) (e .exp-end .ensures)
 
-mul-quotient-2 : tie.Need-mul-quotient-2
-mul-quotient-2 c = search needs
-
 cast-exp-end-2 : tie.Need-cast-exp-end-2
 cast-exp-end-2 c = other (c .before .pre) (c .if1 .left) .cast
-
-exp-end-requires-2 : tie.Need-exp-end-requires-2
-exp-end-requires-2 c κs = search needs
 
 add-quotient-2 : tie.Need-add-quotient-2
 add-quotient-2 c = omega (arith, e-small-2 c)
@@ -66,17 +57,5 @@ returns-2 c =
 pub logistic-end-spec : {M : Type 1} → statement M
 logistic-end-spec =
     tie.close
-    (tie.spec
-    sub-exp-end
-    cast-exp-end
-    exp-end-requires
-    mul-quotient
-    add-quotient
-    quotient-requires
-    returns
-    mul-quotient-2
-    cast-exp-end-2
-    exp-end-requires-2
-    add-quotient-2
-    quotient-requires-2
-    returns-2)
+    (tie.spec sub-exp-end cast-exp-end (λ c κs. search needs) mul-quotient add-quotient quotient-requires returns
+    (λ c. search needs) cast-exp-end-2 (λ c κs. search needs) add-quotient-2 quotient-requires-2 returns-2)

@@ -3,17 +3,11 @@ use borrow.Author.Needs.{needs}
 use Rattle.logistic.proofs.quotient.Statement.{statement}
 use Rattle.logistic.proofs.quotient.Tie as tie
 
-ceil-div-u-requires : tie.Need-ceil-div-u-requires
-ceil-div-u-requires c κs = search needs
-
 returns : tie.Need-returns
 returns c = rw (c .before .if1 .taken) (c .ceil-div-u .ensures)
-
-div-result : tie.Need-div-result
-div-result c = search needs
 
 returns-2 : tie.Need-returns-2
 returns-2 c = rw (c .if1 .left)
 
 pub quotient-spec : {M : Type 1} → statement M
-quotient-spec = tie.close (tie.spec ceil-div-u-requires returns div-result returns-2)
+quotient-spec = tie.close (tie.spec (λ c κs. search needs) returns (λ c. search needs) returns-2)

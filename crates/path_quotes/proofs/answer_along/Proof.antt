@@ -14,9 +14,6 @@ use Rattle.path_quotes.proofs.Value.{path-chances, value-fits, step-sma
 use Rattle.path_quotes.proofs.answer_along.Statement.{statement}
 use Rattle.path_quotes.proofs.answer_along.Tie as tie
 
-factors-of-requires : tie.Need-factors-of-requires
-factors-of-requires c κs = c .pre .0
-
 returns : tie.Need-returns
 unfolding pathAnswer
 returns c =
@@ -46,9 +43,6 @@ ends-read c =
     ∙ ap (foldOver (s .args .fold) billionths)
     (f .factors-of .ensures .ends (rw (worked e) tt))
 
-step-of-requires : tie.Need-step-of-requires
-step-of-requires c κs = search needs
-
 figure-of-requires : tie.Need-figure-of-requires
 figure-of-requires c κs =
     let d = c .before in
@@ -74,5 +68,4 @@ returns-2 c =
 
 pub answer-along-spec : {M : Type 1} → statement M
 answer-along-spec =
-    tie.close
-    (tie.spec factors-of-requires returns folded-requires step-of-requires figure-of-requires returns-2)
+    tie.close (tie.spec (λ c κs. c .pre .0) returns folded-requires (λ c κs. search needs) figure-of-requires returns-2)

@@ -7,9 +7,6 @@ use Rattle.quote.proofs.Steps.{refused-out-of-limits, met}
 use Rattle.quote.proofs.quote_of.Statement.{statement}
 use Rattle.quote.proofs.quote_of.Tie as tie
 
-in-limits-requires : tie.Need-in-limits-requires
-in-limits-requires c κs = search needs
-
 returns : tie.Need-returns
 returns c =
     let s = c .before .before in
@@ -27,4 +24,4 @@ returns-2 c =
     met (rw (toZ-ofZ (f .age), toZ-ofZ (f .year), toZ-ofZ (f .span)) at (c .quote-within .ensures))
 
 pub quote-of-spec : {M : Type 1} → statement M
-quote-of-spec = tie.close (tie.spec in-limits-requires returns quote-within-requires returns-2)
+quote-of-spec = tie.close (tie.spec (λ c κs. search needs) returns quote-within-requires returns-2)

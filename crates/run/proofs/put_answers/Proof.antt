@@ -1,7 +1,7 @@
 -- `put_answers` meets its contract: each turn answers one line more, until none is left.
 use mathlib.Core.Path.{_≡_}
 use mathlib.Core.List.{List}
-use Prim.Native.Nat.{ℕ, _+_, _-_, _*_, _≤_, _<_}
+use Prim.Native.Nat.{ℕ, _+_, _-_, _<_}
 use native.Mathlib.Omega.{arith}
 use lib.ListN.{length}
 use Rattle.lines.specs.LineLaws.{place-within}
@@ -49,9 +49,6 @@ loop-holds c =
     let a = s .args in
     going-none (lineAnswer (a .mode) (a .first) (a .second)) (a .input .now) (a .at) (a .out .now) (s .pre .2)
 
-line-end-requires : tie.Need-line-end-requires Inv-loop μ-loop
-line-end-requires c κs = c .before .loop .inv .within
-
 sub-put-line : tie.Need-sub-put-line Inv-loop μ-loop
 sub-put-line c = omega (arith, end (c .before))
 
@@ -84,25 +81,11 @@ loop-again c =
     going-more (bounded s) (s .pre .3) (more w) (turn w .loop .inv) (end w)
     (c .before .before .put-line .ensures)
 
-same-length : tie.Need-same-length Inv-loop μ-loop
-same-length c = c .before .loop .inv .kept
-
 returns : tie.Need-returns Inv-loop μ-loop
 returns c = going-all (c .before .loop .inv) (omega arith)
 
 pub put-answers-spec : {M : Type 1} → statement M
 put-answers-spec =
     tie.close
-    (tie.spec
-    Inv-loop
-    μ-loop
-    loop-holds
-    line-end-requires
-    sub-put-line
-    part-put-line-start
-    part-put-line-end
-    put-line-requires
-    loop-less
-    loop-again
-    same-length
-    returns)
+    (tie.spec Inv-loop μ-loop loop-holds (λ c κs. c .before .loop .inv .within) sub-put-line part-put-line-start
+    part-put-line-end put-line-requires loop-less loop-again (λ c. c .before .loop .inv .kept) returns)

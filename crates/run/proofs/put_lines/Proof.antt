@@ -61,13 +61,5 @@ returns-2 c =
 pub put-lines-spec : {M : Type 1} → statement M
 put-lines-spec =
     tie.close
-    (tie.spec
-    (λ c κs. search needs)
-    (λ c κs. search needs)
-    (λ c κs. search needs)
-    put-refused-requires
-    (λ c. search needs)
-    returns
-    put-answers-requires
-    (λ c. search needs)
-    returns-2)
+    (tie.spec (λ c κs. search needs) (λ c κs. search needs) (λ c κs. search needs) put-refused-requires
+    (λ c. search needs) returns put-answers-requires (λ c. search needs) returns-2)

@@ -57,12 +57,5 @@ returns-2 c =
 pub put-refused-spec : {M : Type 1} → statement M
 put-refused-spec =
     tie.close
-    (tie.spec
-    put-refusal-requires
-    (λ c. search needs)
-    returns
-    (λ c. search needs)
-    put-field-requires
-    put-refused-requires
-    (λ c. search needs)
-    returns-2)
+    (tie.spec put-refusal-requires (λ c. search needs) returns (λ c. search needs) put-field-requires
+    put-refused-requires (λ c. search needs) returns-2)

@@ -40,12 +40,5 @@ returns-2 c =
 pub put-run-spec : {M : Type 1} → statement M
 put-run-spec =
     tie.close
-    (tie.spec
-    (λ c. search needs)
-    put-lines-requires
-    (λ c. search needs)
-    put-verdict-requires
-    (λ c. search needs)
-    returns
-    (λ c. search needs)
-    returns-2)
+    (tie.spec (λ c. search needs) put-lines-requires (λ c. search needs) put-verdict-requires (λ c. search needs)
+    returns (λ c. search needs) returns-2)

@@ -33,5 +33,4 @@ returns-2 c =
     (c .before .before .put-run .ensures)
 
 pub run-spec : {M : Type 1} → statement M
-run-spec =
-    tie.close (tie.spec (λ c κs. search needs) returns (λ c κs. room (c .before)) (λ c. search needs) returns-2)
+run-spec = tie.close (tie.spec (λ c κs. search needs) returns (λ c κs. room (c .before)) (λ c. search needs) returns-2)

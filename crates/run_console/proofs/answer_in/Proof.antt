@@ -41,18 +41,6 @@ slice-aggregate-write-all c = sym (length-take-le _ _ (front-within (c .before .
 pub answer-in-spec : {M : Type 1} → statement M
 answer-in-spec =
     tie.close
-    (tie.spec
-    (λ c κs. search needs)
-    (λ c. search needs)
-    (λ c. search needs)
-    (λ c. search needs)
-    (λ c. search needs)
-    slice-reshare-prefix-put-run
-    slice-aggregate-put-run
-    put-run-requires
-    slice-reshare-prefix-write-all
-    slice-aggregate-write-all
-    (λ c κs. search needs)
-    (λ c. search needs)
-    (λ c. search needs)
-    (λ c. search needs))
+    (tie.spec (λ c κs. search needs) (λ c. search needs) (λ c. search needs) (λ c. search needs) (λ c. search needs)
+    slice-reshare-prefix-put-run slice-aggregate-put-run put-run-requires slice-reshare-prefix-write-all
+    slice-aggregate-write-all (λ c κs. search needs) (λ c. search needs) (λ c. search needs) (λ c. search needs))

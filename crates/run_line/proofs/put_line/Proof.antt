@@ -94,16 +94,5 @@ returns-2 c =
 pub put-line-spec : {M : Type 1} → statement M
 put-line-spec =
     tie.close
-    (tie.spec
-    (λ c κs. search needs)
-    (λ c. search needs)
-    (λ c. search needs)
-    put-refusal-requires
-    (λ c. search needs)
-    returns
-    some
-    slice-aggregate-put-text
-    put-text-requires
-    put-reply-requires
-    (λ c. search needs)
-    returns-2)
+    (tie.spec (λ c κs. search needs) (λ c. search needs) (λ c. search needs) put-refusal-requires (λ c. search needs)
+    returns some slice-aggregate-put-text put-text-requires put-reply-requires (λ c. search needs) returns-2)

@@ -61,16 +61,6 @@ returns-2 c = put-as (sym (compared (c .before .before .before .before) .0)) (c 
 pub put-reply-spec : {M : Type 1} → statement M
 put-reply-spec =
     tie.close
-    (tie.spec
-    (λ c κs. search needs)
-    (λ c κs. search needs)
-    (λ c. search needs)
-    put-answer-requires
-    (λ c. search needs)
-    (λ c κs. search needs)
-    (λ c κs. search needs)
-    put-comparison-requires
-    (λ c. search needs)
-    returns
-    (λ c. search needs)
-    returns-2)
+    (tie.spec (λ c κs. search needs) (λ c κs. search needs) (λ c. search needs) put-answer-requires (λ c. search needs)
+    (λ c κs. search needs) (λ c κs. search needs) put-comparison-requires (λ c. search needs) returns
+    (λ c. search needs) returns-2)

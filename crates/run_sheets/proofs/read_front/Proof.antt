@@ -92,17 +92,6 @@ returns-4 c =
 pub read-front-spec : {M : Type 1} → statement M
 read-front-spec =
     tie.close
-    (tie.spec
-    (λ c κs. search needs)
-    (λ c κs. search needs)
-    returns
-    returns-2
-    (λ c κs. search needs)
-    (λ c κs. search needs)
-    returns-3
-    sub-rest
-    part-rest-start
-    (λ c. search needs)
-    (λ c κs. search needs)
-    add-t14
+    (tie.spec (λ c κs. search needs) (λ c κs. search needs) returns returns-2 (λ c κs. search needs)
+    (λ c κs. search needs) returns-3 sub-rest part-rest-start (λ c. search needs) (λ c κs. search needs) add-t14
     returns-4)

@@ -131,22 +131,7 @@ returns-3 c =
 pub put-verdict-spec : {M : Type 1} → statement M
 put-verdict-spec =
     tie.close
-    (tie.spec
-    (λ c κs. search needs)
-    (λ c κs. search needs)
-    (λ c. search needs)
-    (λ c. search needs)
-    put-refusal-requires
-    (λ c. search needs)
-    returns
-    (λ c κs. search needs)
-    put-refusal-requires-2
-    (λ c. search needs)
-    returns-2
-    sub-verdict-on
-    part-verdict-on-start
-    (λ c. search needs)
-    (λ c κs. search needs)
-    put-line-requires
-    (λ c. search needs)
-    returns-3)
+    (tie.spec (λ c κs. search needs) (λ c κs. search needs) (λ c. search needs) (λ c. search needs) put-refusal-requires
+    (λ c. search needs) returns (λ c κs. search needs) put-refusal-requires-2 (λ c. search needs) returns-2
+    sub-verdict-on part-verdict-on-start (λ c. search needs) (λ c κs. search needs) put-line-requires
+    (λ c. search needs) returns-3)

@@ -31,12 +31,6 @@ kappa-step-requires c κs =
     let k : Under (bits (s .args .start)) kappaLimit = rw (back (s .pre .1) tt) (s .pre .1) in
     (a, rw (l .loop .inv .0) (kappa-under (l .loop .i) a k))
 
-add-i : tie.Need-add-i Inv-loop μ-loop
-add-i c = omega arith
-
-loop-less : tie.Need-loop-less Inv-loop μ-loop
-loop-less c = omega arith
-
 loop-again : tie.Need-loop-again Inv-loop μ-loop
 unfolding kappaIn
 loop-again c =
@@ -53,4 +47,4 @@ returns c =
 pub kappa-at-spec : {M : Type 1} → statement M
 kappa-at-spec =
     tie.close
-    (tie.spec Inv-loop μ-loop loop-holds kappa-step-requires add-i loop-less loop-again returns)
+    (tie.spec Inv-loop μ-loop loop-holds kappa-step-requires (λ c. omega arith) (λ c. omega arith) loop-again returns)

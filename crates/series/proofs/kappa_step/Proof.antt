@@ -23,12 +23,6 @@ least-product-requires c κs = rw (toZ-ofZ (c .fits .a)) (least-fits c)
 greatest-product-requires : tie.Need-greatest-product-requires
 greatest-product-requires c κs = let s = c .before in rw (toZ-ofZ (s .fits .a)) (greatest-fits s)
 
-outward-div-requires : tie.Need-outward-div-requires
-outward-div-requires c κs = search needs
-
-outward-div-requires-2 : tie.Need-outward-div-requires-2
-outward-div-requires-2 c κs = search needs
-
 returns : tie.Need-returns
 unfolding kappaStep outward
 returns c =
@@ -45,9 +39,4 @@ returns c =
 pub kappa-step-spec : {M : Type 1} → statement M
 kappa-step-spec =
     tie.close
-    (tie.spec
-    least-product-requires
-    greatest-product-requires
-    outward-div-requires
-    outward-div-requires-2
-    returns)
+    (tie.spec least-product-requires greatest-product-requires (λ c κs. search needs) (λ c κs. search needs) returns)

@@ -33,17 +33,11 @@ greatest-product-requires c κs = greatest-read-fits (start₁ c .pre)
 add-greatest : tie.Need-add-greatest
 add-greatest c = let l = start₂ c .pre in high l (trend l .1) (c .greatest-product .ensures) .0
 
-outward-div-requires : tie.Need-outward-div-requires
-outward-div-requires c κs = search needs
-
 add-lower : tie.Need-add-lower
 add-lower c =
     let d = c .before .before in
     let l = start₁ d .pre in
     lower-end l (fixed l .1) (low l (trend l .1) (d .least-product .ensures) .1) (c .outward-div .ensures) .0
-
-outward-div-requires-2 : tie.Need-outward-div-requires-2
-outward-div-requires-2 c κs = search needs
 
 add-upper : tie.Need-add-upper
 add-upper c =
@@ -64,15 +58,5 @@ returns c =
 pub log-force-spec : {M : Type 1} → statement M
 log-force-spec =
     tie.close
-    (tie.spec
-    add-fixed
-    mul-trend
-    least-product-requires
-    add-least
-    greatest-product-requires
-    add-greatest
-    outward-div-requires
-    add-lower
-    outward-div-requires-2
-    add-upper
-    returns)
+    (tie.spec add-fixed mul-trend least-product-requires add-least greatest-product-requires add-greatest
+    (λ c κs. search needs) add-lower (λ c κs. search needs) add-upper returns)

@@ -12,9 +12,6 @@ use Rattle.series.specs.BoundLaws.{period-under}
 use Rattle.series.proofs.period_index.Statement.{statement}
 use Rattle.series.proofs.period_index.Tie as tie
 
-cast-result : tie.Need-cast-result
-cast-result c = search needs
-
 year : (s : tie.Start) → SFits w64 (pos (s .args .n))
 year s = fits (under-pos (s .pre .1)) tt
 
@@ -38,4 +35,4 @@ unfolding periodIn
 returns c = sum (back (c .pre .0 .start) tt) (years-read c .1) refl (fits (period-under (c .pre .0) (c .pre .1)) tt) .1
 
 pub period-index-spec : {M : Type 1} → statement M
-period-index-spec = tie.close (tie.spec cast-result mul-result add-result returns)
+period-index-spec = tie.close (tie.spec (λ c. search needs) mul-result add-result returns)

@@ -95,21 +95,9 @@ rate-test c =
 add-last : tie.Need-add-last
 add-last c = last-read (c .before .before) .0
 
-cast-between : tie.Need-cast-between
-cast-between c = search needs
-
-between-requires : tie.Need-between-requires
-between-requires c κs = search needs
-
 returns : tie.Need-returns
 unfolding firstFailed tableTests
 returns c = let e = sym (age-test (c .before)) ∙ not-true _ (c .if1 .taken) in rw e
-
-add-between : tie.Need-add-between
-add-between c = search needs
-
-between-requires-2 : tie.Need-between-requires-2
-between-requires-2 c κs = search needs
 
 returns-2 : tie.Need-returns-2
 unfolding firstFailed tableTests
@@ -128,12 +116,6 @@ most-span-requires c κs =
     let a = age-in (c .before .before) in
     rw (a .0) (a .2)
 
-cast-between-2 : tie.Need-cast-between-2
-cast-between-2 c = span-fits c
-
-between-requires-3 : tie.Need-between-requires-3
-between-requires-3 c κs = search needs
-
 returns-3 : tie.Need-returns-3
 unfolding firstFailed tableTests
 returns-3 c =
@@ -141,15 +123,6 @@ returns-3 c =
     let y = b .before .before in
     let e = sym (span-test b) ∙ not-true _ (c .if3 .taken) in
     rw (age-true (y .before .before), year-true y, e)
-
-cast-between-3 : tie.Need-cast-between-3
-cast-between-3 c = search needs
-
-rate-of-requires : tie.Need-rate-of-requires
-rate-of-requires c κs = search needs
-
-between-requires-4 : tie.Need-between-requires-4
-between-requires-4 c κs = search needs
 
 returns-4 : tie.Need-returns-4
 unfolding firstFailed tableTests
@@ -172,21 +145,6 @@ returns-5 c =
 pub table-refusal-spec : {M : Type 1} → statement M
 table-refusal-spec =
     tie.close
-    (tie.spec
-    add-last
-    cast-between
-    between-requires
-    returns
-    add-between
-    between-requires-2
-    returns-2
-    cast-most-span
-    most-span-requires
-    cast-between-2
-    between-requires-3
-    returns-3
-    cast-between-3
-    rate-of-requires
-    between-requires-4
-    returns-4
-    returns-5)
+    (tie.spec add-last (λ c. search needs) (λ c κs. search needs) returns (λ c. search needs) (λ c κs. search needs)
+    returns-2 cast-most-span most-span-requires span-fits (λ c κs. search needs) returns-3 (λ c. search needs)
+    (λ c κs. search needs) (λ c κs. search needs) returns-4 returns-5)

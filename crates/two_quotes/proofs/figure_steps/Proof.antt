@@ -7,12 +7,6 @@ use Rattle.two_quotes.specs.Claim.{stepsShown}
 use Rattle.two_quotes.proofs.figure_steps.Statement.{statement}
 use Rattle.two_quotes.proofs.figure_steps.Tie as tie
 
-enum-known-figure : tie.Need-enum-known-figure
-enum-known-figure c = search needs
-
-enum-told : tie.Need-enum-told
-enum-told c = search needs
-
 returns : tie.Need-returns
 unfolding stepsShown shownOf
 returns c = sym (ap (λ (f : Figure). stepsShown (shownOf f)) (c .before .figure .given .1))
@@ -22,4 +16,4 @@ unfolding stepsShown shownOf
 returns-2 c = sym (ap (λ (f : Figure). stepsShown (shownOf f)) (c .enum-told .given .1))
 
 pub figure-steps-spec : {M : Type 1} → statement M
-figure-steps-spec = tie.close (tie.spec enum-known-figure enum-told returns returns-2)
+figure-steps-spec = tie.close (tie.spec (λ c. search needs) (λ c. search needs) returns returns-2)

@@ -6,9 +6,6 @@ use Rattle.two_quotes.specs.ClaimLaws.{kinds-one, not-one-kind}
 use Rattle.two_quotes.proofs.same_figures.Statement.{statement}
 use Rattle.two_quotes.proofs.same_figures.Tie as tie
 
-one-kind-requires : tie.Need-one-kind-requires
-one-kind-requires c κs = search needs
-
 same-printed-requires : tie.Need-same-printed-requires
 same-printed-requires c κs = kinds-one _ _ (sym (c .before .one-kind .ensures) ∙ c .if1 .taken)
 
@@ -28,4 +25,4 @@ returns-2 : tie.Need-returns-2
 returns-2 c = not-one-kind (sym (c .before .one-kind .ensures) ∙ c .if1 .left)
 
 pub same-figures-spec : {M : Type 1} → statement M
-same-figures-spec = tie.close (tie.spec one-kind-requires same-printed-requires returns returns-2)
+same-figures-spec = tie.close (tie.spec (λ c κs. search needs) same-printed-requires returns returns-2)

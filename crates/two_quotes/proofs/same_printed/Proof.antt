@@ -35,34 +35,10 @@ told c = c .before .before .before
 abbrev both : tie.After-known-told2 → tie.After-known-told
 both c = c .before .before .before
 
-quote-of-requires : tie.Need-quote-of-requires
-quote-of-requires c κs = search needs
-
-steps-of-requires : tie.Need-steps-of-requires
-steps-of-requires c κs = search needs
-
-quote-of-requires-2 : tie.Need-quote-of-requires-2
-quote-of-requires-2 c κs = search needs
-
-steps-of-requires-2 : tie.Need-steps-of-requires-2
-steps-of-requires-2 c κs = search needs
-
-enum-known-first : tie.Need-enum-known-first
-enum-known-first c = search needs
-
-enum-told : tie.Need-enum-told
-enum-told c = search needs
-
 returns : tie.Need-returns
 returns c =
     let t = c .before .before in
     first-not-printed (first (asked t)) (second (t .before)) (asked t .before .pre) (sym (first-steps t) ∙ c .enum-told .given .1)
-
-enum-known-second : tie.Need-enum-known-second
-enum-known-second c = search needs
-
-enum-told-2 : tie.Need-enum-told-2
-enum-told-2 c = search needs
 
 returns-2 : tie.Need-returns-2
 returns-2 c =
@@ -86,16 +62,6 @@ returns-4 c =
 pub same-printed-spec : {M : Type 1} → statement M
 same-printed-spec =
     tie.close
-    (tie.spec
-    quote-of-requires
-    steps-of-requires
-    quote-of-requires-2
-    steps-of-requires-2
-    enum-known-first
-    enum-told
-    returns
-    enum-known-second
-    enum-told-2
-    returns-2
-    returns-3
+    (tie.spec (λ c κs. search needs) (λ c κs. search needs) (λ c κs. search needs) (λ c κs. search needs)
+    (λ c. search needs) (λ c. search needs) returns (λ c. search needs) (λ c. search needs) returns-2 returns-3
     returns-4)

@@ -7,18 +7,9 @@ use Rattle.two_quotes.specs.Claim.{stepsShown}
 use Rattle.two_quotes.proofs.steps_of.Statement.{statement}
 use Rattle.two_quotes.proofs.steps_of.Tie as tie
 
-enum-known-answer : tie.Need-enum-known-answer
-enum-known-answer c = search needs
-
-enum-told : tie.Need-enum-told
-enum-told c = search needs
-
 returns : tie.Need-returns
 unfolding stepsShown figureShown
 returns c = sym (ap (λ (a : Answer). stepsShown (figureShown a)) (c .enum-told .given .1))
-
-figure-steps-requires : tie.Need-figure-steps-requires
-figure-steps-requires c κs = search needs
 
 returns-2 : tie.Need-returns-2
 unfolding figureShown
@@ -27,5 +18,4 @@ returns-2 c =
     ∙ sym (ap (λ (a : Answer). stepsShown (figureShown a)) (c .before .before .answer .given .1))
 
 pub steps-of-spec : {M : Type 1} → statement M
-steps-of-spec =
-    tie.close (tie.spec enum-known-answer enum-told returns figure-steps-requires returns-2)
+steps-of-spec = tie.close (tie.spec (λ c. search needs) (λ c. search needs) returns (λ c κs. search needs) returns-2)

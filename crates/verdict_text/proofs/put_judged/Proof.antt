@@ -31,12 +31,5 @@ returns-2 c =
 pub put-judged-spec : {M : Type 1} → statement M
 put-judged-spec =
     tie.close
-    (tie.spec
-    (λ c. search needs)
-    put-word-requires
-    (λ c. search needs)
-    put-refused-requires
-    (λ c. search needs)
-    returns
-    (λ c. search needs)
-    returns-2)
+    (tie.spec (λ c. search needs) put-word-requires (λ c. search needs) put-refused-requires (λ c. search needs) returns
+    (λ c. search needs) returns-2)

@@ -65,10 +65,4 @@ returns c =
 pub put-line-spec : {M : Type 1} → statement M
 put-line-spec =
     tie.close
-    (tie.spec
-    (λ c. search needs)
-    put-text-requires
-    put-number-requires
-    put-judged-requires
-    (λ c. search needs)
-    returns)
+    (tie.spec (λ c. search needs) put-text-requires put-number-requires put-judged-requires (λ c. search needs) returns)

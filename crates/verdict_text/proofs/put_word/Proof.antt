@@ -47,19 +47,6 @@ returns-3 c =
 pub put-word-spec : {M : Type 1} → statement M
 put-word-spec =
     tie.close
-    (tie.spec
-    (λ c. search needs)
-    (λ c. search needs)
-    put-text-requires
-    (λ c. search needs)
-    (λ c. search needs)
-    put-text-requires-2
-    (λ c. search needs)
-    (λ c. search needs)
-    put-text-requires-3
-    (λ c. search needs)
-    returns
-    (λ c. search needs)
-    returns-2
-    (λ c. search needs)
-    returns-3)
+    (tie.spec (λ c. search needs) (λ c. search needs) put-text-requires (λ c. search needs) (λ c. search needs)
+    put-text-requires-2 (λ c. search needs) (λ c. search needs) put-text-requires-3 (λ c. search needs) returns
+    (λ c. search needs) returns-2 (λ c. search needs) returns-3)

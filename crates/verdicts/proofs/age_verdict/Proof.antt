@@ -33,9 +33,6 @@ wrong-here f m {n} e q = rw (e, ne-eqb n m q)
 
 -- ---- the code
 
-death-of-requires : tie.Need-death-of-requires
-death-of-requires c κs = search needs
-
 figure-of-requires : tie.Need-figure-of-requires
 unfolding deathOf
 figure-of-requires c κs =
@@ -48,12 +45,6 @@ figure-of-requires c κs =
 figure-is : (c : tie.After-figure-of)
     → c .figure-of .result ≡ figureOf probabilityStep (deathOf billionths (c .before .before .args .p))
 figure-is c = c .figure-of .ensures ∙ ap (figureOf probabilityStep) (c .before .death-of .ensures)
-
-enum-known-figure : tie.Need-enum-known-figure
-enum-known-figure c = search needs
-
-enum-told : tie.Need-enum-told
-enum-told c = search needs
 
 returns : tie.Need-returns
 unfolding figureBy
@@ -76,4 +67,5 @@ returns-3 c =
 pub age-verdict-spec : {M : Type 1} → statement M
 age-verdict-spec =
     tie.close
-    (tie.spec death-of-requires figure-of-requires enum-known-figure enum-told returns returns-2 returns-3)
+    (tie.spec (λ c κs. search needs) figure-of-requires (λ c. search needs) (λ c. search needs) returns returns-2
+    returns-3)

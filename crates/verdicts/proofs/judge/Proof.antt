@@ -11,9 +11,6 @@ use Rattle.verdicts.proofs.Steps.{out-of-limits, malformed-column, answ
 use Rattle.verdicts.proofs.judge.Statement.{statement}
 use Rattle.verdicts.proofs.judge.Tie as tie
 
-in-limits-requires : tie.Need-in-limits-requires
-in-limits-requires c κs = search needs
-
 returns : tie.Need-returns
 returns c =
     let s = c .before .before in
@@ -41,4 +38,4 @@ returns-3 c =
     (rw (toZ-ofZ (s .fits .year)) at (c .judge-within .ensures))
 
 pub judge-spec : {M : Type 1} → statement M
-judge-spec = tie.close (tie.spec in-limits-requires returns returns-2 judge-within-requires returns-3)
+judge-spec = tie.close (tie.spec (λ c κs. search needs) returns returns-2 judge-within-requires returns-3)

@@ -61,14 +61,8 @@ years-read c =
     let f : SFits w64 (pos (natAbs (s .args .year) - startYear)) = fits (under-pos {k = lastYears} (path-first Death k)) tt in
     rw (toZ-ofZ (s .fits .year), e) (f, toZ-ofZ f)
 
-rule-of-requires : tie.Need-rule-of-requires
-rule-of-requires c κs = search needs
-
 table-refusal-requires : tie.Need-table-refusal-requires
 table-refusal-requires c κs = rw (c .rule-of .ensures) (years-under _)
-
-refusal-number-requires : tie.Need-refusal-number-requires
-refusal-number-requires c κs = search needs
 
 returns : tie.Need-returns
 returns c =
@@ -139,14 +133,5 @@ returns-3 c =
 pub judge-within-spec : {M : Type 1} → statement M
 judge-within-spec =
     tie.close
-    (tie.spec
-    rule-of-requires
-    table-refusal-requires
-    refusal-number-requires
-    returns
-    sub-n
-    cast-n
-    factors-of-requires
-    returns-2
-    verdict-on-requires
-    returns-3)
+    (tie.spec (λ c κs. search needs) table-refusal-requires (λ c κs. search needs) returns sub-n cast-n
+    factors-of-requires returns-2 verdict-on-requires returns-3)

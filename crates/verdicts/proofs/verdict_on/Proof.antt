@@ -26,32 +26,11 @@ size c = search needs
 loop-holds : tie.Need-loop-holds Inv-loop μ-loop
 loop-holds c = (sym (verdict-none _ _), omega arith)
 
-mul-p : tie.Need-mul-p Inv-loop μ-loop
-mul-p c = omega arith
-
-array-copy-out-p : tie.Need-array-copy-out-p Inv-loop μ-loop
-array-copy-out-p c = omega arith
-
-mul-entry : tie.Need-mul-entry Inv-loop μ-loop
-mul-entry c = omega arith
-
-array-read-entry : tie.Need-array-read-entry Inv-loop μ-loop
-array-read-entry c = omega arith
-
 age-verdict-requires : tie.Need-age-verdict-requires Inv-loop μ-loop
 age-verdict-requires c κs =
     let l = c .before .before in
     let s = l .before in
     factor-small (s .args .t1) (size s) (s .pre) (l .loop .x) (omega arith)
-
-joined-requires : tie.Need-joined-requires Inv-loop μ-loop
-joined-requires c κs = search needs
-
-add-x : tie.Need-add-x Inv-loop μ-loop
-add-x c = omega arith
-
-loop-less : tie.Need-loop-less Inv-loop μ-loop
-loop-less c = omega arith
 
 loop-again : tie.Need-loop-again Inv-loop μ-loop
 unfolding figureIn entryAt
@@ -76,17 +55,5 @@ returns c =
 pub verdict-on-spec : {M : Type 1} → statement M
 verdict-on-spec =
     tie.close
-    (tie.spec
-    Inv-loop
-    μ-loop
-    loop-holds
-    mul-p
-    array-copy-out-p
-    mul-entry
-    array-read-entry
-    age-verdict-requires
-    joined-requires
-    add-x
-    loop-less
-    loop-again
-    returns)
+    (tie.spec Inv-loop μ-loop loop-holds (λ c. omega arith) (λ c. omega arith) (λ c. omega arith) (λ c. omega arith)
+    age-verdict-requires (λ c κs. search needs) (λ c. omega arith) (λ c. omega arith) loop-again returns)

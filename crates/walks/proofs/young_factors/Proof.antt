@@ -87,9 +87,6 @@ cell-read c =
     ap₂ (cellOf (s .args .t1)) (place-age (w .cohort) (w .age) (w .year) (t .before .loop .done) (omega arith)) (sym (y .place (l .0)))
     ∙ sym (e ∙ young-cell (s .args .t1) (t .before .loop .year .number) (l .1))
 
-young-count-requires : tie.Need-young-count-requires Inv-loop μ-loop
-young-count-requires c κs = search needs
-
 year-at-requires : tie.Need-year-at-requires Inv-loop μ-loop
 year-at-requires c κs = let s = c .before in (s .pre .limits, s .pre .first)
 
@@ -111,12 +108,6 @@ young-cell-requires : tie.Need-young-cell-requires Inv-loop μ-loop
 young-cell-requires c κs =
     let t = turn c in
     rw (age-read c) (cell-within (t .before .loop .inv .1 .year) (young-turn t .1))
-
-enum-known-e : tie.Need-enum-known-e Inv-loop μ-loop
-enum-known-e c = search needs
-
-enum-told : tie.Need-enum-told Inv-loop μ-loop
-enum-told c = search needs
 
 returns : tie.Need-returns Inv-loop μ-loop
 returns c =
@@ -146,9 +137,6 @@ array-set-from-ends c = let t = in-turn c in omega (arith, young-turn t, short (
 
 add-done : tie.Need-add-done Inv-loop μ-loop
 add-done c = let t = in-turn c in omega (arith, young-turn t, short (first t))
-
-goes-on-requires : tie.Need-goes-on-requires Inv-loop μ-loop
-goes-on-requires c κs = search needs
 
 year-after-requires : tie.Need-year-after-requires Inv-loop μ-loop
 year-after-requires c κs =
@@ -193,23 +181,6 @@ returns-2 c =
 pub young-factors-spec : {M : Type 1} → statement M
 young-factors-spec =
     tie.close
-    (tie.spec
-    Inv-loop
-    μ-loop
-    young-count-requires
-    year-at-requires
-    loop-holds
-    add-age-of-runs
-    age-of-runs-requires
-    young-cell-requires
-    enum-known-e
-    enum-told
-    returns
-    mul-ends
-    array-set-from-ends
-    add-done
-    goes-on-requires
-    year-after-requires
-    loop-less
-    loop-again
-    returns-2)
+    (tie.spec Inv-loop μ-loop (λ c κs. search needs) year-at-requires loop-holds add-age-of-runs age-of-runs-requires
+    young-cell-requires (λ c. search needs) (λ c. search needs) returns mul-ends array-set-from-ends add-done
+    (λ c κs. search needs) year-after-requires loop-less loop-again returns-2)

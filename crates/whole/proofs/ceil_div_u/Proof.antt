@@ -5,18 +5,9 @@ use Rattle.whole.specs.Division.{ceilDivℕ}
 use Rattle.whole.proofs.ceil_div_u.Statement.{statement}
 use Rattle.whole.proofs.ceil_div_u.Tie as tie
 
-sub-result : tie.Need-sub-result
-sub-result c = search needs
-
-add-result : tie.Need-add-result
-add-result c = search needs
-
-div-result : tie.Need-div-result
-div-result c = search needs
-
 returns : tie.Need-returns
 unfolding ceilDivℕ
 returns c = refl
 
 pub ceil-div-u-spec : {M : Type 1} → statement M
-ceil-div-u-spec = tie.close (tie.spec sub-result add-result div-result returns)
+ceil-div-u-spec = tie.close (tie.spec (λ c. search needs) (λ c. search needs) (λ c. search needs) returns)

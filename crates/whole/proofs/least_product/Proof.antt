@@ -21,8 +21,7 @@ chosen s t =
 pub least-product-spec : {M : Type 1} → statement M
 least-product-spec =
     tie.close
-    (tie.spec
-    (λ c. chosen (c .before .before .before) (c .before .before .if1 .taken) .0)
+    (tie.spec (λ c. chosen (c .before .before .before) (c .before .before .if1 .taken) .0)
     (λ c. chosen (c .before .before .before) (c .before .before .if1 .taken) .1)
     (λ c. chosen (c .before .before .before) (c .before .before .if1 .left) .0)
     (λ c. chosen (c .before .before .before) (c .before .before .if1 .left) .1))
