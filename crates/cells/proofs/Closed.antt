@@ -6,7 +6,7 @@ use lib.IntN.{ℤ}
 use Rattle.whole.specs.Bound.{under-weaken, under-floor, under-ceil}
 use Rattle.whole.specs.SignedEnds.{outward}
 use Rattle.whole.specs.declared.SignedEnds.{SignedEnds}
-use Rattle.whole.specs.EndLaws.{Within}
+use Rattle.whole.specs.Sizes.{Within}
 use Rattle.closure.specs.Weights.{fitted, weightUnit}
 use Rattle.logistic.specs.Code.{closedLimit}
 use Rattle.closure.specs.Closure.{weightedMean}

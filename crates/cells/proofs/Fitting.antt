@@ -20,10 +20,9 @@ use Rattle.expo.specs.Exponential.{expBetween}
 use Rattle.params.specs.declared.Params.{Params}
 use Rattle.params.specs.Limits.{inLimits, lastYears}
 use Rattle.whole.specs.declared.SignedEnds.{SignedEnds}
-use Rattle.whole.specs.EndLaws.{Within}
+use Rattle.whole.specs.Sizes.{Within}
 use Rattle.series.specs.Series.{logForce, inRange}
-use Rattle.series.specs.WidthLaws.{logForceWidth}
-use Rattle.series.specs.RangeLaws.{Negated}
+use Rattle.series.specs.Within.{logForceWidth, Negated}
 use Rattle.logarithm.specs.Logarithm.{inverseLogistic}
 use Rattle.closure.specs.Weights.{firstFitted, fitted, lastClosed}
 use Rattle.closure.specs.Code.{endLimit}

@@ -7,10 +7,11 @@ use native.Mathlib.Omega.{arith}
 use lib.IntN.{ℤ, _+ℤ_}
 use mir.Syntax.{w64}
 use mir.Val.{SFits}
-use Rattle.whole.specs.Bound.{bits, Under, under-lit, under-weaken, under-add, fits, back}
+use Rattle.whole.specs.Sizes.{Under, Within}
+use Rattle.whole.specs.Bound.{bits, under-lit, under-weaken, under-add, fits, back}
 use Rattle.whole.specs.declared.SignedEnds.{SignedEnds}
 use Rattle.whole.specs.SignedEnds.{leastProduct, greatestProduct}
-use Rattle.whole.specs.EndLaws.{Within, least-under, greatest-under}
+use Rattle.whole.specs.EndLaws.{least-under, greatest-under}
 use Rattle.whole.proofs.Signed.{read, sum}
 use Rattle.closure.specs.Weights.{fitted}
 use Rattle.closure.specs.Totals.{weightLimit}

@@ -4,10 +4,9 @@ use mathlib.Core.List.{List}
 use Prim.Native.Nat.{ℕ, _*_, _^_, _<_}
 use lib.IntN.{ℤ, pos, _+ℤ_}
 use lib.ListN.{getD}
-use Rattle.whole.specs.Bound.{Under}
+use Rattle.whole.specs.Sizes.{Under, Within}
 use Rattle.whole.specs.declared.SignedEnds.{SignedEnds}
 use Rattle.whole.specs.SignedEnds.{leastProduct, greatestProduct}
-use Rattle.whole.specs.EndLaws.{Within}
 use Rattle.closure.specs.Weights.{fitted}
 use Rattle.closure.specs.Totals.{weightLimit}
 use Rattle.closure.specs.Closure.{endsAt}

@@ -6,7 +6,8 @@ use native.Mathlib.Nat.{mul-le-mul-right, le-refl}
 use native.Mathlib.Omega.{arith}
 use lib.Dec.{lit<}
 use lib.IntN.{ℤ, pos, negsuc, natAbs}
-use Rattle.whole.specs.Bound.{Under, under-add, under-mul}
+use Rattle.whole.specs.Sizes.{Under}
+use Rattle.whole.specs.Bound.{under-add, under-mul}
 use Rattle.fraction.specs.Ratio.{Ratio, _≤/_, whole/, _+/_, _*/_, quotient/}
 use Rattle.fraction.specs.RatioLaws.{≤/-refl, ≤/-trans, whole/-+/, +/-mono, +/-*/, */-mono, quotient/-≤/}
 use Rattle.fraction.specs.Fraction.{Fraction, wholeℚ, absolute, _+ℚ_, scaleℚ, quotientℚ}

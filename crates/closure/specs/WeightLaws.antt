@@ -10,7 +10,8 @@ use lib.Dec.{T, leb, leb→le}
 use lib.IntN.{ℤ, pos, _-ℤ_}
 use lib.ListN.{getD, replicate}
 use Rattle.whole.specs.Split.{split, split-neg, split-sub}
-use Rattle.whole.specs.Bound.{Under, under-lit, under-between, under-add, under-mul}
+use Rattle.whole.specs.Sizes.{Under}
+use Rattle.whole.specs.Bound.{under-lit, under-between, under-add, under-mul}
 use Rattle.whole.specs.Listed.{every}
 use Rattle.whole.specs.Table.{at, listed-at}
 use Rattle.closure.specs.Weights.{firstFitted, fitted, firstClosed, lastClosed, closed, weightUnit, weight, weightRow, Totalled, rowTotal, beside, totalled, ruled}

@@ -1,8 +1,7 @@
 // The closure: the weights of the fitted ages 80 to 90 at the ages 91 to 120, and G at these ages on the grid, the weighted sum
 // of H at the fitted ages over 110.
 ghost use mathlib.Core.Path.{_≡_};
-ghost use Rattle.whole.specs.Bound.{Under};
-ghost use Rattle.whole.specs.EndLaws.{Within};
+ghost use Rattle.whole.specs.Sizes.{Under, Within};
 ghost use Rattle.closure.specs.Totals.{weightLimit};
 ghost use Rattle.closure.specs.Closure.{weightedMean};
 ghost use Rattle.closure.specs.Code.{endLimit, sumsLimit, InLimit, weightOf, RowWithin, withProduct};

@@ -5,7 +5,7 @@ use native.Mathlib.Nat.{pow-suc, pow-le-pow-right, zero-lt-suc, mul-le-mul, mul-
 use native.Mathlib.Omega.{arith}
 use Rattle.tokens.specs.DigitLaws.{digit-within}
 use Rattle.column_text.specs.Column.{decimals}
-use Rattle.column_text.specs.QLaws.{mostSteps}
+use Rattle.column_text.specs.Code.{mostSteps}
 
 -- n digits after those of v
 pub record Room (v n : ℕ) : Type 0 where

@@ -6,9 +6,9 @@ use lib.IntN.{ℤ}
 use lib.ListN.{drop}
 use Rattle.tokens.specs.declared.UnsignedRead.{UnsignedRead}
 use Rattle.tokens.specs.declared.UnsignedRead.the-variants.{Malformed, Unsigned}
-use Rattle.tokens.specs.Text.{bytesOf, Parse, malformed, taken, takeText}
-use Rattle.tokens.specs.Steps.{andThen, goes, stops}
-use Rattle.tokens.specs.Unsigned.{readDigits}
+use Rattle.tokens.specs.Text.{bytesOf, Parse, malformed, taken, takeText, andThen}
+use Rattle.tokens.specs.Steps.{goes, stops}
+use Rattle.tokens.specs.Number.{readDigits}
 use Rattle.query.specs.Query.{readField, alone}
 use Rattle.column_text.specs.declared.Entry.{Entry}
 use Rattle.column_text.specs.Column.{wholes, decimals, readQ, readEntry}

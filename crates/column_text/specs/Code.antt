@@ -26,3 +26,7 @@ listRead ok l = cond ok (taken l []) malformed
 
 abbrev pub columnRead : ColumnRead → Parse (List ℕ)
 columnRead r = listRead (r .ok) (r .steps)
+
+-- q has at most 999,999 steps
+abbrev pub mostSteps : ℕ
+mostSteps = 10 ^ (wholes + decimals)

@@ -8,9 +8,8 @@ use lib.Dec.{eqb}
 use lib.IntN.{ℤ, pos, negsuc}
 use lib.ListN.{length}
 use Rattle.whole.specs.Listed.{every, listed}
-use Rattle.tokens.specs.Text.{bytesOf, Parse, malformed, taken, takeText}
-use Rattle.tokens.specs.Unsigned.{readDigits}
-use Rattle.tokens.specs.Steps.{andThen}
+use Rattle.tokens.specs.Text.{bytesOf, Parse, malformed, taken, takeText, andThen}
+use Rattle.tokens.specs.Number.{readDigits}
 use Rattle.lines.specs.Lines.{lines}
 use Rattle.closure.specs.Weights.{lastClosed}
 use Rattle.table_tests.specs.TableTests.{ageInTable}

@@ -4,9 +4,8 @@ use mathlib.Core.List.{List, [], _++_}
 use Prim.Native.Nat.{ℕ, zero, suc}
 use Rattle.whole.specs.Listed.{listed}
 use Rattle.tokens.specs.Text.{bytesOf, malformed, taken, takeText}
-use Rattle.tokens.specs.Number.{isDigit, digits, afterDigits, valueFrom, noLeadingZero, wellFormed}
+use Rattle.tokens.specs.Number.{isDigit, digits, afterDigits, valueFrom, noLeadingZero, wellFormed, leading, readDigits}
 use Rattle.tokens.specs.Number.{readUnsigned, negated, positive, readNumber, decimal, unsignedText}
-use Rattle.tokens.specs.Unsigned.{leading, readDigits}
 use Rattle.lines.specs.Lines.{ahead, lines}
 use Rattle.closure.specs.Weights.{lastClosed}
 use Rattle.table_tests.specs.TableTests.{ageInTable}

@@ -9,8 +9,7 @@ use native.Mathlib.Omega.{arith}
 use lib.ListN.{length, getD, drop, drop-of-length-le}
 use lib.Seq.{drop-cons}
 use Rattle.tokens.specs.Text.{bytesOf, malformed, taken, takeText}
-use Rattle.tokens.specs.Number.{zeroDigit, isDigit}
-use Rattle.tokens.specs.Unsigned.{readDigits}
+use Rattle.tokens.specs.Number.{zeroDigit, isDigit, readDigits}
 use Rattle.tokens.specs.DigitLaws.{digit-bounds, digit-within}
 use Rattle.tokens.specs.FixedLaws.{read-all, read-past, read-other, read-digit}
 use Rattle.tokens.specs.NumberTrip.{malformed-not-taken}
@@ -19,6 +18,7 @@ use Rattle.query.specs.Query.{readField}
 use Rattle.query.specs.QueryLaws.{alone-taken}
 use Rattle.column_text.specs.declared.Entry.{Entry}
 use Rattle.column_text.specs.Column.{wholes, decimals, readQ, readEntry}
+use Rattle.column_text.specs.Code.{mostSteps}
 
 -- ---- in a list
 
@@ -38,10 +38,6 @@ digits-small v (suc n) (b ∷ bs) {w} {rest} e = go (λ q. digits-small (v * 10 
         let l = ih (sym (read-digit v n b bs h) ∙ e) in
         rw (pow-suc 10 n) (lt-of-lt-of-le l (digit-within v (b - zeroDigit) 10 (10 ^ n) (omega arith)))
     go ih false h = malformed-not-taken (sym (read-other v n b bs h) ∙ e)
-
--- q has at most 999,999 steps
-abbrev pub mostSteps : ℕ
-mostSteps = 10 ^ (wholes + decimals)
 
 pub q-small : (bs : List ℕ) {v : ℕ} {rest : List ℕ} → readQ bs ≡ taken v rest → v < mostSteps
 unfolding readQ

@@ -6,16 +6,15 @@ use Prim.Native.Nat.{ℕ, _+_, _/_, _^_, _<_}
 use native.Mathlib.Omega.{arith}
 use Rattle.tokens.specs.Text.{bytesOf, taken}
 use Rattle.tokens.specs.TextLaws.{takeText-split}
-use Rattle.tokens.specs.Number.{zeroDigit, valueFrom}
+use Rattle.tokens.specs.Number.{zeroDigit, valueFrom, readDigits}
 use Rattle.tokens.specs.DigitLaws.{digit-between}
 use Rattle.tokens.specs.DecimalLaws.{text-small}
-use Rattle.tokens.specs.Unsigned.{readDigits}
 use Rattle.tokens.specs.Steps.{goes}
 use Rattle.tokens.specs.FixedLaws.{fixed-reads}
 use Rattle.figure_text.specs.FigureText.{lastDigits, stepsText}
 use Rattle.figure_text.specs.ReadingLaws.{last-reads, text-apart}
 use Rattle.column_text.specs.Column.{wholes, decimals, readQ}
-use Rattle.column_text.specs.QLaws.{mostSteps}
+use Rattle.column_text.specs.Code.{mostSteps}
 
 -- the one digit of a number below 10
 one-reads : (w : ℕ) (rest : List ℕ) → w < 10 → readDigits 0 wholes ((zeroDigit + w) ∷ rest) ≡ taken w rest

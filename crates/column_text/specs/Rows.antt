@@ -3,9 +3,8 @@ use mathlib.Core.Path.{_≡_, refl}
 use mathlib.Core.List.{[]}
 use lib.IntN.{pos, negsuc}
 use Rattle.tokens.specs.Text.{bytesOf, malformed, taken, takeText}
-use Rattle.tokens.specs.Number.{isDigit, digits, afterDigits, valueFrom, noLeadingZero, wellFormed}
+use Rattle.tokens.specs.Number.{isDigit, digits, afterDigits, valueFrom, noLeadingZero, wellFormed, leading, readDigits}
 use Rattle.tokens.specs.Number.{readUnsigned, negated, positive, readNumber}
-use Rattle.tokens.specs.Unsigned.{leading, readDigits}
 use Rattle.query.specs.Query.{readField, alone}
 use Rattle.column_text.specs.Column.{readQ, readEntry}
 

@@ -7,8 +7,7 @@ use lib.Dec.{eqb, ltb}
 use lib.IntN.{natAbs}
 use lib.ListN.{getD, set, replicate}
 use Rattle.whole.specs.Listed.{every}
-use Rattle.tokens.specs.Text.{Parse, malformed, taken}
-use Rattle.tokens.specs.Steps.{andThen}
+use Rattle.tokens.specs.Text.{Parse, malformed, taken, andThen}
 use Rattle.table_tests.specs.TableTests.{ageInTable}
 use Rattle.column_text.specs.declared.Entry.{Entry}
 use Rattle.column_text.specs.Column.{columnLines, readEntry}

@@ -14,8 +14,8 @@ use lib.ListN.{length, getD, drop, length-append, length-set, length-replicate, 
 use lib.Seq.{append-snoc, drop-cons, drop-drop, getD-set-same, getD-set-other}
 use Rattle.whole.specs.Listed.{every, listed}
 use Rattle.whole.specs.Table.{at, listed-length, listed-at}
-use Rattle.tokens.specs.Text.{Parse, malformed, taken}
-use Rattle.tokens.specs.Steps.{andThen, goes, stops}
+use Rattle.tokens.specs.Text.{Parse, malformed, taken, andThen}
+use Rattle.tokens.specs.Steps.{goes, stops}
 use Rattle.lines.specs.Lines.{firstLine, afterLine, lines}
 use Rattle.lines.specs.LineLaws.{after-drop, line-some, lines-none, lines-first}
 use Rattle.closure.specs.Weights.{lastClosed}

@@ -2,11 +2,10 @@
 ghost use mathlib.Core.Path.{_≡_};
 ghost use Prim.Native.Nat.{_≤_, _<_};
 ghost use lib.ListN.{drop};
-ghost use Rattle.tokens.specs.Unsigned.{readDigits};
+ghost use Rattle.tokens.specs.Number.{readDigits};
 ghost use Rattle.column_text.specs.Column.{decimals, readQ, readEntry, columnOf};
 ghost use Rattle.column_text.specs.Table.{withEntry, withLine, tableSteps};
-ghost use Rattle.column_text.specs.QLaws.{mostSteps};
-ghost use Rattle.column_text.specs.Code.{unsignedRead, entryRead, listRead, columnRead};
+ghost use Rattle.column_text.specs.Code.{mostSteps, unsignedRead, entryRead, listRead, columnRead};
 use closure::LAST_CLOSED;
 use tokens::NumberRead;
 use tokens::UnsignedRead;

@@ -1,10 +1,8 @@
 -- A figure's text read back: the whole part, the point and the decimals, as a number of steps.
 use mathlib.Core.List.{List}
 use Prim.Native.Nat.{ℕ}
-use Rattle.tokens.specs.Text.{bytesOf, Parse, takeText}
-use Rattle.tokens.specs.Number.{readUnsigned}
-use Rattle.tokens.specs.Unsigned.{readDigits}
-use Rattle.tokens.specs.Steps.{andThen}
+use Rattle.tokens.specs.Text.{bytesOf, Parse, takeText, andThen}
+use Rattle.tokens.specs.Number.{readUnsigned, readDigits}
 
 -- a number without a sign, a point and d digits: the number that the digits stand for with the point left out
 unfoldable pub readSteps : ℕ → List ℕ → Parse ℕ

@@ -11,7 +11,7 @@ use Rattle.tokens.specs.TextLaws.{takeText-split}
 use Rattle.tokens.specs.Number.{zeroDigit, mostDigits, isDigit, digits, afterDigits, noLeadingZero, wellFormed, readUnsigned}
 use Rattle.tokens.specs.Number.{valueFrom, unsignedText}
 use Rattle.tokens.specs.DigitLaws.{digit-between}
-use Rattle.tokens.specs.Unsigned.{readDigits}
+use Rattle.tokens.specs.Number.{readDigits}
 use Rattle.tokens.specs.Steps.{goes}
 use Rattle.tokens.specs.RunLaws.{value-on}
 use Rattle.tokens.specs.NumberTrip.{AllDigits, all-append, malformed-not-taken, unsigned-reads}

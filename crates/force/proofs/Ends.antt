@@ -12,7 +12,8 @@ use mir.Val.{Fits, SFits}
 use mir.Facts.{toZ-ofZ}
 use Rattle.whole.specs.Parts.{below}
 use Rattle.whole.specs.Sign.{below-sign, below-size}
-use Rattle.whole.specs.Bound.{bits, Under, under-pos, under-weaken, under-add, fits, back}
+use Rattle.whole.specs.Sizes.{Under}
+use Rattle.whole.specs.Bound.{bits, under-pos, under-weaken, under-add, fits, back}
 use Rattle.whole.specs.DivisionLaws.{ceilℕ-least}
 use Rattle.whole.specs.declared.SignedEnds.{SignedEnds}
 use Rattle.expo.specs.declared.Ends.{Ends}
@@ -22,7 +23,7 @@ use Rattle.expo.specs.BillionthsFacts.{billionths-sound}
 use Rattle.expo.specs.AtMostOne.{exp-lower-one, exp-upper-one}
 use Rattle.whole.proofs.Signed.{sum}
 use Rattle.series.specs.Series.{lowestForce}
-use Rattle.series.specs.RangeLaws.{Negated}
+use Rattle.series.specs.Within.{Negated}
 use Rattle.logarithm.specs.Logarithm.{powerLower, powerUpper, logTermsLower, logTermsUpper, logRest, logLower, logUpper}
 use Rattle.logarithm.specs.Powers.{power-lower-bound, power-upper-bound}
 use Rattle.logistic.proofs.Force.{negated}

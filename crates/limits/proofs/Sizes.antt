@@ -10,7 +10,8 @@ use lib.Signed.{_≤ℤ_, ltZ, leZ}
 use mir.Syntax.{w64}
 use mir.Val.{SFits, toZ, ofZ}
 use mir.Facts.{toZ-ofZ}
-use Rattle.whole.specs.Bound.{Under, under-lit}
+use Rattle.whole.specs.Sizes.{Under}
+use Rattle.whole.specs.Bound.{under-lit}
 use Rattle.params.specs.Limits.{within}
 
 -- −limit fits

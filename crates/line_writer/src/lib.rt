@@ -9,7 +9,7 @@ ghost use Rattle.params.specs.Set.{ages};
 ghost use Rattle.sheet.specs.Sheet.{lineText, headText};
 ghost use Rattle.printing.specs.Put.{Room, Put};
 ghost use Rattle.params.specs.Limits.{inLimits};
-ghost use Rattle.params.specs.LimitsLaws.{AgeWithin};
+ghost use Rattle.params.specs.Within.{AgeWithin};
 ghost use Rattle.sheet_length.specs.Parts.{seriesText, ageText};
 ghost use Rattle.line_writer.specs.Value.{valueText};
 use params::Age;

@@ -11,14 +11,14 @@ use mir.Syntax.{w64}
 use mir.Val.{Fits, SFits}
 use Rattle.whole.specs.Division.{ceilDivℕ}
 use Rattle.whole.specs.Sign.{Sign, minus, plain, sign}
-use Rattle.whole.specs.Bound.{bits, Under, under-pos, fits, back}
+use Rattle.whole.specs.Sizes.{Under}
+use Rattle.whole.specs.Bound.{bits, under-pos, fits, back}
 use Rattle.expo.specs.Exponential.{expLower, expUpper}
 use Rattle.expo.specs.Billionths.{billionths}
 use Rattle.expo.specs.BillionthsFacts.{billionths-sound}
 use Rattle.expo.specs.AtMostOne.{exp-lower-one, exp-upper-one}
 use Rattle.whole.proofs.Signed.{read}
-use Rattle.logistic.specs.Logistic.{logisticLower, logisticUpper}
-use Rattle.logistic.specs.Logistic.{overOneLower, overOneUpper, shareLower, shareUpper}
+use Rattle.logistic.specs.Logistic.{logisticLower, logisticUpper, overOneLower, overOneUpper, shareLower, shareUpper}
 use Rattle.logistic.specs.Code.{closedLimit}
 
 -- ---- the size of an end

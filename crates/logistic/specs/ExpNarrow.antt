@@ -4,8 +4,7 @@
 use Prim.Native.Nat.{ℕ, _≤_, _<_}
 use native.Mathlib.Omega.{arith}
 use Rattle.fraction.specs.Ratio.{Ratio, _≤/_, whole/, _+/_, quotient/}
-use Rattle.fraction.specs.RatioLaws.{≤/-refl, ≤/-trans, </→≤/, +/-mono, +/-comm, +/-assoc, */-mono, */-+/, */-one}
-use Rattle.fraction.specs.RatioLaws.{one-*/}
+use Rattle.fraction.specs.RatioLaws.{≤/-refl, ≤/-trans, </→≤/, +/-mono, +/-comm, +/-assoc, */-mono, */-+/, */-one, one-*/}
 use Rattle.taylor.specs.Order.{orderLower, orderUpper}
 use Rattle.taylor.specs.OrderLaws.{upper-antitone, upper-below-one, narrow-below}
 use Rattle.taylor.specs.Sums.{sum-slope}

@@ -26,8 +26,8 @@ use Rattle.params.specs.declared.Params.{Params}
 use Rattle.series.specs.Series.{logForce, highestForce}
 use Rattle.series.specs.Exact.{exactLogForce}
 use Rattle.series.specs.SeriesLaws.{logForce-holds}
-use Rattle.series.specs.WidthLaws.{logForceWidth}
-use Rattle.series.specs.RangeLaws.{Negated, negated-holds}
+use Rattle.series.specs.Within.{logForceWidth, Negated}
+use Rattle.series.specs.RangeLaws.{negated-holds}
 use Rattle.logarithm.specs.Logarithm.{logLower, logUpper, inverseLogistic}
 use Rattle.logarithm.specs.Force.{force-half}
 use Rattle.logarithm.specs.Holds.{log-overlap}

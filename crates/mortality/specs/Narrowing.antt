@@ -21,8 +21,7 @@ use Rattle.expo.specs.BillionthsFacts.{billionths-sound}
 use Rattle.expo.specs.Grid.{inUnits}
 use Rattle.params.specs.declared.Params.{Params}
 use Rattle.series.specs.Series.{logForce, highestForce}
-use Rattle.series.specs.WidthLaws.{logForceWidth}
-use Rattle.series.specs.RangeLaws.{Negated}
+use Rattle.series.specs.Within.{logForceWidth, Negated}
 use Rattle.logarithm.specs.Exact.{logSum, logRemainder, orderLogLower, orderLogUpper}
 use Rattle.logarithm.specs.Brackets.{log-upper-falls, log-brackets-agree}
 use Rattle.logarithm.specs.Half.{half, logOrder}

@@ -9,8 +9,8 @@ use borrow.Author.Tests.{lt-ltb, le-ltb}
 use mir.Facts.{and-yes}
 use Rattle.params.specs.declared.Params.{Params}
 use Rattle.series.specs.Series.{logForce, inRange}
-use Rattle.series.specs.WidthLaws.{logForceWidth}
-use Rattle.series.specs.RangeLaws.{Negated, logForce-negated}
+use Rattle.series.specs.Within.{logForceWidth, Negated}
+use Rattle.series.specs.RangeLaws.{logForce-negated}
 use Rattle.closure.specs.Weights.{fitted, firstFitted, firstClosed}
 use Rattle.mortality.specs.Cell.{fittedInRange, neededInRange}
 use Rattle.mortality.specs.Answered.{Answered}

@@ -11,8 +11,7 @@ use Rattle.taylor.specs.Order.{leastOrder}
 use Rattle.taylor.specs.OrderLaws.{orders-agree}
 use Rattle.params.specs.declared.Params.{Params}
 use Rattle.series.specs.Series.{logForce}
-use Rattle.series.specs.WidthLaws.{logForceWidth}
-use Rattle.series.specs.RangeLaws.{Negated}
+use Rattle.series.specs.Within.{logForceWidth, Negated}
 use Rattle.logarithm.specs.Brackets.{log-agrees}
 use Rattle.closure.specs.Weights.{fitted, firstFitted, firstClosed}
 use Rattle.logistic.specs.Units.{Meet}

@@ -18,8 +18,8 @@ use Rattle.expo.specs.WidthFacts.{Narrow, expWidth}
 use Rattle.expo.specs.Width.{exp-width}
 use Rattle.params.specs.declared.Params.{Params}
 use Rattle.series.specs.Series.{logForce}
-use Rattle.series.specs.WidthLaws.{logForceWidth, logForce-width, logForce-ordered}
-use Rattle.series.specs.RangeLaws.{Negated}
+use Rattle.series.specs.Within.{logForceWidth, Negated}
+use Rattle.series.specs.WidthLaws.{logForce-width, logForce-ordered}
 use Rattle.logarithm.specs.Logarithm.{logLower, logUpper, inverseLogistic}
 use Rattle.logarithm.specs.WidthFacts.{logWidth}
 use Rattle.logarithm.specs.Sums.{log-sum-monotone}

@@ -6,8 +6,8 @@ use mathlib.Core.List.{List, _++_, map}
 use lib.Bits.{bitAnd, and-le-r}
 use lib.Dec.{lit<}
 use lib.ListN.{length, take, replicate, length-append, length-replicate, length-map}
-use Rattle.words.specs.Word.{byteBits, wordBytes, bytesIn, laneSum}
-use Rattle.words.specs.LaneLaws.{Below, lanes-below, lanes-length, lanes-take}
+use Rattle.words.specs.Word.{byteBits, wordBytes, bytesIn, laneSum, Below}
+use Rattle.words.specs.LaneLaws.{lanes-below, lanes-length, lanes-take}
 use Rattle.tokens.specs.Number.{digits, value}
 use Rattle.tokens.specs.DigitLaws.{digits-length}
 use Rattle.numbers.specs.Parts.{numeral}

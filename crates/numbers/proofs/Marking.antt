@@ -10,8 +10,8 @@ use lib.Dec.{T, eqb, eqb→eq, lit<, lit≤}
 use lib.ListN.{length}
 use Rattle.whole.specs.Listed.{every, listed}
 use Rattle.whole.specs.Table.{at, listed-length, listed-at}
-use Rattle.words.specs.Word.{byteBits, wordBytes, bytesIn, laneSum, wordOf}
-use Rattle.words.specs.LaneLaws.{Below, lanes-below, lanes-length}
+use Rattle.words.specs.Word.{byteBits, wordBytes, bytesIn, laneSum, wordOf, Below}
+use Rattle.words.specs.LaneLaws.{lanes-below, lanes-length}
 use Rattle.tokens.specs.Number.{isDigit}
 use Rattle.numbers.specs.Parts.{mark}
 use Rattle.numbers.specs.Lanewise.{spread, map-agree, Lanewise, itself, constant}

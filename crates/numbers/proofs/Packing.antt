@@ -5,8 +5,8 @@ use native.Mathlib.Nat.{mul-le-mul-right}
 use native.Mathlib.Omega.{arith}
 use lib.Bits.{bitAnd, and-le-r}
 use lib.Dec.{lit≤}
-use Rattle.words.specs.Word.{byteBits, wordBytes, bytesIn}
-use Rattle.words.specs.LaneLaws.{Below, lanes-length}
+use Rattle.words.specs.Word.{byteBits, wordBytes, bytesIn, Below}
+use Rattle.words.specs.LaneLaws.{lanes-length}
 use Rattle.numbers.specs.Parts.{numeral, pairs}
 use Rattle.numbers.specs.PairLaws.{pairs-numeral}
 use Rattle.numbers.specs.JoinLaws.{lowOfTwo, joined, Packs, packs-join, packs-one}

@@ -9,8 +9,8 @@ use lib.ListN.{length, take, drop, length-take, length-drop}
 use lib.Seq.{take-nil, take-all, take-take, drop-drop, length-take-le}
 use Rattle.words.specs.Word.{byteBits, wordBytes, bytesIn}
 use Rattle.words.specs.LaneLaws.{lanes-length}
-use Rattle.tokens.specs.Number.{digits, value}
-use Rattle.tokens.specs.Unsigned.{leading, DigitsRead}
+use Rattle.tokens.specs.Number.{digits, value, leading}
+use Rattle.tokens.specs.Unsigned.{DigitsRead}
 use Rattle.tokens.specs.DigitLaws.{digits-length}
 use Rattle.tokens.specs.RunLaws.{digits-front, digits-take, digits-stop, digits-on, digits-second, value-parts}
 

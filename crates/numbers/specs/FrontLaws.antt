@@ -6,7 +6,7 @@ use mathlib.Core.Bool.{Bool, true, false}
 use mathlib.Core.List.{List, [], _∷_, map}
 use lib.Bits.{bitAnd, and-mask}
 use lib.ListN.{length, take}
-use Rattle.words.specs.LaneLaws.{Below, none, more}
+use Rattle.words.specs.Word.{Below, none, more}
 use Rattle.tokens.specs.Number.{zeroDigit, isDigit, digits, valueFrom}
 use Rattle.tokens.specs.DigitLaws.{digit-bounds, digits-more, digits-end}
 use Rattle.numbers.specs.Parts.{numeral}

@@ -9,8 +9,7 @@ use lib.Arith.{digits-lt}
 use lib.Bits.{bitAnd, and-block, and-mask, and-zero-r}
 use lib.ListN.{length}
 use lib.Pow.{pow-pos, pow-add, ones-lt, pow-mono, split, high, low}
-use Rattle.words.specs.Word.{laneSum}
-use Rattle.words.specs.LaneLaws.{Below, none, more}
+use Rattle.words.specs.Word.{laneSum, Below, none, more}
 use Rattle.numbers.specs.Parts.{numeral, pairs}
 use Rattle.numbers.specs.Lanewise.{spread}
 use Rattle.numbers.specs.PairLaws.{below-more, pairs-length, pairs-below, two-places}

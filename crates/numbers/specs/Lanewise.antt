@@ -5,8 +5,7 @@ use native.Mathlib.Omega.{arith}
 use mathlib.Core.List.{List, [], _∷_, map}
 use lib.Bits.{bitAnd, bitOr, bitXor, and-block, or-block, xor-block, and-lt, or-lt, xor-lt}
 use lib.ListN.{length, replicate}
-use Rattle.words.specs.Word.{laneSum}
-use Rattle.words.specs.LaneLaws.{Below, none, more}
+use Rattle.words.specs.Word.{laneSum, Below, none, more}
 
 -- n lanes of k bits, each m
 abbrev pub spread : ℕ → ℕ → ℕ → ℕ

@@ -6,7 +6,7 @@ use native.Mathlib.Omega.{arith}
 use mathlib.Core.List.{List, [], _∷_}
 use lib.Arith.{digits-lt}
 use lib.ListN.{length}
-use Rattle.words.specs.LaneLaws.{Below, none, more}
+use Rattle.words.specs.Word.{Below, none, more}
 use Rattle.tokens.specs.DigitLaws.{digit-within}
 use Rattle.numbers.specs.Parts.{numeral, pairs}
 

@@ -7,8 +7,8 @@ use mathlib.Core.List.{List, _∷_, _++_, map}
 use lib.ListN.{length, replicate}
 use lib.Pow.{pow-add}
 use lib.Seq.{take-all}
-use Rattle.words.specs.Word.{laneSum, lanes}
-use Rattle.words.specs.LaneLaws.{Below, more, lanes-of-sum, sum-of-lanes, shifted}
+use Rattle.words.specs.Word.{laneSum, lanes, Below, more}
+use Rattle.words.specs.LaneLaws.{lanes-of-sum, sum-of-lanes, shifted}
 use Rattle.numbers.specs.Parts.{numeral}
 
 -- a word is made up of its lanes, and lanes are those of the word that they make up

@@ -1,5 +1,6 @@
 pub mod Refusals
 pub mod Set
 pub mod Limits
+pub mod Within
 pub mod LimitsLaws
 pub mod RefusalLaws

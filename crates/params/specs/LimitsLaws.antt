@@ -8,31 +8,14 @@ use native.Mathlib.Omega.{arith}
 use lib.Dec.{T}
 use lib.Ieee.Fits.{and-l, and-r}
 use lib.IntN.{ℤ, pos, _+ℤ_, _*ℤ_}
-use Rattle.whole.specs.Bound.{Under, under-lit}
+use Rattle.whole.specs.Sizes.{Under}
+use Rattle.whole.specs.Bound.{under-lit}
 use Rattle.params.specs.declared.Params.{Params}
 use Rattle.params.specs.declared.Age.{Age}
 use Rattle.params.specs.Set.{ages, ageOf}
 use Rattle.params.specs.Limits.{levelLimit, slopeLimit, aLimit, thetaLimit, periodLimit, kappaLimit, lastYears}
 use Rattle.params.specs.Limits.{within, ageInLimits, agesInLimits, seriesInLimits, inLimits}
-
--- the four parameters of an age
-pub record AgeWithin (a : Age) : Type 0 where
-  pub level : Under (a .level) levelLimit
-  pub slope : Under (a .slope) slopeLimit
-  pub alpha : Under (a .alpha) levelLimit
-  pub beta : Under (a .beta) slopeLimit
-
--- theta, K and K + 171·theta
-pub record PeriodWithin (k t : ℤ) : Type 0 where
-  pub theta : Under t thetaLimit
-  pub start : Under k periodLimit
-  pub last : Under (k +ℤ pos lastYears *ℤ t) periodLimit
-
--- these, a and k
-pub record SeriesWithin (p : Params) : Type 0 where
-  pub a : Under (p .a) aLimit
-  pub index : PeriodWithin (p .period) (p .theta)
-  pub kappa : Under (p .kappa) kappaLimit
+use Rattle.params.specs.Within.{AgeWithin, PeriodWithin, SeriesWithin}
 
 both : (a b : Bool) → T (a && b) → T a × T b
 both a b t = (and-l a b t, and-r a b t)

@@ -8,7 +8,8 @@ use lib.IntN.{ℤ, pos, negsuc, natAbs}
 use lib.Signed.{_≤ℤ_, _<ℤ_, nonNeg}
 use mir.Syntax.{w64}
 use mir.Val.{SFits}
-use Rattle.whole.specs.Bound.{Under, under-lit, under-sub, fits}
+use Rattle.whole.specs.Sizes.{Under}
+use Rattle.whole.specs.Bound.{under-lit, under-sub, fits}
 use Rattle.whole.specs.Split.{split}
 use Rattle.whole.proofs.Rounding.{diff, diff-is}
 use Rattle.tokens.specs.Number.{mostDigits}

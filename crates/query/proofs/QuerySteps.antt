@@ -6,8 +6,8 @@ use mathlib.Core.List.{List, []}
 use lib.IntN.{ℤ}
 use lib.ListN.{length, drop, drop-of-length-le}
 use lib.Seq.{drop-cons}
-use Rattle.tokens.specs.Text.{bytesOf, Parse, malformed, taken, takeText}
-use Rattle.tokens.specs.Steps.{andThen, goes, stops}
+use Rattle.tokens.specs.Text.{bytesOf, Parse, malformed, taken, takeText, andThen}
+use Rattle.tokens.specs.Steps.{goes, stops}
 use Rattle.kinds.specs.declared.Kind.{Kind}
 use Rattle.query.specs.declared.Query.{Query}
 use Rattle.query.specs.declared.KindRead.{KindRead}

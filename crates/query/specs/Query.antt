@@ -5,9 +5,8 @@ use Prim.Native.Nat.{ℕ}
 use mathlib.Core.Bool.{cond}
 use mathlib.Core.List.{List, [], _∷_, _++_}
 use lib.IntN.{ℤ, pos}
-use Rattle.tokens.specs.Text.{bytesOf, Parse, malformed, taken, takeText}
+use Rattle.tokens.specs.Text.{bytesOf, Parse, malformed, taken, takeText, andThen}
 use Rattle.tokens.specs.Number.{readNumber, numberText}
-use Rattle.tokens.specs.Steps.{andThen}
 use Rattle.kinds.specs.declared.Kind.{Kind}
 use Rattle.kinds.specs.declared.Kind.the-variants.{Death, CohortSurvival, PeriodSurvival, CohortExpectancy, PeriodExpectancy}
 use Rattle.kinds.specs.declared.Kind.the-variants.{CohortAnnuity, PeriodAnnuity}

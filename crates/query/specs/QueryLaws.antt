@@ -9,11 +9,11 @@ use lib.Dec.{T}
 use lib.IntN.{ℤ, natAbs}
 use lib.ListN.{length, length-append}
 use Rattle.whole.specs.Clash.{clash}
-use Rattle.tokens.specs.Text.{bytesOf, Parse, malformed, taken, takeText}
+use Rattle.tokens.specs.Text.{bytesOf, Parse, malformed, taken, takeText, andThen}
 use Rattle.tokens.specs.Number.{mostDigits, isDigit, numberText}
 use Rattle.tokens.specs.TextLaws.{takeText-split, takeText-whole}
 use Rattle.tokens.specs.DecimalLaws.{number-length}
-use Rattle.tokens.specs.Steps.{andThen, goes}
+use Rattle.tokens.specs.Steps.{goes}
 use Rattle.tokens.specs.NumberTrip.{noDigitFirst, malformed-not-taken, number-reads, number-read}
 use Rattle.sheet.specs.SheetTrip.{then-taken}
 use Rattle.kinds.specs.declared.Kind.{Kind}

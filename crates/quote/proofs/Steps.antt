@@ -8,7 +8,8 @@ use lib.Dec.{T}
 use lib.IntN.{ℤ, pos, negsuc, natAbs, _-ℤ_}
 use lib.Ieee.Bits.{is-true}
 use Rattle.whole.specs.Clash.{clash}
-use Rattle.whole.specs.Bound.{Under, under-pos}
+use Rattle.whole.specs.Sizes.{Under}
+use Rattle.whole.specs.Bound.{under-pos}
 use Rattle.whole.specs.Split.{split, split-sub}
 use Rattle.params.specs.declared.Params.{Params}
 use Rattle.params.specs.declared.Refusal.{Refusal}

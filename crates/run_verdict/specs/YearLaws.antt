@@ -5,9 +5,8 @@ use Prim.Native.Nat.{ℕ, _^_, _≤_, _<_}
 use lib.IntN.{ℤ, natAbs}
 use Rattle.tokens.specs.declared.NumberRead.{NumberRead}
 use Rattle.tokens.specs.declared.NumberRead.the-variants.{Malformed, Number}
-use Rattle.tokens.specs.Text.{bytesOf, Parse, malformed, taken, takeText}
+use Rattle.tokens.specs.Text.{bytesOf, Parse, malformed, taken, takeText, andThen}
 use Rattle.tokens.specs.Number.{mostDigits, readNumber}
-use Rattle.tokens.specs.Steps.{andThen}
 use Rattle.sheet.specs.Sheet.{readLine}
 use Rattle.sheet.specs.SheetTrip.{line-read}
 use Rattle.query.specs.Query.{readField}

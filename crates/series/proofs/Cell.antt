@@ -12,7 +12,8 @@ use Rattle.params.specs.declared.Age.{Age}
 use Rattle.whole.specs.EndLaws.{least-under, greatest-under}
 use Rattle.whole.proofs.Signed.{read, read-floor, read-ceil, sum, product}
 use Rattle.series.specs.Series.{coefficientUnit, cellForce}
-use Rattle.series.specs.BoundLaws.{CellLimits, least-sum-under, greatest-sum-under, cellForce-under}
+use Rattle.series.specs.Within.{CellLimits}
+use Rattle.series.specs.BoundLaws.{least-sum-under, greatest-sum-under, cellForce-under}
 
 module _ {age : Age} {k : ℤ} {e : SignedEnds} (l : CellLimits age k e) where
   -- A + alpha

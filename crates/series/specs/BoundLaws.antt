@@ -5,16 +5,19 @@ use native.Mathlib.Nat.{mul-le-mul-right}
 use lib.Dec.{T, lit<, lit≤}
 use lib.IntN.{ℤ, pos, negsuc, _+ℤ_, _*ℤ_}
 use Rattle.whole.specs.Split.{split, split-add, split-scale-left}
-use Rattle.whole.specs.Bound.{Under, under-between, under-low, under-high, under-add, under-mul}
+use Rattle.whole.specs.Sizes.{Under, Within}
+use Rattle.whole.specs.Bound.{under-between, under-low, under-high, under-add, under-mul}
 use Rattle.whole.specs.declared.SignedEnds.{SignedEnds}
 use Rattle.whole.specs.SignedEnds.{leastProduct, greatestProduct}
 use Rattle.params.specs.declared.Params.{Params}
 use Rattle.params.specs.declared.Age.{Age}
 use Rattle.params.specs.Set.{ages, ageOf}
 use Rattle.params.specs.Limits.{levelLimit, slopeLimit, aLimit, periodLimit, kappaLimit, lastYears, inLimits}
-use Rattle.params.specs.LimitsLaws.{PeriodWithin, AgeWithin, in-limits-series, in-limits-age}
-use Rattle.whole.specs.EndLaws.{Within, least-under, greatest-under, outward-under}
+use Rattle.params.specs.Within.{PeriodWithin, AgeWithin}
+use Rattle.params.specs.LimitsLaws.{in-limits-series, in-limits-age}
+use Rattle.whole.specs.EndLaws.{least-under, greatest-under, outward-under}
 use Rattle.series.specs.Series.{periodIn, periodIndex, kappaStep, kappaIn, kappa, cellForce}
+use Rattle.series.specs.Within.{CellLimits}
 
 -- k + n·t lies between k and k + m·t
 between : (k t : ℤ) {n m b : ℕ} → n ≤ m → Under k b → Under (k +ℤ pos m *ℤ t) b → Under (k +ℤ pos n *ℤ t) b
@@ -60,12 +63,6 @@ quotientLimit = 55000000000
 
 abbrev pub forceLimit : ℕ
 forceLimit = levelLimit + levelLimit + quotientLimit
-
--- what the log force of a cell is formed of is in its limits
-pub record CellLimits (a : Age) (k : ℤ) (e : SignedEnds) : Type 0 where
-  pub age : AgeWithin a
-  pub period : Under k periodLimit
-  pub kappas : Within kappaLimit e
 
 -- so it is for a set in its limits, in every year of a quote
 pub cell-limits : (p : Params) → T (inLimits p) → {x n : ℕ} → x < ages → n ≤ lastYears

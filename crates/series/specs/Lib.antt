@@ -2,6 +2,7 @@
 pub mod Series
 pub mod Exact
 pub mod Year
+pub mod Within
 -- laws
 pub mod SeriesLaws
 pub mod WidthLaws

@@ -19,8 +19,8 @@ use Rattle.params.specs.Limits.{lastYears, inLimits}
 use Rattle.whole.specs.EndLaws.{Wide}
 use Rattle.fraction.specs.EndsHold.{Holds}
 use Rattle.series.specs.Series.{cellForce, logForce, lowestForce, highestForce, inRange}
-use Rattle.series.specs.BoundLaws.{CellLimits}
-use Rattle.series.specs.WidthLaws.{logForceWidth, cellForce-wide, logForce-wide}
+use Rattle.series.specs.Within.{CellLimits, logForceWidth, Negated}
+use Rattle.series.specs.WidthLaws.{cellForce-wide, logForce-wide}
 
 -- lower end at least −30,000,000,000, upper end at most −700,000,000
 pub record InRange (m : SignedEnds) : Type 0 where
@@ -33,15 +33,6 @@ in-range m t =
     let l = leZ lowestForce (m .lower) in
     let h = leZ (m .upper) highestForce in
     record { low = leZ-yes (and-l l h t); high = leZ-yes (and-r l h t) }
-
--- the ends of z = −m
-pub record Negated (m : SignedEnds) (w : ℕ) : Type 0 where
-  pub least : below highestForce ≤ below (m .upper)
-  pub most : below (m .lower) ≤ below lowestForce
-  pub ordered : below (m .upper) ≤ below (m .lower)
-  pub width : below (m .lower) ≤ below (m .upper) + w
-  pub lower : negℤ (m .lower) ≡ pos (below (m .lower))
-  pub upper : negℤ (m .upper) ≡ pos (below (m .upper))
 
 -- a number below zero is its part below zero, negated
 negative : (z : ℤ) → z <ℤ pos 0 → (negℤ z ≡ pos (below z)) × (above z ≡ 0)

@@ -6,7 +6,7 @@ use lib.Dec.{T, lit<}
 use lib.IntN.{ℤ, pos, _+ℤ_, _*ℤ_}
 use lib.Signed.{_≤ℤ_}
 use Rattle.whole.specs.Split.{split, split-add}
-use Rattle.whole.specs.Bound.{Under}
+use Rattle.whole.specs.Sizes.{Under}
 use Rattle.whole.specs.declared.SignedEnds.{SignedEnds}
 use Rattle.params.specs.declared.Params.{Params}
 use Rattle.params.specs.declared.Age.{Age}
@@ -15,10 +15,7 @@ use Rattle.params.specs.Limits.{slopeLimit, aLimit, lastYears, inLimits}
 use Rattle.params.specs.LimitsLaws.{in-limits-series, in-limits-age}
 use Rattle.whole.specs.EndLaws.{Wide, product-width, outward-width}
 use Rattle.series.specs.Series.{coefficientUnit, periodIndex, kappaStep, kappaIn, kappa, cellForce, logForce}
-
--- the greatest width of a log force in the years of a quote, in units
-abbrev pub logForceWidth : ℕ
-logForceWidth = 19
+use Rattle.series.specs.Within.{logForceWidth}
 
 -- a year widens kappa by at most one unit
 pub kappaStep-wide : {a : ℤ} {e : SignedEnds} {w : ℕ} → Under a aLimit → Wide (e .lower) (e .upper) w

@@ -3,13 +3,13 @@ use mathlib.Core.Path.{_≡_}
 use Prim.Native.Nat.{suc, _≤_, _<_}
 use lib.Dec.{T}
 use lib.IntN.{ℤ, _+ℤ_}
-use Rattle.whole.specs.Bound.{Under}
+use Rattle.whole.specs.Sizes.{Under, Within}
 use Rattle.params.specs.declared.Params.{Params}
 use Rattle.params.specs.declared.Age.{Age}
 use Rattle.params.specs.Limits.{aLimit, thetaLimit, periodLimit, kappaLimit, inLimits, lastYears}
-use Rattle.whole.specs.EndLaws.{Within, Wide}
+use Rattle.whole.specs.EndLaws.{Wide}
 use Rattle.series.specs.Series.{periodIndex, kappaStep, kappa}
-use Rattle.series.specs.BoundLaws.{CellLimits}
+use Rattle.series.specs.Within.{CellLimits}
 use Rattle.series.specs.declared.Year.{Year}
 
 -- y is a year of the table with K and kappa of p, a set in its limits

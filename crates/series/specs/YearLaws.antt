@@ -4,12 +4,12 @@ use Prim.Native.Nat.{ℕ, suc, _<_}
 use native.Mathlib.Omega.{arith}
 use lib.IntN.{ℤ, pos, _+ℤ_, _*ℤ_}
 use Rattle.whole.specs.Split.{split, split-add, split-scale-left}
-use Rattle.whole.specs.Bound.{Under}
+use Rattle.whole.specs.Sizes.{Under, Within}
 use Rattle.params.specs.declared.Params.{Params}
 use Rattle.params.specs.Set.{ages, ageOf}
 use Rattle.params.specs.Limits.{lastYears, periodLimit, kappaLimit}
 use Rattle.params.specs.LimitsLaws.{in-limits-series}
-use Rattle.whole.specs.EndLaws.{Within, Wide}
+use Rattle.whole.specs.EndLaws.{Wide}
 use Rattle.series.specs.Series.{periodIn, periodIndex, kappaIn, cellForce, logForce}
 use Rattle.series.specs.BoundLaws.{period-under, kappa-under, cell-limits}
 use Rattle.series.specs.WidthLaws.{kappa-wide, wide-more}

@@ -2,12 +2,11 @@
 // after, and the log force at an age of it.
 ghost use mathlib.Core.Path.{_≡_};
 ghost use Prim.Native.Nat.{_≤_};
-ghost use Rattle.whole.specs.Bound.{Under};
+ghost use Rattle.whole.specs.Sizes.{Under, Within};
 ghost use Rattle.params.specs.Limits.{aLimit, kappaLimit, lastYears, inLimits};
-ghost use Rattle.params.specs.LimitsLaws.{PeriodWithin};
-ghost use Rattle.whole.specs.EndLaws.{Within};
+ghost use Rattle.params.specs.Within.{PeriodWithin};
 ghost use Rattle.series.specs.Series.{periodIn, kappaStep, kappaIn, cellForce, inRange};
-ghost use Rattle.series.specs.BoundLaws.{CellLimits};
+ghost use Rattle.series.specs.Within.{CellLimits};
 ghost use lib.Dec.{T};
 ghost use Rattle.series.specs.Year.{YearOf, YearWithin, NextOf};
 use params::Age;

@@ -13,8 +13,7 @@ use Rattle.params.specs.declared.Params.{Params}
 use Rattle.params.specs.declared.Sex.{Sex}
 use Rattle.params.specs.declared.Sex.the-variants.{M, F}
 use Rattle.params.specs.declared.Refusal.{Refusal}
-use Rattle.params.specs.declared.Refusal.the-variants.{Accepted, Malformed, OutOfLimits}
-use Rattle.params.specs.declared.Refusal.the-variants.{BufferTooShort}
+use Rattle.params.specs.declared.Refusal.the-variants.{Accepted, Malformed, OutOfLimits, BufferTooShort}
 use Rattle.params.specs.Refusals.{refusalNumber}
 use Rattle.params.specs.RefusalLaws.{accepted}
 use Rattle.params.specs.Set.{Whole}

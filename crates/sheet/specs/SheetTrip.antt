@@ -11,12 +11,12 @@ use lib.Ieee.Bits.{is-true}
 use lib.Ieee.Fits.{and-l, and-r}
 use lib.IntN.{ℤ, natAbs}
 use lib.ListN.{length, length-append}
-use Rattle.tokens.specs.Text.{bytesOf, Parse, malformed, taken, takeText}
-use Rattle.tokens.specs.Steps.{andThen, goes}
+use Rattle.tokens.specs.Text.{bytesOf, Parse, malformed, taken, takeText, andThen}
+use Rattle.tokens.specs.Steps.{goes}
 use Rattle.tokens.specs.TextLaws.{takeText-split, takeText-whole}
 use Rattle.tokens.specs.Number.{isDigit, readNumber, numberText, unsignedText, decimal}
 use Rattle.tokens.specs.DecimalLaws.{number-length}
-use Rattle.whole.specs.Bound.{Under}
+use Rattle.whole.specs.Sizes.{Under}
 use Rattle.params.specs.declared.Params.{Params}
 use Rattle.params.specs.declared.Sex.{Sex}
 use Rattle.params.specs.declared.Sex.the-variants.{M, F}
@@ -31,8 +31,7 @@ use Rattle.sheet.specs.Sheet.{sheetText, readLine, readLines, readHead, 
 use Rattle.sheet.specs.Sheet.{refused, readingOf, readSheet}
 use Rattle.params.specs.LimitsLaws.{in-limits-age, in-limits-series}
 use Rattle.tokens.specs.NumberTrip.{malformed-not-taken, number-reads, number-read}
-use Rattle.sheet.specs.SetTrip.{keys-length, values-length, values-params, params-values}
-use Rattle.sheet.specs.SetTrip.{params-whole}
+use Rattle.sheet.specs.SetTrip.{keys-length, values-length, values-params, params-values, params-whole}
 
 -- every value has at most 15 digits
 abbrev pub AllSmall : List ℤ → Type 0

@@ -6,12 +6,14 @@ use lib.Dec.{T, leb, leb→le}
 use lib.IntN.{ℤ, natAbs}
 use mir.Syntax.{w64}
 use mir.Val.{toZ, ofZ}
-use Rattle.whole.specs.Bound.{Under, under-weaken, back}
+use Rattle.whole.specs.Sizes.{Under}
+use Rattle.whole.specs.Bound.{under-weaken, back}
 use Rattle.tokens.specs.Number.{mostDigits}
 use Rattle.params.specs.declared.Params.{Params}
 use Rattle.params.specs.declared.Age.{Age}
 use Rattle.params.specs.Limits.{periodLimit, inLimits}
-use Rattle.params.specs.LimitsLaws.{AgeWithin, in-limits-series}
+use Rattle.params.specs.Within.{AgeWithin}
+use Rattle.params.specs.LimitsLaws.{in-limits-series}
 
 pub record Held (z : ℤ) : Type 0 where
   pub is : toZ w64 (ofZ w64 z) ≡ z

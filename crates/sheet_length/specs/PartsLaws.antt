@@ -12,8 +12,7 @@ use Rattle.tokens.specs.Number.{unsignedText}
 use Rattle.params.specs.declared.Params.{Params}
 use Rattle.params.specs.declared.Age.{Age}
 use Rattle.params.specs.Set.{ages, ageOf}
-use Rattle.sheet.specs.Sheet.{headBytes, forAges, ageKeys, keys, ageValues, values}
-use Rattle.sheet.specs.Sheet.{lineText, linesText, headText, sheetText}
+use Rattle.sheet.specs.Sheet.{headBytes, forAges, ageKeys, keys, ageValues, values, lineText, linesText, headText, sheetText}
 use Rattle.sheet.specs.SheetTrip.{head-length}
 use Rattle.sheet_length.specs.Parts.{lineLength, seriesText, ageText, agesText}
 

@@ -7,7 +7,7 @@ ghost use lib.ListN.{length};
 ghost use Rattle.tokens.specs.Number.{mostDigits};
 ghost use Rattle.params.specs.Set.{ages};
 ghost use Rattle.params.specs.Limits.{inLimits};
-ghost use Rattle.params.specs.LimitsLaws.{AgeWithin};
+ghost use Rattle.params.specs.Within.{AgeWithin};
 ghost use Rattle.sheet.specs.Sheet.{sheetText};
 ghost use Rattle.sheet_length.specs.Parts.{lineLength, seriesText, ageText};
 use params::AGES;

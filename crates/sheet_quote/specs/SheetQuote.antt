@@ -5,8 +5,7 @@ use Prim.Native.Nat.{ℕ}
 use lib.Dec.{eqb, leb}
 use lib.IntN.{ℤ}
 use lib.ListN.{length, drop}
-use Rattle.tokens.specs.Text.{Parse, malformed, taken}
-use Rattle.tokens.specs.Steps.{andThen}
+use Rattle.tokens.specs.Text.{Parse, malformed, taken, andThen}
 use Rattle.params.specs.declared.Refusal.the-variants.{Accepted, Malformed, BufferTooShort}
 use Rattle.params.specs.Refusals.{refusalNumber}
 use Rattle.sheet.specs.declared.Reading.{Reading}

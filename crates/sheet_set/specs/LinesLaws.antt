@@ -4,9 +4,9 @@ use Prim.Native.Nat.{ℕ, zero, suc, _+_}
 use native.Mathlib.Nat.{suc-add, zero-add}
 use mathlib.Core.List.{List, [], _∷_, _++_}
 use lib.IntN.{ℤ}
-use Rattle.tokens.specs.Text.{Parse, malformed, taken}
+use Rattle.tokens.specs.Text.{Parse, malformed, taken, andThen}
 use Rattle.sheet.specs.Sheet.{forAges, readLine, readLines}
-use Rattle.tokens.specs.Steps.{andThen, goes, stops}
+use Rattle.tokens.specs.Steps.{goes, stops}
 use Rattle.sheet.specs.FourLaws.{after}
 
 after-none : (q : Parse (List ℤ)) → after [] q ≡ q

@@ -6,8 +6,8 @@ use native.Mathlib.Omega.{arith}
 use mathlib.Core.List.{List, [], _∷_}
 use lib.IntN.{ℤ, pos}
 use lib.ListN.{getD}
-use Rattle.tokens.specs.Text.{bytesOf, Parse, malformed, taken}
-use Rattle.tokens.specs.Steps.{andThen, stops}
+use Rattle.tokens.specs.Text.{bytesOf, Parse, malformed, taken, andThen}
+use Rattle.tokens.specs.Steps.{stops}
 use Rattle.params.specs.declared.Params.{Params}
 use Rattle.params.specs.declared.Sex.{Sex}
 use Rattle.params.specs.Set.{ages}

@@ -1,6 +1,6 @@
 // The tests of an age, a year, a span and a rate against the table: refusals 3 to 5 and 8.
 ghost use mathlib.Core.Path.{_≡_};
-ghost use Rattle.whole.specs.Bound.{Under};
+ghost use Rattle.whole.specs.Sizes.{Under};
 ghost use Rattle.params.specs.Limits.{lastYears};
 ghost use Rattle.table_tests.specs.TableTests.{between, tableTests, firstFailed};
 use annuity::MOST_RATE;

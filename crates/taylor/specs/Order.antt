@@ -4,8 +4,7 @@ use Prim.Native.Nat.{ℕ, suc, _*_, _^_, _<_}
 use native.Mathlib.Nat.{mul-pos, one-le-pow}
 use Rattle.fraction.specs.Ratio.{Ratio, _*/_}
 use Rattle.taylor.specs.Taylor.{taylorNum, taylorDen, gap, stretchedNum, stretchedDen, factorial}
-use Rattle.taylor.specs.Positive.{taylorDen-positive, taylorNum-positive, stretchedNum-positive}
-use Rattle.taylor.specs.Positive.{factorial-positive}
+use Rattle.taylor.specs.Positive.{taylorDen-positive, taylorNum-positive, stretchedNum-positive, factorial-positive}
 
 -- the orders that count begin here
 unfoldable pub leastOrder : ℕ

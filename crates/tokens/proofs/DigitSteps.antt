@@ -10,8 +10,8 @@ use mathlib.Core.Bool.{true, false}
 use mathlib.Core.List.{List, [], _∷_}
 use lib.ListN.{length, getD, drop, drop-of-length-le}
 use lib.Seq.{drop-cons, take-nil}
-use Rattle.tokens.specs.Number.{zeroDigit, mostDigits, isDigit, digits, valueFrom, value}
-use Rattle.tokens.specs.Unsigned.{leading, DigitsRead}
+use Rattle.tokens.specs.Number.{zeroDigit, mostDigits, isDigit, digits, valueFrom, value, leading}
+use Rattle.tokens.specs.Unsigned.{DigitsRead}
 use Rattle.tokens.specs.DigitLaws.{digit-bounds, digits-more, digits-end}
 
 -- the digits that are looked at, and those of them that are not read yet

@@ -23,7 +23,8 @@ use Rattle.tokens.specs.Text.{Parse, malformed, taken}
 use Rattle.tokens.specs.Number.{minusSign, zeroDigit, mostDigits, digits, afterDigits, valueFrom, value, wellFormed}
 use Rattle.tokens.specs.Number.{readUnsigned, negated, positive, readNumber}
 use Rattle.tokens.specs.Places.{placed, numberAt}
-use Rattle.tokens.specs.Unsigned.{leading, DigitsRead, placedUnsigned, unsignedAt, minuses}
+use Rattle.tokens.specs.Number.{leading}
+use Rattle.tokens.specs.Unsigned.{DigitsRead, placedUnsigned, unsignedAt, minuses}
 use Rattle.tokens.specs.DigitLaws.{digits-split, digits-length, ill-none, ill-long, ill-zero, well-one, well-more}
 use Rattle.tokens.specs.NumberLaws.{unsigned-taken, read-minus, read-plain}
 

@@ -13,9 +13,9 @@ use lib.Seq.{drop-cons, drop-drop, drop-length, take-all, take-append-le}
 use Rattle.words.specs.Word.{wordBytes, bytesIn}
 use Rattle.words.specs.ShortText.{Tells}
 use Rattle.words.specs.WordLaws.{word-front}
-use Rattle.tokens.specs.Text.{takeText}
+use Rattle.tokens.specs.Text.{takeText, isTaken}
 use Rattle.tokens.specs.TextLaws.{takeText-match, takeText-clash, takeText-whole, takeText-behind, text-found, takeText-room}
-use Rattle.tokens.specs.Places.{isTaken, textAt}
+use Rattle.tokens.specs.Places.{textAt}
 
 -- no byte of the text is compared yet
 pub text-start : (bytes : List ℕ) (at : ℕ) (text : List ℕ) → textAt bytes at text ≡ textAt bytes (at + 0) (drop 0 text)

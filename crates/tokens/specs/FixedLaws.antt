@@ -7,8 +7,7 @@ use lib.Dec.{eqb·zero-suc, eqb·suc-suc}
 use lib.ListN.{length}
 use lib.Seq.{take-nil}
 use Rattle.tokens.specs.Text.{malformed, taken}
-use Rattle.tokens.specs.Number.{zeroDigit, isDigit, digits, valueFrom}
-use Rattle.tokens.specs.Unsigned.{leading, readDigits}
+use Rattle.tokens.specs.Number.{zeroDigit, isDigit, digits, valueFrom, leading, readDigits}
 use Rattle.tokens.specs.DigitLaws.{digits-more, digits-end}
 use Rattle.tokens.specs.NumberTrip.{AllDigits}
 

@@ -5,7 +5,7 @@ use mathlib.Core.Bool.{Bool, true, false, not, cond, _&&_}
 use mathlib.Core.List.{List, [], _∷_, _++_}
 use lib.Dec.{eqb, leb, ltb}
 use lib.IntN.{ℤ, pos, negsuc}
-use lib.ListN.{length}
+use lib.ListN.{length, take, drop}
 use Rattle.tokens.specs.Text.{Parse, malformed, taken}
 
 -- the bytes of `-`, `0` and the line feed
@@ -80,3 +80,11 @@ unsignedText n = decimal mostDigits n
 unfoldable pub numberText : ℤ → List ℕ
 numberText (pos n) = unsignedText n
 numberText (negsuc n) = minusSign ∷ unsignedText (suc n)
+
+-- at most k digits at the front
+unfoldable pub leading : ℕ → List ℕ → List ℕ
+leading k bs = take k (digits bs)
+
+-- the number that n digits at the front stand for, after those of v; a digit more is not read
+unfoldable pub readDigits : ℕ → ℕ → List ℕ → Parse ℕ
+readDigits v n bs = cond (eqb (length (leading n bs)) n) (taken (valueFrom v (leading n bs)) (drop n bs)) malformed

@@ -6,12 +6,8 @@ use lib.IntN.{ℤ}
 use lib.ListN.{length, drop}
 use Rattle.tokens.specs.declared.NumberRead.{NumberRead}
 use Rattle.tokens.specs.declared.NumberRead.the-variants.{Malformed, Number}
-use Rattle.tokens.specs.Text.{Parse, malformed, taken, takeText}
+use Rattle.tokens.specs.Text.{Parse, malformed, taken, takeText, isTaken}
 use Rattle.tokens.specs.Number.{readNumber}
-
-abbrev pub isTaken : {A : Type 0} → Parse A → Bool
-isTaken malformed = false
-isTaken (taken a rest) = true
 
 -- whether the bytes from a place on begin with the text
 unfoldable pub textAt : List ℕ → ℕ → List ℕ → Bool

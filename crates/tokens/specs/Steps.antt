@@ -1,13 +1,10 @@
--- One reading after another: it goes on with what the first takes, and stops where the first is malformed.
+-- One reading after another goes on with what the first takes, and stops where the first is malformed.
 use mathlib.Core.Path.{_≡_, ap}
 use Prim.Native.Nat.{ℕ}
 use mathlib.Core.List.{List}
-use Rattle.tokens.specs.Text.{Parse, malformed, taken}
+use Rattle.tokens.specs.Text.{Parse, malformed, taken, andThen}
 
 module _ {A B : Type 0} where
-  abbrev pub andThen : Parse A → (A → List ℕ → Parse B) → Parse B
-  andThen q f = elim q [ malformed ↦ malformed | taken a rest ↦ f a rest ]
-
   pub goes : {q : Parse A} {a : A} {rest : List ℕ} (f : A → List ℕ → Parse B) → q ≡ taken a rest
       → andThen q f ≡ f a rest
   goes f e = ap (λ (p : Parse A). andThen p f) e

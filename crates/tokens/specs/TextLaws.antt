@@ -9,8 +9,8 @@ use borrow.Author.Tests.{eqb-true, eq-eqb, ne-eqb}
 use lib.Dec.{eqb}
 use lib.ListN.{length, drop, length-append, length-drop}
 use lib.Seq.{drop-append-seam, drop-drop}
-use Rattle.tokens.specs.Text.{Parse, malformed, taken, takeText}
-use Rattle.tokens.specs.Places.{isTaken, textAt}
+use Rattle.tokens.specs.Text.{Parse, malformed, taken, takeText, isTaken}
+use Rattle.tokens.specs.Places.{textAt}
 
 -- ---- one byte
 

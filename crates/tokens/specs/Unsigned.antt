@@ -9,15 +9,7 @@ use Rattle.tokens.specs.declared.Digits.{Digits}
 use Rattle.tokens.specs.declared.UnsignedRead.{UnsignedRead}
 use Rattle.tokens.specs.declared.UnsignedRead.the-variants.{Malformed, Unsigned}
 use Rattle.tokens.specs.Text.{Parse, malformed, taken}
-use Rattle.tokens.specs.Number.{minusSign, mostDigits, digits, valueFrom, value, readUnsigned}
-
--- at most k digits at the front
-unfoldable pub leading : ℕ → List ℕ → List ℕ
-leading k bs = take k (digits bs)
-
--- the number that n digits at the front stand for, after those of v; a digit more is not read
-unfoldable pub readDigits : ℕ → ℕ → List ℕ → Parse ℕ
-readDigits v n bs = cond (eqb (length (leading n bs)) n) (taken (valueFrom v (leading n bs)) (drop n bs)) malformed
+use Rattle.tokens.specs.Number.{minusSign, mostDigits, digits, valueFrom, value, readUnsigned, leading}
 
 -- the digits from a place on, to one more than a number may have: how many, and their value
 pub record DigitsRead (bytes : List ℕ) (at : ℕ) (r : Digits) : Type 0 where

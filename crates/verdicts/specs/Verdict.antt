@@ -6,8 +6,7 @@ use Prim.Native.Nat.{ℕ, zero, suc, _-_}
 use lib.Dec.{eqb}
 use lib.IntN.{ℤ, pos, natAbs}
 use lib.ListN.{getD}
-use Rattle.tokens.specs.Text.{bytesOf, Parse, malformed, taken}
-use Rattle.tokens.specs.Places.{isTaken}
+use Rattle.tokens.specs.Text.{bytesOf, Parse, malformed, taken, isTaken}
 use Rattle.params.specs.declared.Params.{Params}
 use Rattle.params.specs.declared.Refusal.{Refusal}
 use Rattle.params.specs.declared.Refusal.the-variants.{OutOfLimits, NoSuchYear, LogForceOutOfRange, MalformedColumn}

@@ -10,8 +10,7 @@ use borrow.Author.Tests.{ne-eqb}
 use lib.Dec.{T, eqb}
 use lib.IntN.{ℤ}
 use Rattle.whole.specs.Clash.{clash}
-use Rattle.tokens.specs.Text.{Parse}
-use Rattle.tokens.specs.Places.{isTaken}
+use Rattle.tokens.specs.Text.{Parse, isTaken}
 use Rattle.params.specs.declared.Params.{Params}
 use Rattle.params.specs.declared.Refusal.{Refusal}
 use Rattle.params.specs.declared.Refusal.the-variants.{Accepted}

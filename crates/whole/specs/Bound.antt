@@ -15,10 +15,7 @@ use Rattle.whole.specs.Parts.{above, below}
 use Rattle.whole.specs.Split.{split, split-neg, split-add, split-mul, split-abs}
 use Rattle.whole.specs.Division.{floorDiv, ceilDiv}
 use Rattle.whole.specs.DivisionLaws.{floorℕ-encloses, le-of-mul-lt, floor-within, ceil-within}
-
--- |z| ≤ k
-pub record Under (z : ℤ) (k : ℕ) : Type 0 where
-  pub under : natAbs z ≤ k
+use Rattle.whole.specs.Sizes.{Under}
 
 pub under-pos : {n k : ℕ} → n ≤ k → Under (pos n) k
 under-pos h = record { under = h }

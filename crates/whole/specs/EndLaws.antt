@@ -12,7 +12,8 @@ use Rattle.whole.specs.Difference.{difference-le}
 use Rattle.whole.specs.Order.{≤ℤ-trans}
 use Rattle.whole.specs.Division.{floorDiv, ceilDiv}
 use Rattle.whole.specs.DivisionLaws.{split-floor, split-ceil, le-of-mul-lt, floor-mono, floor-le-ceil}
-use Rattle.whole.specs.Bound.{Under, under-mul, under-cond, under-floor-to, under-ceil-to}
+use Rattle.whole.specs.Sizes.{Under, Within}
+use Rattle.whole.specs.Bound.{under-mul, under-cond, under-floor-to, under-ceil-to}
 use Rattle.whole.specs.declared.SignedEnds.{SignedEnds}
 use Rattle.whole.specs.SignedEnds.{leastProduct, greatestProduct, outward}
 
@@ -89,11 +90,6 @@ outward-width {least} {greatest} {k} {m} w p h l =
     }
 
 -- ---- the distance from zero
-
--- both ends lie within k of 0
-pub record Within (k : ℕ) (e : SignedEnds) : Type 0 where
-  pub low : Under (e .lower) k
-  pub high : Under (e .upper) k
 
 pub least-under : {c : ℤ} {j k : ℕ} {e : SignedEnds} → Under c j → Within k e → Under (leastProduct c e) (j * k)
 unfolding leastProduct

@@ -3,6 +3,7 @@ pub mod Listed
 pub mod Parts
 pub mod Division
 pub mod SignedEnds
+pub mod Sizes
 -- examples
 pub mod Rows
 -- laws

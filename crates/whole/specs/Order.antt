@@ -6,8 +6,7 @@ use native.Mathlib.Omega.{arith}
 use lib.IntN.{ℤ, pos, _+ℤ_, _*ℤ_}
 use lib.Signed.{_≤ℤ_}
 use Rattle.whole.specs.Parts.{above, below}
-use Rattle.whole.specs.Split.{split, eq-split}
-use Rattle.whole.specs.Split.{mul-eq, split-add, split-mul}
+use Rattle.whole.specs.Split.{split, eq-split, mul-eq, split-add, split-mul}
 
 -- ---- the order
 

@@ -9,12 +9,7 @@ use lib.ListN.{length, take}
 use lib.Arith.{digits-lt}
 use lib.Pow.{pow-pos, pow-add, high, low, mod-pow-add, shl-shr}
 use lib.Seq.{take-all}
-use Rattle.words.specs.Word.{laneSum, lanes}
-
--- each number of a list is below b
-pub data Below (b : ℕ) : List ℕ → Type 0 where
-  none : Below b []
-  more : {x : ℕ} {xs : List ℕ} → x < b → Below b xs → Below b (x ∷ xs)
+use Rattle.words.specs.Word.{laneSum, lanes, Below, none, more}
 
 module _ (k : ℕ) where
   -- n lanes are n numbers below 2^k

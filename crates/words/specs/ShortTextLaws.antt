@@ -11,9 +11,9 @@ use lib.Arith.{digits-lt}
 use lib.Seq.{take-all}
 use lib.Pow.{pow-add, pow-pos, shl-exact, high, low, split, shr-lt}
 use Rattle.words.specs.declared.Short.{Short}
-use Rattle.words.specs.Word.{byteBits, wordBytes, lanes, wordOf, bytesIn}
+use Rattle.words.specs.Word.{byteBits, wordBytes, lanes, wordOf, bytesIn, Below}
 use Rattle.words.specs.ShortText.{Sized, Holds, Tells, Joins, textOf}
-use Rattle.words.specs.LaneLaws.{Below, lanes-length, lanes-of-sum, sum-below, same-lanes, same-left, shifted, shifted-same}
+use Rattle.words.specs.LaneLaws.{lanes-length, lanes-of-sum, sum-below, same-lanes, same-left, shifted, shifted-same}
 
 -- the lanes of two numbers side by side
 pub lanes-joined : (k n m w v : ℕ) → w < 2 ^ (n * k) → lanes k (n + m) (v * 2 ^ (n * k) + w) ≡ lanes k n w ++ lanes k m v

@@ -1,5 +1,5 @@
 -- A word: bytes, or wider lanes, side by side in one whole number, the first lowest.
-use Prim.Native.Nat.{ℕ, zero, suc, _+_, _*_, _/_, _%_, _^_}
+use Prim.Native.Nat.{ℕ, zero, suc, _+_, _*_, _/_, _%_, _^_, _<_}
 use mathlib.Core.List.{List, [], _∷_}
 
 -- bits of a byte, and bytes of a word
@@ -25,3 +25,8 @@ wordOf bs = laneSum byteBits bs
 
 abbrev pub bytesIn : ℕ → ℕ → List ℕ
 bytesIn n w = lanes byteBits n w
+
+-- each number of a list is below b
+pub data Below (b : ℕ) : List ℕ → Type 0 where
+  none : Below b []
+  more : {x : ℕ} {xs : List ℕ} → x < b → Below b xs → Below b (x ∷ xs)

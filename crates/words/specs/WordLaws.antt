@@ -7,8 +7,8 @@ use mathlib.Core.List.{List, [], _∷_}
 use lib.ListN.{length, getD, take, drop}
 use lib.Seq.{drop-cons, take-take}
 use Rattle.whole.specs.Listed.{listed}
-use Rattle.words.specs.Word.{byteBits, wordBytes, wordOf, bytesIn}
-use Rattle.words.specs.LaneLaws.{none, more, lanes-of-sum, lanes-take}
+use Rattle.words.specs.Word.{byteBits, wordBytes, wordOf, bytesIn, none, more}
+use Rattle.words.specs.LaneLaws.{lanes-of-sum, lanes-take}
 
 -- n bytes from a place on, one by one
 module _ (bytes : List ℕ) (at : ℕ) where

@@ -7,7 +7,7 @@ use borrow.Author.Needs.{needs}
 use Rattle.whole.specs.Bound.{bits, fits, back}
 use Rattle.whole.specs.declared.SignedEnds.{SignedEnds}
 use Rattle.whole.specs.SignedEnds.{outward}
-use Rattle.whole.specs.EndLaws.{Within}
+use Rattle.whole.specs.Sizes.{Within}
 use Rattle.whole.proofs.Signed.{read, read-floor, read-ceil, both-ends}
 use Rattle.closure.specs.Weights.{fitted, weightUnit}
 use Rattle.closure.specs.Closure.{leastSum, greatestSum, weightedMean}

@@ -7,7 +7,7 @@ use mathlib.Core.Logic.{⊎-elim}
 use native.Mathlib.Omega.{arith}
 use lib.ListN.{drop}
 use Rattle.tokens.specs.DigitLaws.{digit-between, digit-below, digit-above}
-use Rattle.tokens.specs.Unsigned.{readDigits}
+use Rattle.tokens.specs.Number.{readDigits}
 use Rattle.tokens.specs.FixedLaws.{read-all}
 use Rattle.column_text.specs.QLaws.{place-past, place-other, place-digit}
 use Rattle.column_text.proofs.DigitSteps.{Room, room-start, room-bound, room-next}

@@ -7,7 +7,7 @@ use Rattle.tokens.specs.Text.{bytesOf, taken}
 use Rattle.tokens.specs.TextLaws.{text-found, text-missing, text-room}
 use Rattle.tokens.specs.ReadLaws.{lacks, has}
 use Rattle.tokens.specs.Steps.{goes, stops}
-use Rattle.tokens.specs.Unsigned.{readDigits}
+use Rattle.tokens.specs.Number.{readDigits}
 use Rattle.column_text.specs.Column.{wholes, readQ}
 use Rattle.column_text.specs.QLaws.{digits-small}
 use Rattle.column_text.proofs.EntrySteps.{fromPoint, digit-malformed, digit-taken, unsigned-malformed, unsigned-taken}

@@ -7,7 +7,8 @@ use Prim.Native.Nat.{_*_}
 use lib.IntN.{ℤ, pos, _+ℤ_, _*ℤ_}
 use mir.Syntax.{w64}
 use mir.Val.{SFits, toZ, ofZ}
-use Rattle.whole.specs.Bound.{Under, under-lit, under-add, under-mul, fits, back}
+use Rattle.whole.specs.Sizes.{Under}
+use Rattle.whole.specs.Bound.{under-lit, under-add, under-mul, fits, back}
 use Rattle.params.specs.declared.Params.{Params}
 use Rattle.params.specs.Limits.{aLimit, thetaLimit, periodLimit, kappaLimit, lastYears, within, seriesInLimits}
 use Rattle.limits.proofs.Sizes.{tested, passed, fails, passes}

@@ -10,8 +10,7 @@ use mir.Facts.{toZ-ofZ}
 use Rattle.tokens.specs.Number.{unsignedText, numberText}
 use Rattle.sheet.specs.Sheet.{lineText}
 use Rattle.printing.specs.Put.{Put}
-use Rattle.printing.specs.PutLaws.{put-of, put-as, room-as}
-use Rattle.printing.specs.PutLaws.{Three, three-first, three-second, three-third, three-put}
+use Rattle.printing.specs.PutLaws.{put-of, put-as, room-as, Three, three-first, three-second, three-third, three-put}
 use Rattle.line_writer.specs.Value.{valueText}
 use Rattle.line_writer.proofs.Small.{small-as}
 use Rattle.line_writer.proofs.put_age_line.Statement.{statement}

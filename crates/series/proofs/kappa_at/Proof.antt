@@ -6,7 +6,8 @@ use native.Mathlib.Numerals.{add-one}
 use native.Mathlib.Omega.{arith}
 use mir.Syntax.{w64}
 use mir.Val.{toZ}
-use Rattle.whole.specs.Bound.{bits, Under, back}
+use Rattle.whole.specs.Sizes.{Under}
+use Rattle.whole.specs.Bound.{bits, back}
 use Rattle.params.specs.Limits.{aLimit, kappaLimit}
 use Rattle.series.specs.Series.{kappaIn}
 use Rattle.series.specs.BoundLaws.{kappa-under}

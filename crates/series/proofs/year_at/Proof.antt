@@ -1,7 +1,8 @@
 -- `year_at` meets its contract: a set in its limits meets what K and kappa of a year require.
 use mathlib.Core.Path.{_≡_, refl}
 use Rattle.whole.specs.Bound.{fits, back}
-use Rattle.params.specs.LimitsLaws.{SeriesWithin, in-limits-series}
+use Rattle.params.specs.Within.{SeriesWithin}
+use Rattle.params.specs.LimitsLaws.{in-limits-series}
 use Rattle.whole.proofs.Signed.{read}
 use Rattle.series.specs.Series.{periodIndex}
 use Rattle.series.specs.BoundLaws.{period-under}

@@ -9,7 +9,8 @@ use lib.ListN.{length}
 use Rattle.params.specs.declared.Params.{Params}
 use Rattle.params.specs.declared.Age.{Age}
 use Rattle.params.specs.Set.{ages, ageOf, four-age}
-use Rattle.params.specs.LimitsLaws.{AgeWithin, in-limits-age}
+use Rattle.params.specs.Within.{AgeWithin}
+use Rattle.params.specs.LimitsLaws.{in-limits-age}
 use Rattle.sheet.specs.Sheet.{headBytes}
 use Rattle.sheet.specs.SheetTrip.{sheet-length}
 use Rattle.sheet_length.specs.Parts.{seriesText, ageText, agesText}

@@ -8,7 +8,8 @@ use native.Mathlib.Numerals.{add-one}
 use native.Mathlib.Omega.{arith}
 use Rattle.params.specs.declared.Age.{Age}
 use Rattle.params.specs.Set.{ages, ageOf, four-age}
-use Rattle.params.specs.LimitsLaws.{AgeWithin, in-limits-age}
+use Rattle.params.specs.Within.{AgeWithin}
+use Rattle.params.specs.LimitsLaws.{in-limits-age}
 use Rattle.printing.specs.Put.{Room, Put}
 use Rattle.printing.specs.PutLaws.{put-none, put-as, room-as, put-length, room-rest, put-join}
 use Rattle.sheet_length.specs.Parts.{ageText, agesText}
