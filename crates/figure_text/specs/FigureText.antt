@@ -1,8 +1,8 @@
 -- "A probability prints five decimals, an expectancy one": a figure as text.
 use mathlib.Core.List.{List, [], _∷_, _++_}
-use Prim.Native.Nat.{ℕ, zero, suc, _+_, _/_, _%_, _^_, _<_}
+use Prim.Native.Nat.{ℕ, zero, suc, _+_, _/_, _%_, _^_}
 use Rattle.tokens.specs.Text.{bytesOf}
-use Rattle.tokens.specs.Number.{zeroDigit, mostDigits, unsignedText}
+use Rattle.tokens.specs.Number.{zeroDigit, unsignedText}
 use Rattle.exact.specs.declared.Figure.{Figure}
 use Rattle.exact.specs.declared.Figure.the-variants.{Printed, Open}
 
@@ -23,8 +23,3 @@ figureText d Open = bytesOf "open"
 -- a figure with its name, as it follows a query
 unfoldable pub shownText : ℕ → Figure → List ℕ
 shownText d figure = bytesOf " fig=" ++ figureText d figure
-
--- steps of at most 15 digits
-unfoldable pub Printable : Figure → Type 0
-Printable (Printed n) = n < 10 ^ mostDigits
-Printable Open = Unit

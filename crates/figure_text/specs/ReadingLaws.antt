@@ -18,7 +18,8 @@ use Rattle.tokens.specs.NumberTrip.{AllDigits, all-append, malformed-not-taken,
 use Rattle.tokens.specs.FixedLaws.{fixed-reads}
 use Rattle.exact.specs.declared.Figure.{Figure}
 use Rattle.exact.specs.declared.Figure.the-variants.{Printed, Open}
-use Rattle.figure_text.specs.FigureText.{lastDigits, stepsText, figureText, Printable}
+use Rattle.figure_text.specs.FigureText.{lastDigits, stepsText, figureText}
+use Rattle.figure_text.specs.Sizes.{Printable}
 use Rattle.figure_text.specs.FigureTextLaws.{last-length, tenth-without}
 use Rattle.figure_text.specs.Reading.{readSteps}
 

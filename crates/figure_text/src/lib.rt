@@ -2,7 +2,8 @@
 ghost use mathlib.Core.Path.{_≡_};
 ghost use Prim.Native.Nat.{_/_, _^_};
 ghost use Rattle.printing.specs.Put.{Room, Put};
-ghost use Rattle.figure_text.specs.FigureText.{lastDigits, figureText, shownText, Printable};
+ghost use Rattle.figure_text.specs.FigureText.{lastDigits, figureText, shownText};
+ghost use Rattle.figure_text.specs.Sizes.{Printable};
 use exact::Figure;
 
 // A number without its last digits.

@@ -46,5 +46,6 @@ unfolding runNo runBuffer runLength textAnswer
 run-told input ends buffer len f {got} {after} w n =
     let v : Into (roomFor (length input)) (runOf (programOf ends) input) buffer got after =
     rw (← room-same ends (length input), ← f) w in
-    let k = n .1 ∙ ap (λ (g : Written). toldLength g len) (v .0) ∙ told-length _ (runOf (programOf ends) input) (length buffer) len in
+    let t = told-length _ (runOf (programOf ends) input) (length buffer) len in
+    let k = n .1 ∙ ap (λ (g : Written). toldLength g len) (v .0) ∙ t in
     (n .0 ∙ ap (λ (g : Written). refusalNumber (g .refusal)) (v .0), (v .1, k))

@@ -34,11 +34,8 @@ module _ (named : ℕ) (r : Refusal) where
   unfolding refusedRun
   by-name n = rw (ne-eqb named 0 n)
 
--- the bytes of `sheet=1 no=` with two digits and the line feed
-abbrev pub refusedBytes : ℕ
-refusedBytes = 14
-
-pub line-length : (named : ℕ) (r : Refusal) → named < 10 → length (refusedRun named r) ≤ refusedBytes
+-- no longer than `sheet=1 no=` with two digits and the line feed
+pub line-length : (named : ℕ) (r : Refusal) → named < 10 → length (refusedRun named r) ≤ 14
 unfolding bytesOf
 line-length named r h =
     elim (decLt 0 named) [

@@ -9,7 +9,6 @@ ghost use Rattle.run_line.specs.Line.{lineAnswer, longestLine};
 ghost use Rattle.run.specs.Answers.{answersFrom};
 ghost use Rattle.run.specs.Into.{textAnswer, textBuffer};
 ghost use Rattle.run.specs.Run.{takesTwo, refusedRun, linesRun, runOf, runRoom};
-ghost use Rattle.run.specs.RunLaws.{refusedBytes};
 use params::Params;
 use params::Refusal;
 use run_line::Mode;
@@ -54,7 +53,7 @@ fn has_room(program: Program, input: usize, room: usize) -> bool
 
 // Writes the line of a refused front, with the number of the sheet where one is named; how long it is.
 fn put_refused(out: &mut [u8], named: u64, refusal: Refusal) -> usize
-    requires { ⌜ (named < 10) × (refusedBytes ≤ length (now out)) ⌝ }
+    requires { ⌜ (named < 10) × (14 ≤ length (now out)) ⌝ }
     ensures { λ r. ⌜ Put (now (out .entry)) 0 (refusedRun named refusal) (now (out .exit)) r ⌝ }
 {
     if named == 0 {
@@ -75,7 +74,8 @@ fn put_answers(
 ) -> usize
     requires { ⌜ T (inLimits first) × T (inLimits second) × (at ≤ length (now input))
         × (5 * length (now input) + longestLine mode ≤ length (now out)) ⌝ }
-    ensures { λ r. ⌜ Put (now (out .entry)) 0 (answersFrom (lineAnswer mode first second) (now (input .entry)) at) (now (out .exit)) r ⌝ }
+    ensures { λ r. ⌜ Put (now (out .entry)) 0 (answersFrom (lineAnswer mode first second) (now (input .entry)) at)
+        (now (out .exit)) r ⌝ }
 {
     let mut next = at;
     let mut len = 0;

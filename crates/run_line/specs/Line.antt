@@ -22,10 +22,11 @@ use Rattle.run_line.specs.declared.Mode.the-variants.{Quotes, Compare}
 abbrev pub withoutFeed : List ℕ → List ℕ
 withoutFeed line = take (length line - 1) line
 
--- the answer to a line, by what it is read with and what follows it: `no=1` alone where it is torn, else its own text and behind
--- it what follows
+-- the answer to a line, by what reads it and what follows it: `no=1` alone where it is malformed, else its own text and behind it
+-- what follows
 unfoldable pub answered : {A : Type 0} → (List ℕ → Parse A) → (A → List ℕ) → List ℕ → List ℕ
-answered read follows line = elim (read line) [ malformed ↦ refusalLine Malformed | taken q rest ↦ withoutFeed line ++ follows q ]
+answered read follows line =
+    elim (read line) [ malformed ↦ refusalLine Malformed | taken q rest ↦ withoutFeed line ++ follows q ]
 
 -- ---- a query
 
@@ -37,7 +38,8 @@ queryAnswer p q = answerOf p (q .kind) (q .age) (q .year) (q .span)
 abbrev pub kindDecimals : Kind → ℕ
 kindDecimals kind = decimalsOf (ruleOf kind .fold)
 
--- what follows a query: its answer, with the ends where they are asked for, or its answers by the first set and by the second, compared
+-- what follows a query: its answer, with the ends where they are asked for, or its answers by the first set and by the second,
+-- compared
 unfoldable pub reply : Mode → Params → Params → Query → List ℕ
 reply (Quotes ends) p p′ q = answerText ends (kindDecimals (q .kind)) (queryAnswer p q)
 reply Compare p p′ q = comparisonText (kindDecimals (q .kind)) (comparisonOf (queryAnswer p q) (queryAnswer p′ q))

@@ -44,8 +44,10 @@ module _ {A : Type 0} {read : List ℕ → Parse A} {few many : ℕ} (l : Length
       rw (answered-taken read follows line e)
       (omega (arith, length-append (withoutFeed line) (follows q), length-take (length line - 1) line, h q))
 
-  pub answered-bounded : {longest : ℕ} → 5 ≤ longest → many + n ≤ longest → n ≤ 4 * few + 5 → Bounded longest (answered read follows)
-  answered-bounded {longest} short whole small = record { most = λ line. go line (read line) refl; fivefold = λ line some. five line some (read line) refl }
+  pub answered-bounded : {longest : ℕ} → 5 ≤ longest → many + n ≤ longest → n ≤ 4 * few + 5
+      → Bounded longest (answered read follows)
+  answered-bounded {longest} short whole small =
+      record { most = λ line. go line (read line) refl; fivefold = λ line some. five line some (read line) refl }
     where
       go : (line : List ℕ) (r : Parse A) → read line ≡ r → length (answered read follows line) ≤ longest
       go line malformed e = rw (answered-malformed read follows line e) (omega (arith, malformed-length))

@@ -16,12 +16,14 @@ use Rattle.query.specs.declared.Query.{Query}
 use Rattle.query.specs.Query.{queryText, readQuery}
 use Rattle.query.specs.QueryLaws.{query-text, query-least, query-most}
 use Rattle.answer_text.specs.AnswerText.{answerText}
-use Rattle.answer_text.specs.Sizes.{SizedAnswer, answer-sized}
+use Rattle.answer_text.specs.Sizes.{SizedAnswer}
+use Rattle.answer_text.specs.SizeLaws.{answer-sized}
 use Rattle.answer_text.specs.Lengths.{answer-length}
 use Rattle.compare_quotes.specs.declared.Comparison.{Comparison}
 use Rattle.compare_quotes.specs.Compare.{comparisonOf}
 use Rattle.compare_text.specs.CompareText.{comparisonText}
-use Rattle.compare_text.specs.Sizes.{SizedComparison, comparison-sized}
+use Rattle.compare_text.specs.Sizes.{SizedComparison}
+use Rattle.compare_text.specs.SizeLaws.{comparison-sized}
 use Rattle.compare_text.specs.Lengths.{comparison-length}
 use Rattle.run_line.specs.declared.Mode.{Mode}
 use Rattle.run_line.specs.declared.Mode.the-variants.{Quotes, Compare}
@@ -38,7 +40,8 @@ echo line {q} e =
     let l : length line - 1 ≡ length (queryText q) = omega (arith, ap length t, length-append (queryText q) (bytesOf "\n")) in
     rw (l, t) (take-append-seam (queryText q) (bytesOf "\n"))
 
-line-length : (line : List ℕ) {q : Query} {rest : List ℕ} → readQuery line ≡ taken q rest → length line ≡ suc (length (queryText q))
+line-length : (line : List ℕ) {q : Query} {rest : List ℕ} → readQuery line ≡ taken q rest
+    → length line ≡ suc (length (queryText q))
 unfolding bytesOf
 line-length line {q} e = omega (arith, ap length (query-text line e), length-append (queryText q) (bytesOf "\n"))
 

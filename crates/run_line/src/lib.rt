@@ -13,7 +13,7 @@ use path_quotes::Answer;
 use query::Query;
 use query::QueryRead;
 
-// What a program answers a query with: its figure, behind the two ends where they are asked for, or the figures by two sheets.
+// What a program answers a query with: its figure, with the ends where they are asked for, or its figures by two sheets.
 pub enum Mode {
     Quotes(bool),
     Compare,

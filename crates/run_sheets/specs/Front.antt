@@ -28,7 +28,13 @@ stopped named r next = record { refusal = r; named = named; first = blank; secon
 -- one sheet, which is not named where it is refused
 unfoldable pub oneSheet : List ℕ → Front
 oneSheet input =
-    record { refusal = sheetOf input .refusal; named = 0; first = sheetOf input .set; second = sheetOf input .set; next = sheetEnd input }
+    record {
+      refusal = sheetOf input .refusal;
+      named = 0;
+      first = sheetOf input .set;
+      second = sheetOf input .set;
+      next = sheetEnd input;
+    }
 
 -- two sheets, the first of them accepted
 unfoldable pub bothSheets : List ℕ → List ℕ → Front

@@ -1,5 +1,5 @@
--- Laws of the front of an input: by its length and its sheets; it ends within the input, and where it is not refused its sets
--- are within the limits.
+-- Laws of the front of an input: what it is, by the input's length and its sheets; it ends within the input, and where it is not
+-- refused its sets are within the limits.
 use mathlib.Core.Path.{_≡_, refl, sym, ap, _∙_}
 use mathlib.Core.Bool.{Bool, true, false, cond}
 use mathlib.Core.List.{List}
@@ -41,7 +41,9 @@ reading-well (taken p rest) e = go (inLimits p) refl e
 
 sheet-well : (input : List ℕ) → ReadWell (sheetOf input)
 unfolding sheetOf readSheet refused refusalNumber
-sheet-well input e = let sheet = firstLines sheetLines input in go (leb (length sheet) mostBytes) (readingOf (readSet sheet)) (reading-well (readSet sheet)) e
+sheet-well input e =
+    let sheet = firstLines sheetLines input in
+    go (leb (length sheet) mostBytes) (readingOf (readSet sheet)) (reading-well (readSet sheet)) e
   where
     go : (b : Bool) (r : Reading) → ReadWell r → ReadWell (cond b r (refused Malformed))
     go true r h e = h e
@@ -95,7 +97,8 @@ module _ (input : List ℕ) {one : Reading} {end : ℕ} (e : one ≡ sheetOf inp
     pub front-both : {two : Bool} → two ≡ true → refusalNumber (one .refusal) ≡ 0 → {other : Reading} {len : ℕ}
         → other ≡ sheetOf (drop end input) → len ≡ sheetEnd (drop end input)
         → _≡_ {A = Front}
-        (record { refusal = other .refusal; named = 2; first = one .set; second = other .set; next = end + len }) (frontOf two input)
+        (record { refusal = other .refusal; named = 2; first = one .set; second = other .set; next = end + len })
+        (frontOf two input)
     unfolding bothSheets
     front-both t n {other} {len} g k =
         rw (g, k, e, f) (sym (front-two t ∙ two-accepted input (drop (sheetEnd input) input) (rw e at n)))
@@ -139,7 +142,9 @@ module _ (input : List ℕ) where
       let r = sheetOf input .refusal in
       let rest = drop (sheetEnd input) input in
       elim (decLt 0 (refusalNumber r)) [
-        | yes l ↦ rw (two-refused input rest (λ q. absurd (omega arith))) (stopped-usable 1 (omega arith) r (λ q. absurd (omega arith)))
+        | yes l ↦
+            let n : refusalNumber r ≡ 0 → ⊥ = λ q. absurd (omega arith) in
+            rw (two-refused input rest n) (stopped-usable 1 (omega arith) r n)
         | no l ↦ rw (two-accepted input rest (omega arith)) (both-usable (omega arith))
       ]
 

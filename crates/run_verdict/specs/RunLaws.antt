@@ -45,7 +45,8 @@ module _ (input : List ℕ) {f : Front} (s : f ≡ frontOf false input) where
     unfolding lineBy
     run-refused n = run-by ∙ by-year f input e ∙ rw (ne-eqb (refusalNumber (f .refusal)) 0 n)
 
-    pub run-judged : refusalNumber (f .refusal) ≡ 0 → verdictRun input ≡ verdictLine year (columnVerdict (f .first) year column)
+    pub run-judged : refusalNumber (f .refusal) ≡ 0
+        → verdictRun input ≡ verdictLine year (columnVerdict (f .first) year column)
     unfolding lineBy
     run-judged n = run-by ∙ by-year f input e ∙ rw (eq-eqb (refusalNumber (f .refusal)) 0 n)
 

@@ -23,10 +23,11 @@ readYear bs = readLine (bytesOf "year") bs
 -- `no=` alone and its number, 1 or 2, where the sheet is refused; else the year's line
 unfoldable pub lineBy : Front → ℤ → List ℕ → List ℕ
 lineBy f year column =
-    cond (eqb (refusalNumber (f .refusal)) 0) (verdictLine year (columnVerdict (f .first) year column)) (refusalLine (f .refusal))
+    cond (eqb (refusalNumber (f .refusal)) 0) (verdictLine year (columnVerdict (f .first) year column))
+    (refusalLine (f .refusal))
 
--- the year's line follows the sheet, and behind it is the column; `no=` alone also where the line is malformed or missing. Of the
--- two numbers the lower is given: a malformed year's line is 1 where the sheet is out of limits.
+-- the year's line follows the sheet, and behind it is the column; `no=` alone also where the line is malformed or missing. Of
+-- the two numbers the lower is given: a malformed year's line is 1 where the sheet is out of limits.
 unfoldable pub verdictBy : Front → List ℕ → List ℕ
 verdictBy f input =
     elim (readYear (drop (f .next) input)) [ malformed ↦ refusalLine Malformed | taken year column ↦ lineBy f year column ]

@@ -1,10 +1,8 @@
 -- The year's line: a name and a number, and then a line feed; and how large a year is.
 use mathlib.Core.Path.{_≡_, refl}
 use mathlib.Core.List.{List}
-use Prim.Native.Nat.{ℕ, _^_, _≤_, _<_}
+use Prim.Native.Nat.{ℕ, _^_, _<_}
 use lib.IntN.{ℤ, natAbs}
-use Rattle.tokens.specs.declared.NumberRead.{NumberRead}
-use Rattle.tokens.specs.declared.NumberRead.the-variants.{Malformed, Number}
 use Rattle.tokens.specs.Text.{bytesOf, Parse, malformed, taken, takeText, andThen}
 use Rattle.tokens.specs.Number.{mostDigits, readNumber}
 use Rattle.sheet.specs.Sheet.{readLine}
@@ -12,18 +10,9 @@ use Rattle.sheet.specs.SheetTrip.{line-read}
 use Rattle.query.specs.Query.{readField}
 use Rattle.run_verdict.specs.VerdictRun.{readYear}
 
--- ---- definitions
-
--- the place after a number that was read is within n bytes
-abbrev pub PlaceIn : ℕ → NumberRead → Type 0
-PlaceIn n Malformed = Unit
-PlaceIn n (Number v next) = next ≤ n
-
 -- a year, and the line feed behind it
 abbrev pub withFeed : ℤ → List ℕ → Parse ℤ
 withFeed year after = andThen (takeText (bytesOf "\n") after) (λ u rest. taken year rest)
-
--- ---- laws
 
 pub year-steps : (bs : List ℕ) → readYear bs ≡ andThen (readField (bytesOf "year=") bs) withFeed
 unfolding readYear readLine readField bytesOf

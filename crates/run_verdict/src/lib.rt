@@ -7,7 +7,7 @@ ghost use Rattle.tokens.specs.Places.{numberRead};
 ghost use Rattle.printing.specs.Put.{Put};
 ghost use Rattle.verdict_text.specs.VerdictText.{mostVerdict};
 ghost use Rattle.run_verdict.specs.VerdictRun.{readYear, verdictRun};
-ghost use Rattle.run_verdict.specs.YearLaws.{PlaceIn};
+ghost use Rattle.run_verdict.specs.Code.{PlaceIn};
 use params::Refusal;
 use tokens::NumberRead;
 

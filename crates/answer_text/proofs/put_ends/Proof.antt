@@ -28,7 +28,9 @@ both b lower upper e = rw (not-false b e)
 
 room : (c : tie.Else1) → let s = c .before .before .args in
     Room (s .buffer .now) (s .at) ((bytesOf " lo=" ++ unsignedText (s .lower)) ++ (bytesOf " hi=" ++ unsignedText (s .upper)))
-room c = let s = c .before .before in room-as (both (s .args .ends) (s .args .lower) (s .args .upper) (c .if1 .left)) (s .pre .2)
+room c =
+    let s = c .before .before in
+    room-as (both (s .args .ends) (s .args .lower) (s .args .upper) (c .if1 .left)) (s .pre .2)
 
 lower : (c : tie.After-put-field) → let s = c .before .before .before .before .before .args in
     Put (s .buffer .now) (s .at) (bytesOf " lo=" ++ unsignedText (s .lower)) (c .put-field .last .0) (c .put-field .result)

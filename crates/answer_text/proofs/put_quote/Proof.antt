@@ -45,7 +45,8 @@ unfolding quoteText bytesOf
 returns c =
     let c₂ = c .before .before .before .before .before .before .before in
     let c₁ = first c₂ in
-    three-put (texts (start c₁)) (c₁ .put-ends .ensures) (c₂ .put-shown .ensures) (put-of (c .before .before .put-text .ensures))
+    let last = put-of (c .before .before .put-text .ensures) in
+    three-put (texts (start c₁)) (c₁ .put-ends .ensures) (c₂ .put-shown .ensures) last
 
 pub put-quote-spec : {M : Type 1} → statement M
 put-quote-spec =

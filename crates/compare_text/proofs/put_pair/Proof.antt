@@ -28,7 +28,8 @@ abbrev ended : tie.Start → List ℕ
 ended s = valuesText (s .args .pair .values) ++ bytesOf "\n"
 
 texts : (s : tie.Start) → let a = s .args in
-    Three (a .buffer .now) (a .at) (shownText (a .decimals) (a .pair .first)) (shownText (a .decimals) (a .pair .second)) (ended s)
+    Three (a .buffer .now) (a .at) (shownText (a .decimals) (a .pair .first)) (shownText (a .decimals) (a .pair .second))
+    (ended s)
 unfolding pairText
 texts s = record { room = s .pre .1 }
 

@@ -12,7 +12,8 @@ use Rattle.tokens.specs.Text.{bytesOf}
 use Rattle.tokens.specs.Number.{mostDigits, unsignedText, numberText}
 use Rattle.printing.specs.Put.{Put}
 use Rattle.printing.specs.PutLaws.{put-of, put-as, room-as, Three, three-first, three-second, three-third, three-put}
-use Rattle.figure_text.specs.FigureText.{lastDigits, stepsText, figureText, Printable}
+use Rattle.figure_text.specs.FigureText.{lastDigits, stepsText, figureText}
+use Rattle.figure_text.specs.Sizes.{Printable}
 use Rattle.figure_text.proofs.put_figure.Statement.{statement}
 use Rattle.figure_text.proofs.put_figure.Tie as tie
 

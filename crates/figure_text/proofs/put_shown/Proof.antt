@@ -11,7 +11,8 @@ use Rattle.figure_text.proofs.put_shown.Tie as tie
 abbrev start : tie.After-put-text → tie.Start
 start c = c .before .before .before .before
 
-room : (s : tie.Start) → Room (s .args .buffer .now) (s .args .at) (bytesOf " fig=" ++ figureText (s .args .decimals) (s .args .figure))
+room : (s : tie.Start) → let a = s .args in
+    Room (a .buffer .now) (a .at) (bytesOf " fig=" ++ figureText (a .decimals) (a .figure))
 unfolding shownText
 room s = s .pre .1
 

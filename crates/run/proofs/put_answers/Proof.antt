@@ -13,7 +13,8 @@ use Rattle.run.proofs.put_answers.Statement.{statement}
 use Rattle.run.proofs.put_answers.Tie as tie
 
 abbrev Inv-loop : tie.InvT-loop
-Inv-loop mode first second input at out₀ next₀ len₀ out next len = Going (lineAnswer mode first second) input at out₀ out next len
+Inv-loop mode first second input at out₀ next₀ len₀ out next len =
+    Going (lineAnswer mode first second) input at out₀ out next len
 
 abbrev μ-loop : tie.MeasureT-loop
 μ-loop mode first second input at out₀ next₀ len₀ out next len = length input - next

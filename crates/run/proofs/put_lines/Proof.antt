@@ -51,7 +51,7 @@ put-answers-requires c κs =
     let t = c .before .before .before in
     let w = t .before .before in
     let u = usable w in
-    (u .first (accepted t), u .second (accepted t), u .within, start w .pre)
+    (u .first (accepted t), u .second (accepted t), omega (arith, u .within), start w .pre)
 
 returns-2 : tie.Need-returns-2
 returns-2 c =

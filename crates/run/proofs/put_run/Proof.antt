@@ -10,7 +10,8 @@ use Rattle.run.proofs.put_run.Statement.{statement}
 use Rattle.run.proofs.put_run.Tie as tie
 
 -- the room, of the program that was matched
-room : (s : tie.Start) {p : Program} → s .args .program ≡ p → runRoom p (length (s .args .input .now)) ≤ length (s .args .out .now)
+room : (s : tie.Start) {p : Program} → s .args .program ≡ p
+    → runRoom p (length (s .args .input .now)) ≤ length (s .args .out .now)
 room s e = subst (λ (p : Program). runRoom p (length (s .args .input .now)) ≤ length (s .args .out .now)) e (s .pre)
 
 put-lines-requires : tie.Need-put-lines-requires
@@ -35,7 +36,8 @@ unfolding runOf
 returns-2 c =
     let t = c .before .before .before .before in
     let s = t .before .before .before .before .args in
-    put-as (sym (ap (λ (q : Program). runOf q (s .input .now)) (t .enum-told .given .1))) (c .before .before .put-verdict .ensures)
+    put-as (sym (ap (λ (q : Program). runOf q (s .input .now)) (t .enum-told .given .1)))
+    (c .before .before .put-verdict .ensures)
 
 pub put-run-spec : {M : Type 1} → statement M
 put-run-spec =

@@ -13,7 +13,8 @@ abbrev start : tie.After-has-room → tie.Start
 start c = c .before .before .before
 
 -- past the test there is room
-room : (c : tie.Else1) → let s = start (c .before) .args in runRoom (s .program) (length (s .input .now)) ≤ length (s .out .now)
+room : (c : tie.Else1) → let s = start (c .before) .args in
+    runRoom (s .program) (length (s .input .now)) ≤ length (s .out .now)
 room c =
     let h = c .before .has-room in
     leb-true _ _ (sym (h .ensures) ∙ not-false (h .result) (c .if1 .left))

@@ -30,7 +30,9 @@ abbrev answer : tie.Start → List ℕ
 answer s = lineAnswer (s .args .mode) (s .args .first) (s .args .second) (line s)
 
 room : (s : tie.Start) → Room (s .args .buffer .now) (s .args .at) (answer s)
-room s = record { fits = omega (arith, s .pre .2, line-bounded (s .args .mode) (s .args .first) (s .args .second) .most (line s)) }
+room s =
+    let b = line-bounded (s .args .mode) (s .args .first) (s .args .second) in
+    record { fits = omega (arith, s .pre .2, b .most (line s)) }
 
 -- ---- a malformed line
 
@@ -89,7 +91,8 @@ returns-2 : tie.Need-returns-2
 returns-2 c =
     let p = c .before .before .before .before .before .before in
     let k = p .before .before .before in
-    put-as (sym (whole k)) (put-join (echoed p) (c .before .before .put-reply .ensures) (room-as (whole k) (room (start (known k)))))
+    put-as (sym (whole k))
+    (put-join (echoed p) (c .before .before .put-reply .ensures) (room-as (whole k) (room (start (known k)))))
 
 pub put-line-spec : {M : Type 1} → statement M
 put-line-spec =

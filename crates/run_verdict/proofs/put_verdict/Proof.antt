@@ -20,7 +20,8 @@ use Rattle.run_sheets.specs.FrontLaws.{rest-from}
 use Rattle.column_verdicts.specs.ColumnVerdict.{columnVerdict}
 use Rattle.verdict_text.specs.VerdictText.{verdictLine, mostVerdict}
 use Rattle.run_verdict.specs.VerdictRun.{readYear, verdictRun}
-use Rattle.run_verdict.specs.YearLaws.{PlaceIn, year-small}
+use Rattle.run_verdict.specs.Code.{PlaceIn}
+use Rattle.run_verdict.specs.YearLaws.{year-small}
 use Rattle.run_verdict.specs.RunLaws.{run-malformed, run-refused, run-judged, run-most}
 use Rattle.run_verdict.proofs.put_verdict.Statement.{statement}
 use Rattle.run_verdict.proofs.put_verdict.Tie as tie
@@ -73,7 +74,8 @@ refused : (c : tie.Then1) → let y = known (c .before) in
 refused c =
     let r = c .before in
     let y = known r in
-    run-refused (input y) (y .before .read-front .ensures) (year-taken (asked r)) (λ q. c .if1 .taken (r .refusal-number .ensures ∙ q))
+    run-refused (input y) (y .before .read-front .ensures) (year-taken (asked r))
+    (λ q. c .if1 .taken (r .refusal-number .ensures ∙ q))
 
 -- ---- the line of the year
 
@@ -91,7 +93,8 @@ line c =
     let g = asked r .year .given .0 in
     run-judged (input y) (y .before .read-front .ensures) (year-taken (asked r)) (accepted (before c))
     ∙ ap (verdictLine (g .0))
-    (sym ((rw (year-back r) at (c .verdict-on .ensures .0)) ∙ ap (columnVerdict (front y .first) (g .0)) (rest-from (input y) (g .1 .0))))
+    (sym ((rw (year-back r) at (c .verdict-on .ensures .0))
+    ∙ ap (columnVerdict (front y .first) (g .0)) (rest-from (input y) (g .1 .0))))
 
 -- ---- the needs
 
@@ -102,7 +105,8 @@ returns : tie.Need-returns
 returns c =
     let t = c .before .before .before .before in
     let y = t .before .before in
-    put-as (sym (run-malformed (input y) (y .before .read-front .ensures) (read-malformed _ (y .year-at .ensures .0) (t .enum-told .given .1)))) (c .before .before .put-refusal .ensures)
+    let none = read-malformed _ (y .year-at .ensures .0) (t .enum-told .given .1) in
+    put-as (sym (run-malformed (input y) (y .before .read-front .ensures) none)) (c .before .before .put-refusal .ensures)
 
 put-refusal-requires-2 : tie.Need-put-refusal-requires-2
 put-refusal-requires-2 c κs = refusal-room _ _ (start (known (c .before .before)) .pre)
