@@ -7,10 +7,10 @@ use lib.ListN.{length, length-append}
 use Rattle.tokens.specs.Text.{bytesOf}
 use Rattle.tokens.specs.Number.{mostDigits, unsignedText}
 use Rattle.tokens.specs.DecimalLaws.{by-size, decimal-last, decimal-more, text-small, unsigned-length}
-use Rattle.params.specs.declared.Refusal.{Refusal}
-use Rattle.params.specs.declared.Refusal.the-variants.{Malformed}
-use Rattle.params.specs.Refusals.{refusalNumber}
-use Rattle.params.specs.RefusalLaws.{number-small}
+use Rattle.refusal.specs.declared.Refusal.{Refusal}
+use Rattle.refusal.specs.declared.Refusal.the-variants.{Malformed}
+use Rattle.refusal.specs.Refusals.{refusalNumber}
+use Rattle.refusal.specs.RefusalLaws.{number-small}
 use Rattle.figure_text.specs.FigureTextLaws.{shown-length}
 use Rattle.path_quotes.specs.declared.Quote.{Quote}
 use Rattle.path_quotes.specs.declared.Answer.{Answer}

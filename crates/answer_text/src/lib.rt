@@ -6,9 +6,9 @@ ghost use Rattle.tokens.specs.Number.{mostDigits, unsignedText};
 ghost use Rattle.printing.specs.Put.{Room, Put};
 ghost use Rattle.answer_text.specs.AnswerText.{refusalLine, refusedText, endsText, quoteText, answerText};
 ghost use Rattle.answer_text.specs.Sizes.{Sized, SizedAnswer};
-use params::Refusal;
 use path_quotes::Answer;
 use path_quotes::Quote;
+use refusal::Refusal;
 
 // Writes a name and a number; the place after them.
 pub fn put_field(buffer: &mut [u8], at: usize, name: &[u8], n: u64) -> usize
@@ -24,7 +24,7 @@ pub fn put_refusal(buffer: &mut [u8], at: usize, refusal: Refusal) -> usize
     requires { ⌜ Room (now buffer) at (refusalLine refusal) ⌝ }
     ensures { λ r. ⌜ Put (now (buffer .entry)) at (refusalLine refusal) (now (buffer .exit)) r ⌝ }
 {
-    let number = params::refusal_number(refusal) as u64;
+    let number = refusal::refusal_number(refusal) as u64;
     let end = put_field(buffer, at, b"no=", number);
     printing::put_text(buffer, end, b"\n")
 }

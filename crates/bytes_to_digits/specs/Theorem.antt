@@ -14,7 +14,7 @@ use lib.ListN.{length, getD}
 use Rattle.tokens.specs.Text.{Parse, malformed, taken}
 use Rattle.tokens.specs.NumberTrip.{malformed-not-taken}
 use Rattle.sheet.specs.SheetTrip.{then-taken}
-use Rattle.params.specs.Refusals.{refusalNumber}
+use Rattle.refusal.specs.Refusals.{refusalNumber}
 use Rattle.sheet.specs.declared.Reading.{Reading}
 use Rattle.sheet.specs.Sheet.{readSheet}
 use Rattle.exact.specs.declared.Figure.{Figure}

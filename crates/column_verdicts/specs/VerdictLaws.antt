@@ -4,9 +4,9 @@ use mathlib.Core.List.{List}
 use Prim.Native.Nat.{ℕ}
 use borrow.Author.Tests.{ne-eqb}
 use lib.IntN.{ℤ}
-use Rattle.params.specs.declared.Refusal.{Refusal}
-use Rattle.params.specs.declared.Refusal.the-variants.{Accepted}
-use Rattle.params.specs.Refusals.{refusalNumber}
+use Rattle.refusal.specs.declared.Refusal.{Refusal}
+use Rattle.refusal.specs.declared.Refusal.the-variants.{Accepted}
+use Rattle.refusal.specs.Refusals.{refusalNumber}
 use Rattle.sheet.specs.declared.Reading.{Reading}
 use Rattle.sheet.specs.Sheet.{readSheet}
 use Rattle.verdicts.specs.declared.Verdict.{Verdict}

@@ -4,7 +4,7 @@ ghost use mathlib.Core.Path.{_≡_};
 ghost use Rattle.column_verdicts.specs.ColumnVerdict.{columnVerdict, HonestOn};
 ghost use Rattle.column_verdicts.specs.SheetVerdict.{sheetVerdict, verdictNumber, verdictNo, verdictAfter};
 use params::Params;
-use params::Refusal;
+use refusal::Refusal;
 use verdicts::Judged;
 use verdicts::Verdict;
 
@@ -25,7 +25,7 @@ fn sheet_verdict(sheet: &[u8], year: i64, column: &[u8]) -> Judged
     let got = sheet_reader::read(sheet);
     let refusal = got.refusal;
     let set = got.set;
-    if params::refusal_number(refusal) != 0 {
+    if refusal::refusal_number(refusal) != 0 {
         return Judged::Refused(refusal);
     }
     verdict_on(set, year, column)
@@ -49,9 +49,9 @@ fn put_judged(place: &mut u64, judged: Judged) -> u8
     match judged {
         Judged::Of(verdict) => {
             *place = verdict_number(verdict);
-            params::refusal_number(Refusal::Accepted)
+            refusal::refusal_number(Refusal::Accepted)
         }
-        Judged::Refused(refusal) => params::refusal_number(refusal),
+        Judged::Refused(refusal) => refusal::refusal_number(refusal),
     }
 }
 

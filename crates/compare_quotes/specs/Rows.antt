@@ -1,7 +1,7 @@
 -- Comparisons of some ends and refusals, by computing the definition.
 use mathlib.Core.Path.{_≡_, refl}
 use Prim.Native.Nat.{ℕ}
-use Rattle.params.specs.declared.Refusal.the-variants.{NoSuchAge, LogForceOutOfRange}
+use Rattle.refusal.specs.declared.Refusal.the-variants.{NoSuchAge, LogForceOutOfRange}
 use Rattle.exact.specs.declared.Figure.the-variants.{Printed, Open}
 use Rattle.path_quotes.specs.declared.Answer.{Answer}
 use Rattle.path_quotes.specs.declared.Answer.the-variants.{Quoted, Refused}

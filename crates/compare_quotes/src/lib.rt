@@ -4,9 +4,9 @@ ghost use mathlib.Core.Path.{_≡_};
 ghost use Prim.Native.Nat.{_-_};
 ghost use Rattle.compare_quotes.specs.Compare.{excess, quotedEnds, valuesOf, comparisonOf};
 use exact::Figure;
-use params::Refusal;
 use path_quotes::Answer;
 use path_quotes::Quote;
+use refusal::Refusal;
 
 // By how many units of 10^-9 the one value exceeds the other: at least, and at most.
 pub struct Excess {

@@ -19,7 +19,7 @@ use Rattle.tokens.specs.Number.{decimal, unsignedText}
 use Rattle.params.specs.declared.Params.{Params}
 use Rattle.params.specs.Set.{A, B, alpha, beta, Whole}
 use Rattle.params.specs.Limits.{inLimits, seriesInLimits, agesInLimits, ageInLimits}
-use Rattle.params.specs.Refusals.{refusalNumber}
+use Rattle.refusal.specs.Refusals.{refusalNumber}
 use Rattle.sheet.specs.declared.Reading.{Reading}
 use Rattle.sheet.specs.Sheet.{ageValues, values, sheetText, refused, readSheet}
 use Rattle.sheet.specs.SheetTrip.{AllSmall, in-limits-small, written-reads-back, written-out-of-limits}

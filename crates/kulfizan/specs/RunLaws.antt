@@ -5,8 +5,8 @@ use mathlib.Core.Bool.{Bool, true, false, cond}
 use mathlib.Core.List.{List}
 use lib.Dec.{eqb, leb}
 use lib.ListN.{length}
-use Rattle.params.specs.declared.Refusal.the-variants.{Accepted, BufferTooShort}
-use Rattle.params.specs.Refusals.{refusalNumber}
+use Rattle.refusal.specs.declared.Refusal.the-variants.{Accepted, BufferTooShort}
+use Rattle.refusal.specs.Refusals.{refusalNumber}
 use Rattle.sheet.specs.declared.Written.{Written}
 use Rattle.run_line.specs.Line.{longestLine}
 use Rattle.run.specs.declared.Program.{Program}

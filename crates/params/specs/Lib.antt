@@ -1,6 +1,4 @@
-pub mod Refusals
 pub mod Set
 pub mod Limits
 pub mod Within
 pub mod LimitsLaws
-pub mod RefusalLaws

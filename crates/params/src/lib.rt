@@ -1,7 +1,6 @@
-// The parameter set of a sheet, the years of the table, and the refusals of the papers.
+// The parameter set of a sheet, and the years of the table.
 ghost use mathlib.Core.Path.{_≡_};
 ghost use Prim.Native.Nat.{_<_};
-ghost use Rattle.params.specs.Refusals.{refusalNumber};
 ghost use Rattle.params.specs.Set.{ages, fourAt, blank};
 
 // A label only.
@@ -43,43 +42,6 @@ pub struct Age {
     pub slope: i64,
     pub alpha: i64,
     pub beta: i64,
-}
-
-// The papers' refusals, and none; where the papers have a word of the trade it is given.
-pub enum Refusal {
-    Accepted,
-    // "torn"
-    Malformed,
-    // "off scale"
-    OutOfLimits,
-    NoSuchAge,
-    NoSuchYear,
-    NoSuchSpan,
-    // "steep"
-    LogForceOutOfRange,
-    // "short"
-    BufferTooShort,
-    NoSuchRate,
-    // "torn column"
-    MalformedColumn,
-}
-
-// The number of a refusal in the papers, and 0 where nothing is refused.
-pub fn refusal_number(r: Refusal) -> u8
-    ensures { λ n. ⌜ n ≡ refusalNumber r ⌝ }
-{
-    match r {
-        Refusal::Accepted => 0,
-        Refusal::Malformed => 1,
-        Refusal::OutOfLimits => 2,
-        Refusal::NoSuchAge => 3,
-        Refusal::NoSuchYear => 4,
-        Refusal::NoSuchSpan => 5,
-        Refusal::LogForceOutOfRange => 6,
-        Refusal::BufferTooShort => 7,
-        Refusal::NoSuchRate => 8,
-        Refusal::MalformedColumn => 9,
-    }
 }
 
 // The four parameters of age x, out of the four runs: a loop over ages lends the runs, since a call that takes the set

@@ -2,7 +2,7 @@
 use mathlib.Core.Bool.{cond}
 use Rattle.expo.specs.Billionths.{billionths}
 use Rattle.params.specs.declared.Params.{Params}
-use Rattle.params.specs.declared.Refusal.the-variants.{LogForceOutOfRange}
+use Rattle.refusal.specs.declared.Refusal.the-variants.{LogForceOutOfRange}
 use Rattle.exact.specs.Figure.{figureOf}
 use Rattle.paths.specs.Path.{pathInRange}
 use Rattle.paths.specs.Values.{gridValue}

@@ -5,9 +5,9 @@ ghost use Rattle.kinds.specs.Code.{RateWithin};
 ghost use Rattle.path_quotes.specs.Code.{pathAnswer};
 use exact::Figure;
 use params::Params;
-use params::Refusal;
 use paths::Fold;
 use paths::Path;
+use refusal::Refusal;
 
 // The two ends of a figure in units of 10^-9, with the figure: a number of steps, or open.
 pub struct Quote {

@@ -12,10 +12,10 @@ use Rattle.whole.specs.Sizes.{Under}
 use Rattle.whole.specs.Bound.{under-pos}
 use Rattle.whole.specs.Split.{split, split-sub}
 use Rattle.params.specs.declared.Params.{Params}
-use Rattle.params.specs.declared.Refusal.{Refusal}
-use Rattle.params.specs.declared.Refusal.the-variants.{Accepted, OutOfLimits, LogForceOutOfRange}
+use Rattle.refusal.specs.declared.Refusal.{Refusal}
+use Rattle.refusal.specs.declared.Refusal.the-variants.{Accepted, OutOfLimits, LogForceOutOfRange}
 use Rattle.params.specs.Limits.{inLimits, startYear, lastYears}
-use Rattle.params.specs.Refusals.{refusalNumber}
+use Rattle.refusal.specs.Refusals.{refusalNumber}
 use Rattle.paths.specs.Path.{pathInRange}
 use Rattle.paths.specs.declared.Path.{Path}
 use Rattle.walks.specs.Code.{pathIs}

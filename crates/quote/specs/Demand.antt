@@ -6,7 +6,7 @@ use lib.IntN.{ℤ, natAbs}
 use Rattle.expo.specs.Billionths.{billionths}
 use Rattle.expo.specs.Grid.{inUnits}
 use Rattle.params.specs.declared.Params.{Params}
-use Rattle.params.specs.Refusals.{refusalNumber}
+use Rattle.refusal.specs.Refusals.{refusalNumber}
 use Rattle.exact.specs.declared.Figure.{Figure}
 use Rattle.exact.specs.declared.Figure.the-variants.{Printed, Open}
 use Rattle.exact.specs.Value.{AtLeast, AtMost, RoundsTo, OneStep, Narrows, Agrees}

@@ -8,9 +8,9 @@ use lib.IntN.{ℤ, natAbs}
 use Rattle.expo.specs.declared.Ends.{Ends}
 use Rattle.expo.specs.Billionths.{billionths}
 use Rattle.params.specs.declared.Params.{Params}
-use Rattle.params.specs.declared.Refusal.{Refusal}
-use Rattle.params.specs.declared.Refusal.the-variants.{OutOfLimits, LogForceOutOfRange}
-use Rattle.params.specs.Refusals.{refusalNumber}
+use Rattle.refusal.specs.declared.Refusal.{Refusal}
+use Rattle.refusal.specs.declared.Refusal.the-variants.{OutOfLimits, LogForceOutOfRange}
+use Rattle.refusal.specs.Refusals.{refusalNumber}
 use Rattle.params.specs.Limits.{inLimits, startYear}
 use Rattle.exact.specs.Value.{Exact}
 use Rattle.exact.specs.Figure.{figureOf}

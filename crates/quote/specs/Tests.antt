@@ -7,7 +7,7 @@ use lib.Dec.{T}
 use lib.IntN.{ℤ, pos, natAbs}
 use Rattle.whole.specs.Clash.{clash}
 use Rattle.params.specs.declared.Params.{Params}
-use Rattle.params.specs.declared.Refusal.the-variants.{Accepted}
+use Rattle.refusal.specs.declared.Refusal.the-variants.{Accepted}
 use Rattle.params.specs.Limits.{inLimits, startYear, firstYears, lastYears}
 use Rattle.closure.specs.Weights.{lastClosed}
 use Rattle.folds.specs.Code.{mostFactors}

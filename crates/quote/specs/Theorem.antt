@@ -9,12 +9,12 @@ use lib.IntN.{ℤ, natAbs}
 use Rattle.whole.specs.Clash.{clash}
 use Rattle.expo.specs.Billionths.{billionths}
 use Rattle.params.specs.declared.Params.{Params}
-use Rattle.params.specs.declared.Refusal.{Refusal}
-use Rattle.params.specs.declared.Refusal.the-variants.{Accepted}
+use Rattle.refusal.specs.declared.Refusal.{Refusal}
+use Rattle.refusal.specs.declared.Refusal.the-variants.{Accepted}
 use Rattle.params.specs.Limits.{startYear}
 use Rattle.closure.specs.Weights.{lastClosed}
-use Rattle.params.specs.Refusals.{refusalNumber}
-use Rattle.params.specs.RefusalLaws.{accepted}
+use Rattle.refusal.specs.Refusals.{refusalNumber}
+use Rattle.refusal.specs.RefusalLaws.{accepted}
 use Rattle.exact.specs.declared.Figure.{Figure}
 use Rattle.exact.specs.declared.Figure.the-variants.{Printed, Open}
 use Rattle.exact.specs.Value.{OneStep}

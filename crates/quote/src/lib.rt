@@ -7,10 +7,10 @@ ghost use Rattle.quote.specs.Quote.{answerOf};
 ghost use Rattle.quote.specs.Demand.{Demand3};
 use kinds::Kind;
 use params::Params;
-use params::Refusal;
 use params::START_YEAR;
 use path_quotes::Answer;
 use paths::Path;
+use refusal::Refusal;
 
 // The answer to a query of a set in its limits.
 pub fn quote_within(p: Params, kind: Kind, age: i64, year: i64, span: i64) -> Answer
@@ -19,7 +19,7 @@ pub fn quote_within(p: Params, kind: Kind, age: i64, year: i64, span: i64) -> An
 {
     let rule = kinds::rule_of(kind);
     let refusal = table_tests::table_refusal(rule, age, year, span);
-    if params::refusal_number(refusal) != 0 {
+    if refusal::refusal_number(refusal) != 0 {
         return Answer::Refused(refusal);
     }
     let fold = rule.fold;

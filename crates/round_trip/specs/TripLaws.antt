@@ -11,11 +11,11 @@ use lib.ListN.{length, take, drop, length-append}
 use lib.Seq.{take-append-seam}
 use Rattle.tokens.specs.Text.{bytesOf, takeText}
 use Rattle.params.specs.declared.Params.{Params}
-use Rattle.params.specs.declared.Refusal.the-variants.{Accepted, Malformed, OutOfLimits, BufferTooShort}
+use Rattle.refusal.specs.declared.Refusal.the-variants.{Accepted, Malformed, OutOfLimits, BufferTooShort}
 use Rattle.sheet.specs.declared.Reading.{Reading}
 use Rattle.sheet.specs.declared.Written.{Written}
-use Rattle.params.specs.Refusals.{refusalNumber}
-use Rattle.params.specs.RefusalLaws.{accepted as is-accepted}
+use Rattle.refusal.specs.Refusals.{refusalNumber}
+use Rattle.refusal.specs.RefusalLaws.{accepted as is-accepted}
 use Rattle.params.specs.Set.{Whole}
 use Rattle.params.specs.Limits.{inLimits}
 use Rattle.sheet.specs.Sheet.{sheetText, headText, readHead, readSet, refused, readingOf, readSheet}

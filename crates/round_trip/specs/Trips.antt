@@ -5,11 +5,11 @@ use mathlib.Core.List.{List, _++_}
 use lib.Dec.{eqb, leb}
 use lib.ListN.{length, drop}
 use Rattle.params.specs.declared.Params.{Params}
-use Rattle.params.specs.declared.Refusal.{Refusal}
-use Rattle.params.specs.declared.Refusal.the-variants.{Accepted, Malformed, BufferTooShort}
+use Rattle.refusal.specs.declared.Refusal.{Refusal}
+use Rattle.refusal.specs.declared.Refusal.the-variants.{Accepted, Malformed, BufferTooShort}
 use Rattle.sheet.specs.declared.Reading.{Reading}
 use Rattle.sheet.specs.declared.Written.{Written}
-use Rattle.params.specs.Refusals.{refusalNumber}
+use Rattle.refusal.specs.Refusals.{refusalNumber}
 use Rattle.sheet.specs.Sheet.{refused, readSheet, writeRefusal}
 
 -- nothing is refused

@@ -25,7 +25,7 @@ pub fn read_then_write(bytes: &[u8], buffer: &mut [u8]) -> Written
 {
     let got = sheet_reader::read(bytes);
     let refusal = got.refusal;
-    if params::refusal_number(refusal) != 0 {
+    if refusal::refusal_number(refusal) != 0 {
         return Written { refusal, len: 0 };
     }
     let set = got.set;

@@ -7,7 +7,7 @@ use borrow.Author.Tests.{le-leb, lt-leb}
 use lib.ListN.{length, drop, length-append}
 use Rattle.printing.specs.Put.{Put}
 use Rattle.printing.specs.OverwrittenLaws.{overwritten-front}
-use Rattle.params.specs.declared.Refusal.the-variants.{Accepted, BufferTooShort}
+use Rattle.refusal.specs.declared.Refusal.the-variants.{Accepted, BufferTooShort}
 use Rattle.sheet.specs.declared.Written.{Written}
 use Rattle.run.specs.Into.{textAnswer, textBuffer}
 

@@ -6,8 +6,8 @@ use Prim.Native.Nat.{ℕ, _+_, _*_}
 use lib.Dec.{eqb}
 use Rattle.tokens.specs.Text.{bytesOf}
 use Rattle.tokens.specs.Number.{unsignedText}
-use Rattle.params.specs.declared.Refusal.{Refusal}
-use Rattle.params.specs.Refusals.{refusalNumber}
+use Rattle.refusal.specs.declared.Refusal.{Refusal}
+use Rattle.refusal.specs.Refusals.{refusalNumber}
 use Rattle.answer_text.specs.AnswerText.{refusalLine, refusedText}
 use Rattle.run_sheets.specs.declared.Front.{Front}
 use Rattle.run_sheets.specs.Front.{frontOf}

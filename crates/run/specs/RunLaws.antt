@@ -9,8 +9,8 @@ use lib.ListN.{length, length-append}
 use Rattle.tokens.specs.Text.{bytesOf}
 use Rattle.tokens.specs.Number.{unsignedText}
 use Rattle.tokens.specs.DecimalLaws.{text-small}
-use Rattle.params.specs.declared.Refusal.{Refusal}
-use Rattle.params.specs.Refusals.{refusalNumber}
+use Rattle.refusal.specs.declared.Refusal.{Refusal}
+use Rattle.refusal.specs.Refusals.{refusalNumber}
 use Rattle.answer_text.specs.AnswerText.{refusalLine, refusedText}
 use Rattle.answer_text.specs.Lengths.{refusal-length, refused-length}
 use Rattle.run_sheets.specs.declared.Front.{Front}

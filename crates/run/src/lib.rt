@@ -10,7 +10,7 @@ ghost use Rattle.run.specs.Answers.{answersFrom};
 ghost use Rattle.run.specs.Into.{textAnswer, textBuffer};
 ghost use Rattle.run.specs.Run.{takesTwo, refusedRun, linesRun, runOf, runRoom};
 use params::Params;
-use params::Refusal;
+use refusal::Refusal;
 use run_line::Mode;
 use sheet::Written;
 use verdict_text::MOST_VERDICT;
@@ -94,7 +94,7 @@ fn put_lines(mode: Mode, input: &[u8], out: &mut [u8]) -> usize
 {
     let front = run_sheets::read_front(takes_two(mode), input);
     let refusal = front.refusal;
-    if params::refusal_number(refusal) != 0 {
+    if refusal::refusal_number(refusal) != 0 {
         return put_refused(out, front.named, refusal);
     }
     let first = front.first;

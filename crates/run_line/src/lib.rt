@@ -8,10 +8,10 @@ ghost use Rattle.params.specs.Limits.{inLimits};
 ghost use Rattle.run_line.specs.Line.{kindDecimals, queryAnswer, reply, lineAnswer, longestLine};
 use kinds::Kind;
 use params::Params;
-use params::Refusal;
 use path_quotes::Answer;
 use query::Query;
 use query::QueryRead;
+use refusal::Refusal;
 
 // What a program answers a query with: its figure, with the ends where they are asked for, or its figures by two sheets.
 pub enum Mode {

@@ -12,9 +12,9 @@ use lib.ListN.{length, take, drop, length-drop}
 use lib.Seq.{take-all}
 use Rattle.tokens.specs.Text.{Parse, malformed, taken}
 use Rattle.params.specs.declared.Params.{Params}
-use Rattle.params.specs.declared.Refusal.{Refusal}
-use Rattle.params.specs.declared.Refusal.the-variants.{Accepted, Malformed, OutOfLimits}
-use Rattle.params.specs.Refusals.{refusalNumber}
+use Rattle.refusal.specs.declared.Refusal.{Refusal}
+use Rattle.refusal.specs.declared.Refusal.the-variants.{Accepted, Malformed, OutOfLimits}
+use Rattle.refusal.specs.Refusals.{refusalNumber}
 use Rattle.params.specs.Limits.{inLimits}
 use Rattle.sheet.specs.declared.Reading.{Reading}
 use Rattle.sheet.specs.Sheet.{mostBytes, refused, readSet, readingOf, readSheet, sheetLines}

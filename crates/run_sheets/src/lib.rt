@@ -2,7 +2,7 @@
 ghost use mathlib.Core.Path.{_≡_};
 ghost use Rattle.run_sheets.specs.Front.{stopped, frontOf};
 use params::Params;
-use params::Refusal;
+use refusal::Refusal;
 use sheet_reader::MOST_BYTES;
 
 // The sets at the front of an input and the place after them; where it is refused, the number of the sheet that is, or 0
@@ -50,7 +50,7 @@ pub fn read_front(two: bool, input: &[u8]) -> Front
             next: end,
         };
     }
-    if params::refusal_number(refusal) != 0 {
+    if refusal::refusal_number(refusal) != 0 {
         return stop(1, refusal, end);
     }
     let rest = &input[end..];

@@ -9,8 +9,8 @@ use lib.Dec.{eqb}
 use lib.IntN.{ℤ}
 use lib.ListN.{length, drop}
 use Rattle.tokens.specs.Text.{Parse, malformed, taken}
-use Rattle.params.specs.declared.Refusal.the-variants.{Malformed}
-use Rattle.params.specs.Refusals.{refusalNumber}
+use Rattle.refusal.specs.declared.Refusal.the-variants.{Malformed}
+use Rattle.refusal.specs.Refusals.{refusalNumber}
 use Rattle.answer_text.specs.AnswerText.{refusalLine}
 use Rattle.answer_text.specs.Lengths.{refusal-length}
 use Rattle.run_sheets.specs.declared.Front.{Front}

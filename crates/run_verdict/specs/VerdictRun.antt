@@ -7,8 +7,8 @@ use lib.Dec.{eqb}
 use lib.IntN.{ℤ}
 use lib.ListN.{drop}
 use Rattle.tokens.specs.Text.{bytesOf, Parse, malformed, taken}
-use Rattle.params.specs.declared.Refusal.the-variants.{Malformed}
-use Rattle.params.specs.Refusals.{refusalNumber}
+use Rattle.refusal.specs.declared.Refusal.the-variants.{Malformed}
+use Rattle.refusal.specs.Refusals.{refusalNumber}
 use Rattle.sheet.specs.Sheet.{readLine}
 use Rattle.answer_text.specs.AnswerText.{refusalLine}
 use Rattle.run_sheets.specs.declared.Front.{Front}

@@ -8,7 +8,7 @@ ghost use Rattle.printing.specs.Put.{Put};
 ghost use Rattle.verdict_text.specs.VerdictText.{mostVerdict};
 ghost use Rattle.run_verdict.specs.VerdictRun.{readYear, verdictRun};
 ghost use Rattle.run_verdict.specs.Code.{PlaceIn};
-use params::Refusal;
+use refusal::Refusal;
 use tokens::NumberRead;
 
 // The year of the line at a place.
@@ -35,7 +35,7 @@ pub fn put_verdict(input: &[u8], out: &mut [u8]) -> usize
         return answer_text::put_refusal(out, 0, Refusal::Malformed);
     };
     let refusal = front.refusal;
-    if params::refusal_number(refusal) != 0 {
+    if refusal::refusal_number(refusal) != 0 {
         return answer_text::put_refusal(out, 0, refusal);
     }
     let set = front.first;

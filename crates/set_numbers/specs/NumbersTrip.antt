@@ -12,10 +12,10 @@ use lib.ListN.{length, getD, drop}
 use Rattle.params.specs.declared.Params.{Params}
 use Rattle.params.specs.declared.Sex.{Sex}
 use Rattle.params.specs.declared.Sex.the-variants.{M, F}
-use Rattle.params.specs.declared.Refusal.{Refusal}
-use Rattle.params.specs.declared.Refusal.the-variants.{Accepted, Malformed, OutOfLimits, BufferTooShort}
-use Rattle.params.specs.Refusals.{refusalNumber}
-use Rattle.params.specs.RefusalLaws.{accepted}
+use Rattle.refusal.specs.declared.Refusal.{Refusal}
+use Rattle.refusal.specs.declared.Refusal.the-variants.{Accepted, Malformed, OutOfLimits, BufferTooShort}
+use Rattle.refusal.specs.Refusals.{refusalNumber}
+use Rattle.refusal.specs.RefusalLaws.{accepted}
 use Rattle.params.specs.Set.{Whole}
 use Rattle.params.specs.Limits.{inLimits}
 use Rattle.sheet.specs.declared.Reading.{Reading}

@@ -9,8 +9,8 @@ use lib.ListN.{length, getD, take, drop}
 use Rattle.params.specs.declared.Params.{Params}
 use Rattle.params.specs.declared.Sex.{Sex}
 use Rattle.params.specs.declared.Sex.the-variants.{M, F}
-use Rattle.params.specs.declared.Refusal.the-variants.{Malformed, BufferTooShort}
-use Rattle.params.specs.Refusals.{refusalNumber}
+use Rattle.refusal.specs.declared.Refusal.the-variants.{Malformed, BufferTooShort}
+use Rattle.refusal.specs.Refusals.{refusalNumber}
 use Rattle.sheet.specs.declared.Written.{Written}
 use Rattle.sheet.specs.Sheet.{values, paramsOf, sheetText, readSheet, writeRefusal, writtenBuffer}
 

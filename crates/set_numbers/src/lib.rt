@@ -3,15 +3,15 @@ ghost use mathlib.Core.Path.{_≡_};
 ghost use Prim.Native.Nat.{_+_, _≤_, _<_};
 ghost use mathlib.Core.List.{[], _∷_};
 ghost use lib.ListN.{length, drop};
-ghost use Rattle.params.specs.Refusals.{refusalNumber};
+ghost use Rattle.refusal.specs.Refusals.{refusalNumber};
 ghost use Rattle.sheet.specs.Sheet.{runFrom};
 ghost use Rattle.set_numbers.specs.SetNumbers.{setLength, sexNumber, sexOf, areSet, setOf, over, setOver};
 ghost use Rattle.set_numbers.specs.SetNumbers.{readNo, numbersAfter, toldLength, writeNo};
 ghost use Rattle.set_numbers.specs.SetNumbers.{bufferAfter, lengthAfter};
 use params::AGES;
 use params::Params;
-use params::Refusal;
 use params::Sex;
+use refusal::Refusal;
 use sheet::Written;
 
 // The sex, a, theta, K and k.
@@ -73,12 +73,12 @@ pub fn read_into(sheet: &[u8], values: &mut [i64]) -> u8
     let got = sheet_reader::read(sheet);
     let refusal = got.refusal;
     let set = got.set;
-    let number = params::refusal_number(refusal);
+    let number = refusal::refusal_number(refusal);
     if number != 0 {
         return number;
     }
     if values.len() < SET_LENGTH {
-        return params::refusal_number(Refusal::BufferTooShort);
+        return refusal::refusal_number(Refusal::BufferTooShort);
     }
     put_set(values, set);
     number
@@ -150,7 +150,7 @@ pub fn tell(got: Written, len: &mut u64) -> u8
     ensures { λ r. ⌜ now (len .exit) ≡ toldLength got (now (len .entry)) ⌝ }
 {
     let refusal = got.refusal;
-    let number = params::refusal_number(refusal);
+    let number = refusal::refusal_number(refusal);
     if number == 0 {
         *len = got.len as u64;
     }
@@ -165,7 +165,7 @@ pub fn write_from(values: &[i64], buffer: &mut [u8], len: &mut u64) -> u8
     ensures { λ r. ⌜ now (len .exit) ≡ lengthAfter (now (values .entry)) (length (now (buffer .entry))) (now (len .entry)) ⌝ }
 {
     if !are_set(values) {
-        return params::refusal_number(Refusal::Malformed);
+        return refusal::refusal_number(Refusal::Malformed);
     }
     tell(sheet_writer::write(set_of(values), buffer), len)
 }

@@ -3,7 +3,7 @@
 ghost use Rattle.words.specs.ShortText.{Sized};
 ghost use Rattle.sheet.specs.Lines.{LineOf, FourOf};
 use params::Params;
-use params::Refusal;
+use refusal::Refusal;
 use tokens::NumberRead;
 use words::Short;
 

@@ -9,9 +9,9 @@ use lib.ListN.{length, drop, set, drop-of-length-le}
 use lib.Seq.{sets-eq}
 use Rattle.tokens.specs.Text.{Parse, malformed, taken}
 use Rattle.tokens.specs.Steps.{goes, stops}
-use Rattle.params.specs.declared.Refusal.{Refusal}
-use Rattle.params.specs.declared.Refusal.the-variants.{Accepted, Malformed, BufferTooShort}
-use Rattle.params.specs.Refusals.{refusalNumber}
+use Rattle.refusal.specs.declared.Refusal.{Refusal}
+use Rattle.refusal.specs.declared.Refusal.the-variants.{Accepted, Malformed, BufferTooShort}
+use Rattle.refusal.specs.Refusals.{refusalNumber}
 use Rattle.sheet.specs.declared.Reading.{Reading}
 use Rattle.sheet.specs.Sheet.{readSheet}
 use Rattle.kinds.specs.declared.Kind.{Kind}

@@ -10,9 +10,9 @@ use lib.Dec.{eqb, leb}
 use lib.IntN.{ℤ}
 use lib.ListN.{length}
 use Rattle.tokens.specs.Text.{Parse, malformed, taken}
-use Rattle.params.specs.declared.Refusal.{Refusal}
-use Rattle.params.specs.declared.Refusal.the-variants.{Accepted, Malformed, BufferTooShort}
-use Rattle.params.specs.Refusals.{refusalNumber}
+use Rattle.refusal.specs.declared.Refusal.{Refusal}
+use Rattle.refusal.specs.declared.Refusal.the-variants.{Accepted, Malformed, BufferTooShort}
+use Rattle.refusal.specs.Refusals.{refusalNumber}
 use Rattle.sheet.specs.declared.Reading.{Reading}
 use Rattle.sheet.specs.Sheet.{readSheet}
 use Rattle.kinds.specs.declared.Kind.{Kind}

@@ -6,8 +6,8 @@ use lib.Dec.{eqb, leb}
 use lib.IntN.{ℤ}
 use lib.ListN.{length, drop}
 use Rattle.tokens.specs.Text.{Parse, malformed, taken, andThen}
-use Rattle.params.specs.declared.Refusal.the-variants.{Accepted, Malformed, BufferTooShort}
-use Rattle.params.specs.Refusals.{refusalNumber}
+use Rattle.refusal.specs.declared.Refusal.the-variants.{Accepted, Malformed, BufferTooShort}
+use Rattle.refusal.specs.Refusals.{refusalNumber}
 use Rattle.sheet.specs.declared.Reading.{Reading}
 use Rattle.sheet.specs.Sheet.{readSheet}
 use Rattle.exact.specs.declared.Figure.{Figure}

@@ -11,10 +11,10 @@ ghost use Rattle.sheet_quote.specs.SheetQuote.{quoteLength, printedNumbe
 ghost use Rattle.sheet_quote.specs.SheetQuote.{quotedNo, quotedAfter, quoteNo, quoteAfter};
 use exact::Figure;
 use kinds::Kind;
-use params::Refusal;
 use path_quotes::Answer;
 use path_quotes::Quote;
 use query::KindRead;
+use refusal::Refusal;
 
 // The two ends, whether the figure is printed, and its steps.
 const QUOTE_LENGTH: usize = 4;
@@ -65,7 +65,7 @@ fn sheet_answer(sheet: &[u8], kind: Kind, age: i64, year: i64, span: i64) -> Ans
     let got = sheet_reader::read(sheet);
     let refusal = got.refusal;
     let set = got.set;
-    if params::refusal_number(refusal) != 0 {
+    if refusal::refusal_number(refusal) != 0 {
         return Answer::Refused(refusal);
     }
     quote::quote_of(set, kind, age, year, span)
@@ -109,10 +109,10 @@ fn put_quote(numbers: &mut [u64], quote: Quote) -> u8
     ensures { λ r. ⌜ now (numbers .exit) ≡ quotedAfter quote (now (numbers .entry)) ⌝ }
 {
     if numbers.len() < QUOTE_LENGTH {
-        return params::refusal_number(Refusal::BufferTooShort);
+        return refusal::refusal_number(Refusal::BufferTooShort);
     }
     put_four(numbers, quote);
-    params::refusal_number(Refusal::Accepted)
+    refusal::refusal_number(Refusal::Accepted)
 }
 
 // Puts an answer into the first four numbers: the refusal's number, or 0; refused, every number stays as it was.
@@ -122,7 +122,7 @@ fn put_answer(numbers: &mut [u64], answer: Answer) -> u8
 {
     match answer {
         Answer::Quoted(quote) => put_quote(numbers, quote),
-        Answer::Refused(refusal) => params::refusal_number(refusal),
+        Answer::Refused(refusal) => refusal::refusal_number(refusal),
     }
 }
 
@@ -142,7 +142,7 @@ fn answer_into(
         (now (numbers .entry)) ⌝ }
 {
     let KindRead::Of(kind, _) = read else {
-        return params::refusal_number(Refusal::Malformed);
+        return refusal::refusal_number(Refusal::Malformed);
     };
     put_answer(numbers, sheet_answer(sheet, kind, age, year, span))
 }

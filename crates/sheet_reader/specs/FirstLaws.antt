@@ -20,7 +20,7 @@ use Rattle.lines.specs.CutLaws.{above, Cuts, above-append, cuts-none, cuts-line
 use Rattle.params.specs.declared.Params.{Params}
 use Rattle.params.specs.declared.Sex.{Sex}
 use Rattle.params.specs.declared.Sex.the-variants.{M, F}
-use Rattle.params.specs.declared.Refusal.the-variants.{Malformed}
+use Rattle.refusal.specs.declared.Refusal.the-variants.{Malformed}
 use Rattle.sheet.specs.Sheet.{mostBytes, sheetLines, forAges, ageKeys, keys, lineText, linesText, headText, readLines, readHead}
 use Rattle.sheet.specs.Sheet.{paramsOf, readSet, refused, readingOf, readSheet}
 use Rattle.tokens.specs.NumberTrip.{malformed-not-taken}

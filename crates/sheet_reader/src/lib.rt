@@ -5,13 +5,13 @@ ghost use mathlib.Core.List.{[]};
 ghost use lib.ListN.{length};
 ghost use Rattle.tokens.specs.Text.{malformed, taken};
 ghost use Rattle.lines.specs.Lines.{firstLines};
-ghost use Rattle.params.specs.declared.Refusal.the-variants.{Malformed};
+ghost use Rattle.refusal.specs.declared.Refusal.the-variants.{Malformed};
 ghost use Rattle.sheet.specs.Sheet.{sheetLines, refused, readingOf, readSheet};
 ghost use Rattle.sheet_set.specs.Ages.{setRead};
 ghost use Rattle.sheet_reader.specs.Read.{setFront, atEnd, refusalOf};
 use params::Params;
-use params::Refusal;
 use params::Sex;
+use refusal::Refusal;
 use sheet::Reading;
 use sheet::SHEET_LINES;
 use sheet_set::SetRead;
@@ -69,7 +69,7 @@ fn reading_of(whole: bool, set: Params) -> Reading
     ensures { λ r. ⌜ r ≡ readingOf (cond whole (taken set []) malformed) ⌝ }
 {
     let refusal = refusal_of(whole, limits::in_limits(set));
-    if params::refusal_number(refusal) != 0 {
+    if refusal::refusal_number(refusal) != 0 {
         let nothing = params::blank();
         return Reading {
             refusal,

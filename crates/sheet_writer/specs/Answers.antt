@@ -9,7 +9,7 @@ use lib.ListN.{length}
 use Rattle.printing.specs.OverwrittenLaws.{overwritten-front}
 use Rattle.params.specs.declared.Params.{Params}
 use Rattle.sheet.specs.declared.Written.{Written}
-use Rattle.params.specs.declared.Refusal.the-variants.{Accepted, OutOfLimits, BufferTooShort}
+use Rattle.refusal.specs.declared.Refusal.the-variants.{Accepted, OutOfLimits, BufferTooShort}
 use Rattle.params.specs.Limits.{inLimits}
 use Rattle.sheet.specs.Sheet.{sheetText, writeRefusal, writtenLength, writeAnswer, writtenBuffer}
 use Rattle.printing.specs.Put.{Put}

@@ -9,7 +9,7 @@ ghost use Rattle.sheet_length.specs.Parts.{agesText};
 ghost use Rattle.printing.specs.Put.{Room, Put};
 use params::AGES;
 use params::Params;
-use params::Refusal;
+use refusal::Refusal;
 use sheet::Written;
 
 // Writes the lines of all ages; the place after them.

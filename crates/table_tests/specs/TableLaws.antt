@@ -7,8 +7,8 @@ use lib.IntN.{ℤ, pos, negsuc, natAbs}
 use lib.Signed.{leZ}
 use mir.Facts.{and-yes}
 use Rattle.whole.specs.Clash.{clash}
-use Rattle.params.specs.declared.Refusal.{Refusal}
-use Rattle.params.specs.declared.Refusal.the-variants.{Accepted}
+use Rattle.refusal.specs.declared.Refusal.{Refusal}
+use Rattle.refusal.specs.declared.Refusal.the-variants.{Accepted}
 use Rattle.kinds.specs.declared.Rule.{Rule}
 use Rattle.table_tests.specs.TableTests.{between, ageInTable, yearInTable, spanInTable, rateInTable, firstFailed, tableTests}
 

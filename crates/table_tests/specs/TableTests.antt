@@ -5,8 +5,8 @@ use mathlib.Core.List.{List, [], _∷_}
 use Prim.Native.Nat.{_+_}
 use lib.IntN.{ℤ, pos, natAbs, _+ℤ_}
 use lib.Signed.{leZ}
-use Rattle.params.specs.declared.Refusal.{Refusal}
-use Rattle.params.specs.declared.Refusal.the-variants.{Accepted, NoSuchAge, NoSuchYear, NoSuchSpan, NoSuchRate}
+use Rattle.refusal.specs.declared.Refusal.{Refusal}
+use Rattle.refusal.specs.declared.Refusal.the-variants.{Accepted, NoSuchAge, NoSuchYear, NoSuchSpan, NoSuchRate}
 use Rattle.params.specs.Limits.{startYear, firstYears}
 use Rattle.closure.specs.Weights.{lastClosed}
 use Rattle.annuity.specs.Annuity.{mostRate}

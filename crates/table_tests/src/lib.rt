@@ -7,8 +7,8 @@ use annuity::MOST_RATE;
 use closure::LAST_CLOSED;
 use kinds::Rule;
 use params::FIRST_YEARS;
-use params::Refusal;
 use params::START_YEAR;
+use refusal::Refusal;
 
 // Whether v is at least low and at most high.
 fn between(low: i64, high: i64, v: i64) -> bool

@@ -11,10 +11,10 @@ use Rattle.tokens.specs.Text.{Parse, taken}
 use Rattle.expo.specs.Billionths.{billionths}
 use Rattle.expo.specs.declared.Ends.{Ends}
 use Rattle.params.specs.declared.Params.{Params}
-use Rattle.params.specs.declared.Refusal.{Refusal}
-use Rattle.params.specs.declared.Refusal.the-variants.{Accepted, OutOfLimits, NoSuchYear, LogForceOutOfRange, MalformedColumn}
+use Rattle.refusal.specs.declared.Refusal.{Refusal}
+use Rattle.refusal.specs.declared.Refusal.the-variants.{Accepted, OutOfLimits, NoSuchYear, LogForceOutOfRange, MalformedColumn}
 use Rattle.params.specs.Limits.{inLimits}
-use Rattle.params.specs.Refusals.{refusalNumber}
+use Rattle.refusal.specs.Refusals.{refusalNumber}
 use Rattle.paths.specs.Path.{factors, pathInRange}
 use Rattle.kinds.specs.declared.Kind.the-variants.{Death}
 use Rattle.kinds.specs.Kinds.{ruleOf, mostSpan, rateOf}

@@ -17,9 +17,9 @@ use Rattle.whole.specs.Table.{listed-map, listed-at}
 use Rattle.expo.specs.declared.Ends.{Ends}
 use Rattle.expo.specs.Billionths.{billionths}
 use Rattle.params.specs.declared.Params.{Params}
-use Rattle.params.specs.declared.Refusal.the-variants.{Accepted}
+use Rattle.refusal.specs.declared.Refusal.the-variants.{Accepted}
 use Rattle.params.specs.Limits.{inLimits, startYear}
-use Rattle.params.specs.Refusals.{refusalNumber}
+use Rattle.refusal.specs.Refusals.{refusalNumber}
 use Rattle.closure.specs.Weights.{lastClosed}
 use Rattle.exact.specs.Figure.{probabilityStep, figureOf}
 use Rattle.mortality.specs.Cell as cell

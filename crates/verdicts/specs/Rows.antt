@@ -9,11 +9,11 @@ use Rattle.whole.specs.SignedEnds.{leastProduct, greatestProduct, outward}
 use Rattle.whole.specs.Division.{floorDiv, ceilDiv}
 use Rattle.tokens.specs.Text.{malformed, taken}
 use Rattle.params.specs.declared.Params.{Params}
-use Rattle.params.specs.declared.Refusal.the-variants.{OutOfLimits, NoSuchYear, LogForceOutOfRange, MalformedColumn}
+use Rattle.refusal.specs.declared.Refusal.the-variants.{OutOfLimits, NoSuchYear, LogForceOutOfRange, MalformedColumn}
 use Rattle.params.specs.declared.Sex.the-variants.{M}
 use Rattle.params.specs.Set.{A, B, alpha, beta, ages}
 use Rattle.params.specs.Limits.{inLimits, seriesInLimits, agesInLimits, ageInLimits}
-use Rattle.params.specs.Refusals.{refusalNumber}
+use Rattle.refusal.specs.Refusals.{refusalNumber}
 use Rattle.series.specs.Series.{periodIn, kappaIn, kappaStep, cellForce, logForce, inRange}
 use Rattle.mortality.specs.Cell.{neededInRange, fittedInRange}
 use Rattle.paths.specs.Path.{placeAt, pathOf, pathInRange}

@@ -8,9 +8,9 @@ use lib.IntN.{ℤ, pos, natAbs}
 use lib.ListN.{getD}
 use Rattle.tokens.specs.Text.{bytesOf, Parse, malformed, taken, isTaken}
 use Rattle.params.specs.declared.Params.{Params}
-use Rattle.params.specs.declared.Refusal.{Refusal}
-use Rattle.params.specs.declared.Refusal.the-variants.{OutOfLimits, NoSuchYear, LogForceOutOfRange, MalformedColumn}
-use Rattle.params.specs.Refusals.{refusalNumber}
+use Rattle.refusal.specs.declared.Refusal.{Refusal}
+use Rattle.refusal.specs.declared.Refusal.the-variants.{OutOfLimits, NoSuchYear, LogForceOutOfRange, MalformedColumn}
+use Rattle.refusal.specs.Refusals.{refusalNumber}
 use Rattle.params.specs.Limits.{inLimits, startYear}
 use Rattle.closure.specs.Weights.{lastClosed}
 use Rattle.paths.specs.Path.{Place, pathOf, pathInRange}

@@ -12,11 +12,11 @@ use lib.IntN.{ℤ}
 use Rattle.whole.specs.Clash.{clash}
 use Rattle.tokens.specs.Text.{Parse, isTaken}
 use Rattle.params.specs.declared.Params.{Params}
-use Rattle.params.specs.declared.Refusal.{Refusal}
-use Rattle.params.specs.declared.Refusal.the-variants.{Accepted}
+use Rattle.refusal.specs.declared.Refusal.{Refusal}
+use Rattle.refusal.specs.declared.Refusal.the-variants.{Accepted}
 use Rattle.params.specs.Limits.{inLimits}
-use Rattle.params.specs.Refusals.{refusalNumber}
-use Rattle.params.specs.RefusalLaws.{accepted}
+use Rattle.refusal.specs.Refusals.{refusalNumber}
+use Rattle.refusal.specs.RefusalLaws.{accepted}
 use Rattle.paths.specs.Path.{pathInRange}
 use Rattle.kinds.specs.declared.Kind.the-variants.{Death}
 use Rattle.kinds.specs.Kinds.{ruleOf}

@@ -17,9 +17,9 @@ use expo::Ends;
 use folds::MOST_FACTORS;
 use kinds::Kind;
 use params::Params;
-use params::Refusal;
 use params::START_YEAR;
 use paths::Path;
+use refusal::Refusal;
 
 // Ages 0 to 120.
 pub const COLUMN_AGES: usize = LAST_CLOSED + 1;
@@ -91,7 +91,7 @@ pub fn judge_within(p: Params, year: i64, column: [u64; COLUMN_AGES]) -> Judged
 {
     let rule = kinds::rule_of(Kind::Death);
     let refusal = table_tests::table_refusal(rule, 0, year, 0);
-    if params::refusal_number(refusal) != 0 {
+    if refusal::refusal_number(refusal) != 0 {
         return Judged::Refused(refusal);
     }
     let n = (year - START_YEAR) as u64;

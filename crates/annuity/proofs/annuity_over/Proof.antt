@@ -10,7 +10,15 @@ use Rattle.folds.specs.Folds.{plus}
 use Rattle.folds.specs.Code.{mostFactors}
 use Rattle.folds.proofs.Running.{SurvivalTo, survival-none, survival-more, factor-small}
 use Rattle.annuity.specs.Annuity.{annuityOver}
-use Rattle.annuity.proofs.Running.{ DiscountTo, discount-none, discount-more, PaymentTo, payment-to, PriceTo, price-none, price-more,
+use Rattle.annuity.proofs.Running.{
+  DiscountTo,
+  discount-none,
+  discount-more,
+  PaymentTo,
+  payment-to,
+  PriceTo,
+  price-none,
+  price-more,
 }
 use Rattle.annuity.proofs.annuity_over.Statement.{statement}
 use Rattle.annuity.proofs.annuity_over.Tie as tie

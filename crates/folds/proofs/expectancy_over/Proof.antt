@@ -8,7 +8,14 @@ use lib.ListN.{length, take}
 use Rattle.expo.specs.Billionths.{billionths}
 use Rattle.folds.specs.Folds.{plus, expectancyOver}
 use Rattle.folds.specs.Code.{mostFactors}
-use Rattle.folds.proofs.Running.{ SurvivalTo, ExpectancyTo, survival-none, survival-more, expectancy-none, expectancy-more, factor-small,
+use Rattle.folds.proofs.Running.{
+  SurvivalTo,
+  ExpectancyTo,
+  survival-none,
+  survival-more,
+  expectancy-none,
+  expectancy-more,
+  factor-small,
 }
 use Rattle.folds.proofs.expectancy_over.Statement.{statement}
 use Rattle.folds.proofs.expectancy_over.Tie as tie

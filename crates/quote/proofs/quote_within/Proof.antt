@@ -15,7 +15,7 @@ use Rattle.table_tests.specs.TableTests.{firstFailed, tableTests}
 use Rattle.table_tests.specs.TableLaws.{InTable, in-table}
 use Rattle.quote.specs.Quote.{queryPath}
 use Rattle.quote.specs.Tests.{Counted, counted, path-first, path-room, path-in}
-use Rattle.params.specs.RefusalLaws.{accepted}
+use Rattle.refusal.specs.RefusalLaws.{accepted}
 use Rattle.kinds.proofs.Casts.{cast-whole}
 use Rattle.quote.proofs.Steps.{table-answer, along-answer, years-under, years-from}
 use Rattle.quote.proofs.quote_within.Statement.{statement}

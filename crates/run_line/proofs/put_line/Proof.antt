@@ -9,7 +9,7 @@ use lib.Seq.{length-take-le}
 use Rattle.tokens.specs.Text.{malformed, taken}
 use Rattle.printing.specs.Put.{Room, Put}
 use Rattle.printing.specs.PutLaws.{put-of, put-as, room-as, room-first, room-rest, put-join}
-use Rattle.params.specs.declared.Refusal.the-variants.{Malformed}
+use Rattle.refusal.specs.declared.Refusal.the-variants.{Malformed}
 use Rattle.query.specs.declared.Query.{Query}
 use Rattle.query.specs.Query.{readQuery}
 use Rattle.query.specs.Code.{queryRead}

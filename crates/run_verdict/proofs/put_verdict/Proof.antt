@@ -11,8 +11,8 @@ use Rattle.tokens.specs.Text.{malformed, taken}
 use Rattle.tokens.specs.ReadLaws.{held, read-malformed, read-taken}
 use Rattle.printing.specs.Put.{Room}
 use Rattle.printing.specs.PutLaws.{put-as, room-as}
-use Rattle.params.specs.declared.Refusal.{Refusal}
-use Rattle.params.specs.Refusals.{refusalNumber}
+use Rattle.refusal.specs.declared.Refusal.{Refusal}
+use Rattle.refusal.specs.Refusals.{refusalNumber}
 use Rattle.answer_text.specs.AnswerText.{refusalLine}
 use Rattle.answer_text.specs.Lengths.{refusal-length}
 use Rattle.run_sheets.specs.declared.Front.{Front}

@@ -13,7 +13,7 @@ use mir.Facts.{toZ-ofZ}
 use Rattle.whole.specs.Bound.{bits, under-pos, fits}
 use Rattle.whole.specs.Clash.{clash}
 use Rattle.params.specs.Limits.{startYear, lastYears}
-use Rattle.params.specs.RefusalLaws.{accepted}
+use Rattle.refusal.specs.RefusalLaws.{accepted}
 use Rattle.paths.specs.Answers.{path-years}
 use Rattle.paths.specs.declared.Path.{Path}
 use Rattle.walks.specs.Code.{PathWithin}

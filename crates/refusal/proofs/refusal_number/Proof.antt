@@ -1,9 +1,9 @@
 -- `refusal_number` meets its contract, case by case.
 use borrow.Author.Needs.{needs}
 use mathlib.Core.Path.{sym, ap}
-use Rattle.params.specs.Refusals.{refusalNumber}
-use Rattle.params.proofs.refusal_number.Statement.{statement}
-use Rattle.params.proofs.refusal_number.Tie as tie
+use Rattle.refusal.specs.Refusals.{refusalNumber}
+use Rattle.refusal.proofs.refusal_number.Statement.{statement}
+use Rattle.refusal.proofs.refusal_number.Tie as tie
 
 returns : tie.Need-returns
 unfolding refusalNumber

@@ -1,8 +1,8 @@
 -- The table of refusals: each case's number in the papers, and 0 where nothing is refused.
 use Prim.Native.Nat.{ℕ}
-use Rattle.params.specs.declared.Refusal.{Refusal}
-use Rattle.params.specs.declared.Refusal.the-variants.{Accepted, Malformed, OutOfLimits, NoSuchAge, NoSuchYear}
-use Rattle.params.specs.declared.Refusal.the-variants.{NoSuchSpan, LogForceOutOfRange, BufferTooShort, NoSuchRate, MalformedColumn}
+use Rattle.refusal.specs.declared.Refusal.{Refusal}
+use Rattle.refusal.specs.declared.Refusal.the-variants.{Accepted, Malformed, OutOfLimits, NoSuchAge, NoSuchYear}
+use Rattle.refusal.specs.declared.Refusal.the-variants.{NoSuchSpan, LogForceOutOfRange, BufferTooShort, NoSuchRate, MalformedColumn}
 
 -- of the trade's words "torn" is Malformed, "off scale" OutOfLimits, "steep" LogForceOutOfRange, "short" BufferTooShort and
 -- "torn column" MalformedColumn
