@@ -1,4 +1,2 @@
--- definitions
 pub mod Run
--- laws
-pub mod RunLaws
+pub mod laws

@@ -4,8 +4,8 @@ use mathlib.Core.Bool.{not, cond}
 use mathlib.Core.List.{List}
 use lib.Dec.{eqb, leb}
 use lib.ListN.{length}
-use Rattle.refusal.specs.declared.Refusal.the-variants.{Accepted, BufferTooShort}
-use Rattle.refusal.specs.Refusals.{refusalNumber}
+use Rattle.set_refusal.specs.declared.Refusal.the-variants.{Accepted, BufferTooShort}
+use Rattle.set_refusal.specs.Refusals.{refusalNumber}
 use Rattle.run_line.specs.declared.Mode.the-variants.{Quotes}
 use Rattle.run.specs.declared.Program.{Program}
 use Rattle.run.specs.declared.Program.the-variants.{Lines}

@@ -2,9 +2,9 @@
 // sheet answered, with a rate or without, the verdict on a published column, and the whole run of an input.
 ghost use mathlib.Core.Path.{_≡_};
 ghost use lib.ListN.{length};
-ghost use Rattle.set_numbers.specs.SetNumbers.{readNo, numbersAfter, writeNo, bufferAfter, lengthAfter};
-ghost use Rattle.sheet_quote.specs.SheetQuote.{kindOf, ratedKindOf, sheetAnswer, quoteNo, quoteAfter};
-ghost use Rattle.column_verdicts.specs.SheetVerdict.{sheetVerdict, verdictNo, verdictAfter};
+ghost use Rattle.c_set_numbers.specs.SetNumbers.{readNo, numbersAfter, writeNo, bufferAfter, lengthAfter};
+ghost use Rattle.c_sheet_quote.specs.SheetQuote.{kindOf, ratedKindOf, sheetAnswer, quoteNo, quoteAfter};
+ghost use Rattle.run_column_verdict.specs.SheetVerdict.{sheetVerdict, verdictNo, verdictAfter};
 ghost use Rattle.kulfizan.specs.Run.{runNo, runBuffer, runLength};
 use run::Program;
 use run_line::Mode;
@@ -16,7 +16,7 @@ pub extern "C" fn kulfizan_read(sheet: &[u8], values: &mut [i64]) -> u8
     ensures { λ r. ⌜ r ≡ readNo (now (sheet .entry)) (length (now (values .entry))) ⌝ }
     ensures { λ r. ⌜ now (values .exit) ≡ numbersAfter (now (sheet .entry)) (now (values .entry)) ⌝ }
 {
-    set_numbers::read_into(sheet, values)
+    c_set_numbers::read_into(sheet, values)
 }
 
 // Writes the sheet of a set's 369 numbers into the buffer, and its length. The refusal's number, or 0; refused, the call
@@ -27,7 +27,7 @@ pub extern "C" fn kulfizan_write(values: &[i64], buffer: &mut [u8], len: &mut u6
     ensures { λ r. ⌜ now (buffer .exit) ≡ bufferAfter (now (values .entry)) (now (buffer .entry)) ⌝ }
     ensures { λ r. ⌜ now (len .exit) ≡ lengthAfter (now (values .entry)) (length (now (buffer .entry))) (now (len .entry)) ⌝ }
 {
-    set_numbers::write_from(values, buffer, len)
+    c_set_numbers::write_from(values, buffer, len)
 }
 
 // Answers a query of a sheet, of a kind that takes no rate, in the first four numbers: the two ends in units of 10^-9, 1 where
@@ -48,7 +48,7 @@ pub extern "C" fn kulfizan_quote(
         (sheetAnswer (now (sheet .entry)) (kindOf (now (kind .entry))) age year span)
         (now (quote .entry)) ⌝ }
 {
-    sheet_quote::quote_into(sheet, kind, age, year, span, quote)
+    c_sheet_quote::quote_into(sheet, kind, age, year, span, quote)
 }
 
 // The same of a kind that takes a rate, in units of 10^-6.
@@ -68,7 +68,7 @@ pub extern "C" fn kulfizan_annuity(
         (sheetAnswer (now (sheet .entry)) (ratedKindOf (now (kind .entry)) rate) age year span)
         (now (quote .entry)) ⌝ }
 {
-    sheet_quote::annuity_into(sheet, kind, age, year, span, rate, quote)
+    c_sheet_quote::annuity_into(sheet, kind, age, year, span, rate, quote)
 }
 
 // Checks a published column of q for one year by a sheet: the number is then 0 for right, 1 for wrong and 2 for open. The refusal's
@@ -79,7 +79,7 @@ pub extern "C" fn kulfizan_verdict(sheet: &[u8], year: i64, column: &[u8], verdi
     ensures { λ r. ⌜ now (verdict .exit)
         ≡ verdictAfter (sheetVerdict (now (sheet .entry)) year (now (column .entry))) (now (verdict .entry)) ⌝ }
 {
-    column_verdicts::verdict_into(sheet, year, column, verdict)
+    run_column_verdict::verdict_into(sheet, year, column, verdict)
 }
 
 // Writes the whole run of an input into the buffer, and its length: as the program `quotes` prints it where
@@ -92,5 +92,5 @@ pub extern "C" fn kulfizan_run(input: &[u8], ends: u8, out: &mut [u8], len: &mut
     ensures { λ r. ⌜ now (len .exit) ≡ runLength (now (input .entry)) ends (length (now (out .entry))) (now (len .entry)) ⌝ }
 {
     let program = Program::Lines(Mode::Quotes(ends != 0));
-    set_numbers::tell(run::run(program, input, out), len)
+    c_set_numbers::tell(run::run(program, input, out), len)
 }

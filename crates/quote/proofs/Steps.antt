@@ -7,30 +7,30 @@ use borrow.Author.Tests.{ne-eqb}
 use lib.Dec.{T}
 use lib.IntN.{ℤ, pos, negsuc, natAbs, _-ℤ_}
 use lib.Ieee.Bits.{is-true}
-use Rattle.whole.specs.Clash.{clash}
-use Rattle.whole.specs.Sizes.{Under}
-use Rattle.whole.specs.Bound.{under-pos}
-use Rattle.whole.specs.Split.{split, split-sub}
-use Rattle.params.specs.declared.Params.{Params}
-use Rattle.refusal.specs.declared.Refusal.{Refusal}
-use Rattle.refusal.specs.declared.Refusal.the-variants.{Accepted, OutOfLimits, LogForceOutOfRange}
-use Rattle.params.specs.Limits.{inLimits, startYear, lastYears}
-use Rattle.refusal.specs.Refusals.{refusalNumber}
-use Rattle.paths.specs.Path.{pathInRange}
-use Rattle.paths.specs.declared.Path.{Path}
-use Rattle.walks.specs.Code.{pathIs}
-use Rattle.kinds.specs.declared.Kind.{Kind}
-use Rattle.kinds.specs.Kinds.{ruleOf}
-use Rattle.table_tests.specs.TableTests.{ageInTable, yearInTable, spanInTable, rateInTable, Test, firstFailed, tableTests}
-use Rattle.table_tests.specs.TableLaws.{InTable}
-use Rattle.path_quotes.specs.declared.Quote.{Quote}
-use Rattle.path_quotes.specs.declared.Answer.{Answer}
-use Rattle.path_quotes.specs.declared.Answer.the-variants.{Quoted, Refused}
-use Rattle.path_quotes.specs.Code.{pathAnswer}
+use Rattle.number_whole.specs.laws.Clash.{clash}
+use Rattle.number_whole.specs.code.Sizes.{Under}
+use Rattle.number_whole.specs.laws.Bound.{under-pos}
+use Rattle.number_whole.specs.laws.Split.{split, split-sub}
+use Rattle.set_params.specs.declared.Params.{Params}
+use Rattle.set_refusal.specs.declared.Refusal.{Refusal}
+use Rattle.set_refusal.specs.declared.Refusal.the-variants.{Accepted, OutOfLimits, LogForceOutOfRange}
+use Rattle.set_params.specs.Limits.{inLimits, startYear, lastYears}
+use Rattle.set_refusal.specs.Refusals.{refusalNumber}
+use Rattle.quote_paths.specs.Path.{pathInRange}
+use Rattle.quote_paths.specs.declared.Path.{Path}
+use Rattle.quote_walks.specs.code.Code.{pathIs}
+use Rattle.quote_kinds.specs.declared.Kind.{Kind}
+use Rattle.quote_kinds.specs.Kinds.{ruleOf}
+use Rattle.quote_table_tests.specs.TableTests.{ageInTable, yearInTable, spanInTable, rateInTable, Test, firstFailed, tableTests}
+use Rattle.quote_table_tests.specs.laws.TableLaws.{InTable}
+use Rattle.quote_along.specs.declared.Quote.{Quote}
+use Rattle.quote_along.specs.declared.Answer.{Answer}
+use Rattle.quote_along.specs.declared.Answer.the-variants.{Quoted, Refused}
+use Rattle.quote_along.specs.code.Code.{pathAnswer}
 use Rattle.quote.specs.Quote.{queryPath, queryEnds, quoteOf, refusalOf, answerBy, answerOf}
 use Rattle.quote.specs.Demand.{Demand3}
-use Rattle.quote.specs.Theorem.{demand-met}
-use Rattle.quote.specs.Tests.{kind-within}
+use Rattle.quote.specs.laws.Theorem.{demand-met}
+use Rattle.quote.specs.laws.Tests.{kind-within}
 
 -- ---- the refusal
 

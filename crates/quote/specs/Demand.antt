@@ -3,18 +3,18 @@ use mathlib.Core.Path.{_≡_}
 use mathlib.Core.Logic.{_↔_}
 use Prim.Native.Nat.{ℕ, _+_, _≤_}
 use lib.IntN.{ℤ, natAbs}
-use Rattle.expo.specs.Billionths.{billionths}
-use Rattle.expo.specs.Grid.{inUnits}
-use Rattle.params.specs.declared.Params.{Params}
-use Rattle.refusal.specs.Refusals.{refusalNumber}
-use Rattle.exact.specs.declared.Figure.{Figure}
-use Rattle.exact.specs.declared.Figure.the-variants.{Printed, Open}
-use Rattle.exact.specs.Value.{AtLeast, AtMost, RoundsTo, OneStep, Narrows, Agrees}
-use Rattle.exact.specs.Figure.{halfUp}
-use Rattle.kinds.specs.declared.Kind.{Kind}
-use Rattle.kinds.specs.Kinds.{OneKind, ruleOf, stepOf, widthOf}
-use Rattle.path_quotes.specs.declared.Answer.{Answer}
-use Rattle.path_quotes.specs.declared.Answer.the-variants.{Quoted, Refused}
+use Rattle.number_exponential.specs.Billionths.{billionths}
+use Rattle.number_exponential.specs.Grid.{inUnits}
+use Rattle.set_params.specs.declared.Params.{Params}
+use Rattle.set_refusal.specs.Refusals.{refusalNumber}
+use Rattle.number_exact.specs.declared.Figure.{Figure}
+use Rattle.number_exact.specs.declared.Figure.the-variants.{Printed, Open}
+use Rattle.number_exact.specs.Value.{AtLeast, AtMost, RoundsTo, OneStep, Narrows, Agrees}
+use Rattle.number_exact.specs.Figure.{halfUp}
+use Rattle.quote_kinds.specs.declared.Kind.{Kind}
+use Rattle.quote_kinds.specs.Kinds.{OneKind, ruleOf, stepOf, widthOf}
+use Rattle.quote_along.specs.declared.Answer.{Answer}
+use Rattle.quote_along.specs.declared.Answer.the-variants.{Quoted, Refused}
 use Rattle.quote.specs.Quote.{queryEnds, exactQuery, refusalOf, answerOf}
 
 -- ---- the number, the ends and the figure of an answer: "A refusal has its number, ends 0 and 0, no figure"

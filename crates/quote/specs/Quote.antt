@@ -5,23 +5,23 @@ use mathlib.Core.List.{List, [], _∷_, _++_}
 use Prim.Native.Nat.{_-_}
 use lib.Dec.{eqb}
 use lib.IntN.{ℤ, natAbs}
-use Rattle.expo.specs.declared.Ends.{Ends}
-use Rattle.expo.specs.Billionths.{billionths}
-use Rattle.params.specs.declared.Params.{Params}
-use Rattle.refusal.specs.declared.Refusal.{Refusal}
-use Rattle.refusal.specs.declared.Refusal.the-variants.{OutOfLimits, LogForceOutOfRange}
-use Rattle.refusal.specs.Refusals.{refusalNumber}
-use Rattle.params.specs.Limits.{inLimits, startYear}
-use Rattle.exact.specs.Value.{Exact}
-use Rattle.exact.specs.Figure.{figureOf}
-use Rattle.paths.specs.Path.{Place, pathOf, pathInRange}
-use Rattle.paths.specs.Values.{gridValue, exactValue}
-use Rattle.kinds.specs.declared.Kind.{Kind}
-use Rattle.kinds.specs.Kinds.{ruleOf, countOf, stepOf}
-use Rattle.table_tests.specs.TableTests.{firstFailed, tableTests}
-use Rattle.path_quotes.specs.declared.Quote.{Quote}
-use Rattle.path_quotes.specs.declared.Answer.{Answer}
-use Rattle.path_quotes.specs.declared.Answer.the-variants.{Quoted, Refused}
+use Rattle.number_exponential.specs.declared.Ends.{Ends}
+use Rattle.number_exponential.specs.Billionths.{billionths}
+use Rattle.set_params.specs.declared.Params.{Params}
+use Rattle.set_refusal.specs.declared.Refusal.{Refusal}
+use Rattle.set_refusal.specs.declared.Refusal.the-variants.{OutOfLimits, LogForceOutOfRange}
+use Rattle.set_refusal.specs.Refusals.{refusalNumber}
+use Rattle.set_params.specs.Limits.{inLimits, startYear}
+use Rattle.number_exact.specs.Value.{Exact}
+use Rattle.number_exact.specs.Figure.{figureOf}
+use Rattle.quote_paths.specs.Path.{Place, pathOf, pathInRange}
+use Rattle.quote_paths.specs.Values.{gridValue, exactValue}
+use Rattle.quote_kinds.specs.declared.Kind.{Kind}
+use Rattle.quote_kinds.specs.Kinds.{ruleOf, countOf, stepOf}
+use Rattle.quote_table_tests.specs.TableTests.{firstFailed, tableTests}
+use Rattle.quote_along.specs.declared.Quote.{Quote}
+use Rattle.quote_along.specs.declared.Answer.{Answer}
+use Rattle.quote_along.specs.declared.Answer.the-variants.{Quoted, Refused}
 
 -- ---- the path, the ends and the exact value, of an age, a year and a span in the table
 

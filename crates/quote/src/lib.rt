@@ -2,24 +2,24 @@
 // numbered refusal.
 ghost use mathlib.Core.Path.{_≡_};
 ghost use lib.Dec.{T};
-ghost use Rattle.params.specs.Limits.{inLimits};
+ghost use Rattle.set_params.specs.Limits.{inLimits};
 ghost use Rattle.quote.specs.Quote.{answerOf};
 ghost use Rattle.quote.specs.Demand.{Demand3};
-use kinds::Kind;
-use params::Params;
-use params::START_YEAR;
-use path_quotes::Answer;
-use paths::Path;
-use refusal::Refusal;
+use quote_along::Answer;
+use quote_kinds::Kind;
+use quote_paths::Path;
+use set_params::Params;
+use set_params::START_YEAR;
+use set_refusal::Refusal;
 
 // The answer to a query of a set in its limits.
 pub fn quote_within(p: Params, kind: Kind, age: i64, year: i64, span: i64) -> Answer
     requires { ⌜ T (inLimits p) ⌝ }
     ensures { λ r. ⌜ r ≡ answerOf p kind age year span ⌝ }
 {
-    let rule = kinds::rule_of(kind);
-    let refusal = table_tests::table_refusal(rule, age, year, span);
-    if refusal::refusal_number(refusal) != 0 {
+    let rule = quote_kinds::rule_of(kind);
+    let refusal = quote_table_tests::table_refusal(rule, age, year, span);
+    if set_refusal::refusal_number(refusal) != 0 {
         return Answer::Refused(refusal);
     }
     let fold = rule.fold;
@@ -28,9 +28,9 @@ pub fn quote_within(p: Params, kind: Kind, age: i64, year: i64, span: i64) -> An
         cohort: rule.cohort,
         age: age as usize,
         year: n,
-        count: kinds::count_of(fold, n, span as usize),
+        count: quote_kinds::count_of(fold, n, span as usize),
     };
-    path_quotes::answer_along(p, fold, path)
+    quote_along::answer_along(p, fold, path)
 }
 
 // The answer to any query.
@@ -38,7 +38,7 @@ pub fn quote_of(p: Params, kind: Kind, age: i64, year: i64, span: i64) -> Answer
     ensures answered { λ r. ⌜ r ≡ answerOf p kind age year span ⌝ }
     ensures honest { λ r. ⌜ Demand3 p kind age year span r ⌝ }
 {
-    if !limits::in_limits(p) {
+    if !set_limits::in_limits(p) {
         return Answer::Refused(Refusal::OutOfLimits);
     }
     quote_within(p, kind, age, year, span)

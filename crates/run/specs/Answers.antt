@@ -2,7 +2,7 @@
 use mathlib.Core.List.{List, [], _∷_, _++_}
 use Prim.Native.Nat.{ℕ}
 use lib.ListN.{drop}
-use Rattle.lines.specs.Lines.{lines}
+use Rattle.text_lines.specs.Lines.{lines}
 
 -- the answers to lines, by what answers one of them
 unfoldable pub answersTo : (List ℕ → List ℕ) → List (List ℕ) → List ℕ

@@ -5,7 +5,7 @@ use mathlib.Core.List.{List, _++_}
 use Prim.Native.Nat.{ℕ}
 use lib.Dec.{leb}
 use lib.ListN.{length, drop}
-use Rattle.refusal.specs.declared.Refusal.the-variants.{Accepted, BufferTooShort}
+use Rattle.set_refusal.specs.declared.Refusal.the-variants.{Accepted, BufferTooShort}
 use Rattle.sheet.specs.declared.Written.{Written}
 
 unfoldable pub textAnswer : ℕ → List ℕ → ℕ → Written

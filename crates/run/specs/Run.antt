@@ -4,18 +4,18 @@ use mathlib.Core.Bool.{Bool, true, false, cond}
 use mathlib.Core.List.{List, _++_}
 use Prim.Native.Nat.{ℕ, _+_, _*_}
 use lib.Dec.{eqb}
-use Rattle.tokens.specs.Text.{bytesOf}
-use Rattle.tokens.specs.Number.{unsignedText}
-use Rattle.refusal.specs.declared.Refusal.{Refusal}
-use Rattle.refusal.specs.Refusals.{refusalNumber}
-use Rattle.answer_text.specs.AnswerText.{refusalLine, refusedText}
+use Rattle.text_tokens.specs.Text.{bytesOf}
+use Rattle.text_tokens.specs.Number.{unsignedText}
+use Rattle.set_refusal.specs.declared.Refusal.{Refusal}
+use Rattle.set_refusal.specs.Refusals.{refusalNumber}
+use Rattle.run_answer_text.specs.AnswerText.{refusalLine, refusedText}
 use Rattle.run_sheets.specs.declared.Front.{Front}
 use Rattle.run_sheets.specs.Front.{frontOf}
 use Rattle.run_line.specs.declared.Mode.{Mode}
 use Rattle.run_line.specs.declared.Mode.the-variants.{Quotes, Compare}
 use Rattle.run_line.specs.Line.{lineAnswer, longestLine}
 use Rattle.run_verdict.specs.VerdictRun.{verdictRun}
-use Rattle.verdict_text.specs.VerdictText.{mostVerdict}
+use Rattle.run_verdict_text.specs.VerdictText.{mostVerdict}
 use Rattle.run.specs.declared.Program.{Program}
 use Rattle.run.specs.declared.Program.the-variants.{Lines, Verdict}
 use Rattle.run.specs.Answers.{answersFrom}

@@ -3,17 +3,17 @@ ghost use mathlib.Core.Path.{_≡_};
 ghost use Prim.Native.Nat.{_+_, _*_, _≤_, _<_};
 ghost use lib.Dec.{T, leb};
 ghost use lib.ListN.{length};
-ghost use Rattle.params.specs.Limits.{inLimits};
-ghost use Rattle.printing.specs.Put.{Put};
+ghost use Rattle.set_params.specs.Limits.{inLimits};
+ghost use Rattle.text_printing.specs.code.Put.{Put};
 ghost use Rattle.run_line.specs.Line.{lineAnswer, longestLine};
 ghost use Rattle.run.specs.Answers.{answersFrom};
 ghost use Rattle.run.specs.Into.{textAnswer, textBuffer};
 ghost use Rattle.run.specs.Run.{takesTwo, refusedRun, linesRun, runOf, runRoom};
-use params::Params;
-use refusal::Refusal;
 use run_line::Mode;
+use run_verdict_text::MOST_VERDICT;
+use set_params::Params;
+use set_refusal::Refusal;
 use sheet::Written;
-use verdict_text::MOST_VERDICT;
 
 // What an input is read as: sheets and lines that are answered one by one, or a sheet and a column to be judged.
 pub enum Program {
@@ -57,10 +57,10 @@ fn put_refused(out: &mut [u8], named: u64, refusal: Refusal) -> usize
     ensures { λ r. ⌜ Put (now (out .entry)) 0 (refusedRun named refusal) (now (out .exit)) r ⌝ }
 {
     if named == 0 {
-        return answer_text::put_refusal(out, 0, refusal);
+        return run_answer_text::put_refusal(out, 0, refusal);
     }
-    let end = answer_text::put_field(out, 0, b"sheet=", named);
-    answer_text::put_refused(out, end, refusal)
+    let end = run_answer_text::put_field(out, 0, b"sheet=", named);
+    run_answer_text::put_refused(out, end, refusal)
 }
 
 // Writes the answers to the lines from a place on; how long they are.
@@ -80,7 +80,7 @@ fn put_answers(
     let mut next = at;
     let mut len = 0;
     while next < input.len() {
-        let end = lines::line_end(input, next);
+        let end = text_lines::line_end(input, next);
         len = run_line::put_line(out, len, mode, first, second, &input[next..end]);
         next = end;
     }
@@ -94,7 +94,7 @@ fn put_lines(mode: Mode, input: &[u8], out: &mut [u8]) -> usize
 {
     let front = run_sheets::read_front(takes_two(mode), input);
     let refusal = front.refusal;
-    if refusal::refusal_number(refusal) != 0 {
+    if set_refusal::refusal_number(refusal) != 0 {
         return put_refused(out, front.named, refusal);
     }
     let first = front.first;

@@ -4,18 +4,18 @@ ghost use lib.ListN.{length};
 ghost use Rattle.run_line.specs.Line.{mostLine};
 use run::Program;
 use run_line::MOST_LINE;
+use run_streams::Input;
 use sheet_reader::MOST_BYTES;
-use streams::Input;
 
 // Reads standard input into the bytes, and prints its run out of a buffer that has room for any.
 fn answer_in(program: Program, bytes: &mut [u8], out: &mut [u8])
     requires { ⌜ 5 * length (now bytes) + mostLine ≤ length (now out) ⌝ }
 {
-    let Input::Read(len) = streams::read_all(bytes) else {
+    let Input::Read(len) = run_streams::read_all(bytes) else {
         return;
     };
     let end = run::put_run(program, &bytes[..len], out);
-    streams::write_all(&out[..end]);
+    run_streams::write_all(&out[..end]);
 }
 
 // Answers standard input as the program does. One byte more than the longest input is read, so that one too many is seen.

@@ -1,5 +1,2 @@
--- definitions
 pub mod Line
--- laws
-pub mod LineLaws
-pub mod ReplyLaws
+pub mod laws

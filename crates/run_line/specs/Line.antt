@@ -3,18 +3,18 @@
 use mathlib.Core.List.{List, _++_}
 use Prim.Native.Nat.{ℕ, _-_}
 use lib.ListN.{length, take}
-use Rattle.tokens.specs.Text.{Parse, malformed, taken}
-use Rattle.params.specs.declared.Params.{Params}
-use Rattle.refusal.specs.declared.Refusal.the-variants.{Malformed}
-use Rattle.kinds.specs.declared.Kind.{Kind}
-use Rattle.kinds.specs.Kinds.{ruleOf, decimalsOf}
-use Rattle.path_quotes.specs.declared.Answer.{Answer}
+use Rattle.text_tokens.specs.Text.{Parse, malformed, taken}
+use Rattle.set_params.specs.declared.Params.{Params}
+use Rattle.set_refusal.specs.declared.Refusal.the-variants.{Malformed}
+use Rattle.quote_kinds.specs.declared.Kind.{Kind}
+use Rattle.quote_kinds.specs.Kinds.{ruleOf, decimalsOf}
+use Rattle.quote_along.specs.declared.Answer.{Answer}
 use Rattle.quote.specs.Quote.{answerOf}
-use Rattle.query.specs.declared.Query.{Query}
-use Rattle.query.specs.Query.{readQuery}
-use Rattle.answer_text.specs.AnswerText.{refusalLine, answerText}
-use Rattle.compare_quotes.specs.Compare.{comparisonOf}
-use Rattle.compare_text.specs.CompareText.{comparisonText}
+use Rattle.run_query.specs.declared.Query.{Query}
+use Rattle.run_query.specs.Query.{readQuery}
+use Rattle.run_answer_text.specs.AnswerText.{refusalLine, answerText}
+use Rattle.quote_compare.specs.Compare.{comparisonOf}
+use Rattle.run_compare_text.specs.CompareText.{comparisonText}
 use Rattle.run_line.specs.declared.Mode.{Mode}
 use Rattle.run_line.specs.declared.Mode.the-variants.{Quotes, Compare}
 
@@ -54,6 +54,6 @@ unfoldable pub longestLine : Mode → ℕ
 longestLine (Quotes ends) = 161
 longestLine Compare = 205
 
--- whichever the mode
+-- no answer is longer, whichever the mode
 abbrev pub mostLine : ℕ
 mostLine = 205

@@ -3,15 +3,15 @@ ghost use mathlib.Core.Path.{_≡_};
 ghost use Prim.Native.Nat.{_+_, _≤_};
 ghost use lib.Dec.{T};
 ghost use lib.ListN.{length};
-ghost use Rattle.printing.specs.Put.{Room, Put};
-ghost use Rattle.params.specs.Limits.{inLimits};
+ghost use Rattle.text_printing.specs.code.Put.{Room, Put};
+ghost use Rattle.set_params.specs.Limits.{inLimits};
 ghost use Rattle.run_line.specs.Line.{kindDecimals, queryAnswer, reply, lineAnswer, longestLine};
-use kinds::Kind;
-use params::Params;
-use path_quotes::Answer;
-use query::Query;
-use query::QueryRead;
-use refusal::Refusal;
+use quote_along::Answer;
+use quote_kinds::Kind;
+use run_query::Query;
+use run_query::QueryRead;
+use set_params::Params;
+use set_refusal::Refusal;
 
 // What a program answers a query with: its figure, with the ends where they are asked for, or its figures by two sheets.
 pub enum Mode {
@@ -36,9 +36,9 @@ pub fn longest_line(mode: Mode) -> usize
 fn decimals_for(kind: Kind) -> usize
     ensures { λ r. ⌜ r ≡ kindDecimals kind ⌝ }
 {
-    let rule = kinds::rule_of(kind);
+    let rule = quote_kinds::rule_of(kind);
     let fold = rule.fold;
-    kinds::decimals_of(fold)
+    quote_kinds::decimals_of(fold)
 }
 
 // The answer to a query of a set within its limits.
@@ -66,11 +66,11 @@ fn put_reply(
     let decimals = decimals_for(kind);
     let answer = answer_to(first, query);
     match mode {
-        Mode::Quotes(ends) => answer_text::put_answer(buffer, at, ends, decimals, answer),
+        Mode::Quotes(ends) => run_answer_text::put_answer(buffer, at, ends, decimals, answer),
         Mode::Compare => {
             let other = answer_to(second, query);
-            let comparison = compare_quotes::compare(answer, other);
-            compare_text::put_comparison(buffer, at, decimals, comparison)
+            let comparison = quote_compare::compare(answer, other);
+            run_compare_text::put_comparison(buffer, at, decimals, comparison)
         }
     }
 }
@@ -87,10 +87,10 @@ pub fn put_line(
     requires { ⌜ T (inLimits first) × T (inLimits second) × (at + longestLine mode ≤ length (now buffer)) ⌝ }
     ensures { λ r. ⌜ Put (now (buffer .entry)) at (lineAnswer mode first second (now (line .entry))) (now (buffer .exit)) r ⌝ }
 {
-    let QueryRead::Of(query) = query::query_of(line) else {
-        return answer_text::put_refusal(buffer, at, Refusal::Malformed);
+    let QueryRead::Of(query) = run_query::query_of(line) else {
+        return run_answer_text::put_refusal(buffer, at, Refusal::Malformed);
     };
     let end = line.len() - 1;
-    let place = printing::put_text(buffer, at, &line[..end]);
+    let place = text_printing::put_text(buffer, at, &line[..end]);
     put_reply(buffer, place, mode, first, second, query)
 }

@@ -4,13 +4,13 @@ use mathlib.Core.List.{List}
 use Prim.Native.Nat.{ℕ, _+_}
 use lib.Dec.{eqb, leb}
 use lib.ListN.{length, drop}
-use Rattle.refusal.specs.declared.Refusal.{Refusal}
-use Rattle.refusal.specs.declared.Refusal.the-variants.{Malformed}
-use Rattle.refusal.specs.Refusals.{refusalNumber}
-use Rattle.params.specs.Set.{blank}
+use Rattle.set_refusal.specs.declared.Refusal.{Refusal}
+use Rattle.set_refusal.specs.declared.Refusal.the-variants.{Malformed}
+use Rattle.set_refusal.specs.Refusals.{refusalNumber}
+use Rattle.set_params.specs.Set.{blank}
 use Rattle.sheet.specs.declared.Reading.{Reading}
 use Rattle.sheet.specs.Sheet.{mostBytes, readSheet, sheetLines}
-use Rattle.lines.specs.Lines.{firstLines}
+use Rattle.text_lines.specs.Lines.{firstLines}
 use Rattle.run_sheets.specs.declared.Front.{Front}
 
 -- "The sheet is the first 370 lines; fewer are a torn sheet": a reading of fewer is malformed

@@ -1,4 +1,2 @@
--- definitions
 pub mod Front
--- laws
-pub mod FrontLaws
+pub mod laws

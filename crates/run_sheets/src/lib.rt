@@ -1,8 +1,8 @@
 // Reads the sheets at the front of an input: one, or two that stand one after the other.
 ghost use mathlib.Core.Path.{_≡_};
 ghost use Rattle.run_sheets.specs.Front.{stopped, frontOf};
-use params::Params;
-use refusal::Refusal;
+use set_params::Params;
+use set_refusal::Refusal;
 use sheet_reader::MOST_BYTES;
 
 // The sets at the front of an input and the place after them; where it is refused, the number of the sheet that is, or 0
@@ -19,7 +19,7 @@ pub struct Front {
 fn stop(named: u64, refusal: Refusal, next: usize) -> Front
     ensures { λ r. ⌜ r ≡ stopped named refusal next ⌝ }
 {
-    let none = params::blank();
+    let none = set_params::blank();
     Front {
         refusal,
         named,
@@ -50,7 +50,7 @@ pub fn read_front(two: bool, input: &[u8]) -> Front
             next: end,
         };
     }
-    if refusal::refusal_number(refusal) != 0 {
+    if set_refusal::refusal_number(refusal) != 0 {
         return stop(1, refusal, end);
     }
     let rest = &input[end..];

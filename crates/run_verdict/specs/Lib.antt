@@ -1,7 +1,3 @@
--- definitions
 pub mod VerdictRun
--- words of inner contracts
-pub mod Code
--- laws
-pub mod YearLaws
-pub mod RunLaws
+pub mod code
+pub mod laws

@@ -6,15 +6,15 @@ use Prim.Native.Nat.{ℕ}
 use lib.Dec.{eqb}
 use lib.IntN.{ℤ}
 use lib.ListN.{drop}
-use Rattle.tokens.specs.Text.{bytesOf, Parse, malformed, taken}
-use Rattle.refusal.specs.declared.Refusal.the-variants.{Malformed}
-use Rattle.refusal.specs.Refusals.{refusalNumber}
+use Rattle.text_tokens.specs.Text.{bytesOf, Parse, malformed, taken}
+use Rattle.set_refusal.specs.declared.Refusal.the-variants.{Malformed}
+use Rattle.set_refusal.specs.Refusals.{refusalNumber}
 use Rattle.sheet.specs.Sheet.{readLine}
-use Rattle.answer_text.specs.AnswerText.{refusalLine}
+use Rattle.run_answer_text.specs.AnswerText.{refusalLine}
 use Rattle.run_sheets.specs.declared.Front.{Front}
 use Rattle.run_sheets.specs.Front.{frontOf}
-use Rattle.column_verdicts.specs.ColumnVerdict.{columnVerdict}
-use Rattle.verdict_text.specs.VerdictText.{verdictLine}
+use Rattle.run_column_verdict.specs.ColumnVerdict.{columnVerdict}
+use Rattle.run_verdict_text.specs.VerdictText.{verdictLine}
 
 -- a line as in a sheet, with the key `year`: its number, and what follows its line feed
 unfoldable pub readYear : List ℕ → Parse ℤ

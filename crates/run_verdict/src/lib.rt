@@ -3,23 +3,23 @@
 ghost use mathlib.Core.Path.{_≡_};
 ghost use Prim.Native.Nat.{_≤_};
 ghost use lib.ListN.{length, drop};
-ghost use Rattle.tokens.specs.Places.{numberRead};
-ghost use Rattle.printing.specs.Put.{Put};
-ghost use Rattle.verdict_text.specs.VerdictText.{mostVerdict};
+ghost use Rattle.text_tokens.specs.code.Places.{numberRead};
+ghost use Rattle.text_printing.specs.code.Put.{Put};
+ghost use Rattle.run_verdict_text.specs.VerdictText.{mostVerdict};
 ghost use Rattle.run_verdict.specs.VerdictRun.{readYear, verdictRun};
-ghost use Rattle.run_verdict.specs.Code.{PlaceIn};
-use refusal::Refusal;
-use tokens::NumberRead;
+ghost use Rattle.run_verdict.specs.code.Code.{PlaceIn};
+use set_refusal::Refusal;
+use text_tokens::NumberRead;
 
 // The year of the line at a place.
 fn year_at(bytes: &[u8], at: usize) -> NumberRead
     ensures { λ r. ⌜ (numberRead (now (bytes .entry)) r ≡ readYear (drop at (now (bytes .entry))))
         × PlaceIn (length (now (bytes .entry))) r ⌝ }
 {
-    let NumberRead::Number(year, after) = query::field_at(bytes, at, b"year=") else {
+    let NumberRead::Number(year, after) = run_query::field_at(bytes, at, b"year=") else {
         return NumberRead::Malformed;
     };
-    if !tokens::text_at(bytes, after, b"\n") {
+    if !text_tokens::text_at(bytes, after, b"\n") {
         return NumberRead::Malformed;
     }
     NumberRead::Number(year, after + 1)
@@ -32,13 +32,13 @@ pub fn put_verdict(input: &[u8], out: &mut [u8]) -> usize
 {
     let front = run_sheets::read_front(false, input);
     let NumberRead::Number(year, next) = year_at(input, front.next) else {
-        return answer_text::put_refusal(out, 0, Refusal::Malformed);
+        return run_answer_text::put_refusal(out, 0, Refusal::Malformed);
     };
     let refusal = front.refusal;
-    if refusal::refusal_number(refusal) != 0 {
-        return answer_text::put_refusal(out, 0, refusal);
+    if set_refusal::refusal_number(refusal) != 0 {
+        return run_answer_text::put_refusal(out, 0, refusal);
     }
     let set = front.first;
-    let judged = column_verdicts::verdict_on(set, year, &input[next..]);
-    verdict_text::put_line(out, year, judged)
+    let judged = run_column_verdict::verdict_on(set, year, &input[next..]);
+    run_verdict_text::put_line(out, year, judged)
 }

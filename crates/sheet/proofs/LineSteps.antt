@@ -6,19 +6,19 @@ use mathlib.Core.Bool.{true, false}
 use mathlib.Core.List.{List, _++_}
 use lib.IntN.{ℤ}
 use lib.ListN.{length, drop}
-use Rattle.words.specs.declared.Short.{Short}
-use Rattle.words.specs.Word.{byteBits}
-use Rattle.words.specs.LaneLaws.{lanes-length}
-use Rattle.words.specs.ShortText.{textOf}
-use Rattle.tokens.specs.declared.NumberRead.the-variants.{Malformed, Number}
-use Rattle.tokens.specs.Text.{bytesOf, malformed, taken, takeText}
-use Rattle.tokens.specs.Number.{readNumber}
-use Rattle.tokens.specs.Places.{textAt, numberAt}
-use Rattle.tokens.specs.TextLaws.{text-found, text-missing}
-use Rattle.tokens.specs.NumberLaws.{number-found, number-malformed}
+use Rattle.text_words.specs.declared.Short.{Short}
+use Rattle.text_words.specs.code.Word.{byteBits}
+use Rattle.text_words.specs.laws.LaneLaws.{lanes-length}
+use Rattle.text_words.specs.code.ShortText.{textOf}
+use Rattle.text_tokens.specs.declared.NumberRead.the-variants.{Malformed, Number}
+use Rattle.text_tokens.specs.Text.{bytesOf, malformed, taken, takeText}
+use Rattle.text_tokens.specs.Number.{readNumber}
+use Rattle.text_tokens.specs.code.Places.{textAt, numberAt}
+use Rattle.text_tokens.specs.laws.TextLaws.{text-found, text-missing}
+use Rattle.text_tokens.specs.laws.NumberLaws.{number-found, number-malformed}
 use Rattle.sheet.specs.Sheet.{readLine}
-use Rattle.tokens.specs.Steps.{goes, stops}
-use Rattle.sheet.specs.Lines.{Heads}
+use Rattle.text_tokens.specs.laws.Steps.{goes, stops}
+use Rattle.sheet.specs.code.Lines.{Heads}
 
 module _ (bytes : List ℕ) (at : ℕ) (head : Short) {key : List ℕ} (k : Heads head key) where
   pub key-malformed : textAt bytes at (textOf head) ≡ false → readLine key (drop at bytes) ≡ malformed

@@ -1,8 +1,3 @@
--- definitions
 pub mod Sheet
-pub mod Lines
--- laws
-pub mod SetTrip
-pub mod SheetTrip
-pub mod ResultLaws
-pub mod FourLaws
+pub mod code
+pub mod laws

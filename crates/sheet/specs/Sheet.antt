@@ -7,17 +7,17 @@ use mathlib.Core.List.{List, [], _∷_, _++_}
 use lib.Dec.{leb}
 use lib.IntN.{ℤ, pos}
 use lib.ListN.{getD, length, drop}
-use Rattle.tokens.specs.Text.{bytesOf, Parse, malformed, taken, takeText}
-use Rattle.tokens.specs.Number.{readNumber, numberText, unsignedText}
-use Rattle.params.specs.declared.Params.{Params}
-use Rattle.params.specs.declared.Sex.{Sex}
-use Rattle.params.specs.declared.Sex.the-variants.{M, F}
-use Rattle.refusal.specs.declared.Refusal.{Refusal}
-use Rattle.refusal.specs.declared.Refusal.the-variants.{Accepted, Malformed, OutOfLimits, BufferTooShort}
+use Rattle.text_tokens.specs.Text.{bytesOf, Parse, malformed, taken, takeText}
+use Rattle.text_tokens.specs.Number.{readNumber, numberText, unsignedText}
+use Rattle.set_params.specs.declared.Params.{Params}
+use Rattle.set_params.specs.declared.Sex.{Sex}
+use Rattle.set_params.specs.declared.Sex.the-variants.{M, F}
+use Rattle.set_refusal.specs.declared.Refusal.{Refusal}
+use Rattle.set_refusal.specs.declared.Refusal.the-variants.{Accepted, Malformed, OutOfLimits, BufferTooShort}
 use Rattle.sheet.specs.declared.Reading.{Reading}
 use Rattle.sheet.specs.declared.Written.{Written}
-use Rattle.params.specs.Set.{A, B, alpha, beta, ages, blank}
-use Rattle.params.specs.Limits.{inLimits}
+use Rattle.set_params.specs.Set.{A, B, alpha, beta, ages, blank}
+use Rattle.set_params.specs.Limits.{inLimits}
 
 -- the longest input that is read
 abbrev pub mostBytes : ℕ

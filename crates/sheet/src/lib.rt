@@ -1,11 +1,11 @@
 // What reading and writing a sheet gives, how many lines it has, and the reading of a line and of four in a row. What the bytes of
 // a sheet mean is in specs/.
-ghost use Rattle.words.specs.ShortText.{Sized};
-ghost use Rattle.sheet.specs.Lines.{LineOf, FourOf};
-use params::Params;
-use refusal::Refusal;
-use tokens::NumberRead;
-use words::Short;
+ghost use Rattle.text_words.specs.code.ShortText.{Sized};
+ghost use Rattle.sheet.specs.code.Lines.{LineOf, FourOf};
+use set_params::Params;
+use set_refusal::Refusal;
+use text_tokens::NumberRead;
+use text_words::Short;
 
 // The lines of a sheet.
 pub const SHEET_LINES: usize = 370;
@@ -36,13 +36,13 @@ fn line_at(bytes: &[u8], at: usize, head: Short) -> NumberRead
     requires { ⌜ Sized head ⌝ }
     ensures { λ r. ⌜ LineOf (now (bytes .entry)) at head r ⌝ }
 {
-    if !tokens::short_at(bytes, at, head) {
+    if !text_tokens::short_at(bytes, at, head) {
         return NumberRead::Malformed;
     }
-    let NumberRead::Number(v, after_number) = numbers::number_at(bytes, at + head.len) else {
+    let NumberRead::Number(v, after_number) = text_numbers::number_at(bytes, at + head.len) else {
         return NumberRead::Malformed;
     };
-    if !tokens::byte_at(bytes, after_number, b'\n') {
+    if !text_tokens::byte_at(bytes, after_number, b'\n') {
         return NumberRead::Malformed;
     }
     NumberRead::Number(v, after_number + 1)

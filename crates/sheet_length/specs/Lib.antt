@@ -1,3 +1,2 @@
-pub mod Parts
-pub mod PartsLaws
-pub mod Held
+pub mod code
+pub mod laws

@@ -4,22 +4,22 @@ ghost use Prim.Native.Nat.{_^_, _<_, _≤_};
 ghost use lib.Dec.{T};
 ghost use lib.IntN.{natAbs};
 ghost use lib.ListN.{length};
-ghost use Rattle.tokens.specs.Number.{mostDigits};
-ghost use Rattle.params.specs.Set.{ages};
-ghost use Rattle.params.specs.Limits.{inLimits};
-ghost use Rattle.params.specs.Within.{AgeWithin};
+ghost use Rattle.text_tokens.specs.Number.{mostDigits};
+ghost use Rattle.set_params.specs.Set.{ages};
+ghost use Rattle.set_params.specs.Limits.{inLimits};
+ghost use Rattle.set_params.specs.code.Within.{AgeWithin};
 ghost use Rattle.sheet.specs.Sheet.{sheetText};
-ghost use Rattle.sheet_length.specs.Parts.{lineLength, seriesText, ageText};
-use params::AGES;
-use params::Age;
-use params::Params;
+ghost use Rattle.sheet_length.specs.code.Parts.{lineLength, seriesText, ageText};
+use set_params::AGES;
+use set_params::Age;
+use set_params::Params;
 
 // How many bytes a line has, by how many its key has: at most 23.
 fn line_len(key: usize, v: i64) -> usize
     requires { ⌜ (key ≤ 5) × (natAbs v < 10 ^ mostDigits) ⌝ }
     ensures { λ r. ⌜ (r ≡ lineLength key v) × (r ≤ 23) ⌝ }
 {
-    key + printing::number_len(v) + 2
+    key + text_printing::number_len(v) + 2
 }
 
 // How many bytes the lines of the series have.
@@ -48,7 +48,7 @@ pub fn sheet_len(p: Params) -> usize
     let mut len = sheet::HEAD_BYTES + series_len(p);
     let mut x: usize = 0;
     while x < AGES {
-        let age = params::age_of_runs(&p.level, &p.slope, &p.alpha, &p.beta, x);
+        let age = set_params::age_of_runs(&p.level, &p.slope, &p.alpha, &p.beta, x);
         len += age_len(age, x);
         x += 1;
     }

@@ -1,5 +1,2 @@
--- definitions
-pub mod Read
--- laws
-pub mod SheetLaws
-pub mod FirstLaws
+pub mod code
+pub mod laws

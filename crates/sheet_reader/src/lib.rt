@@ -3,15 +3,15 @@ ghost use mathlib.Core.Path.{_≡_};
 ghost use mathlib.Core.Bool.{false, cond};
 ghost use mathlib.Core.List.{[]};
 ghost use lib.ListN.{length};
-ghost use Rattle.tokens.specs.Text.{malformed, taken};
-ghost use Rattle.lines.specs.Lines.{firstLines};
-ghost use Rattle.refusal.specs.declared.Refusal.the-variants.{Malformed};
+ghost use Rattle.text_tokens.specs.Text.{malformed, taken};
+ghost use Rattle.text_lines.specs.Lines.{firstLines};
+ghost use Rattle.set_refusal.specs.declared.Refusal.the-variants.{Malformed};
 ghost use Rattle.sheet.specs.Sheet.{sheetLines, refused, readingOf, readSheet};
-ghost use Rattle.sheet_set.specs.Ages.{setRead};
-ghost use Rattle.sheet_reader.specs.Read.{setFront, atEnd, refusalOf};
-use params::Params;
-use params::Sex;
-use refusal::Refusal;
+ghost use Rattle.sheet_set.specs.code.Ages.{setRead};
+ghost use Rattle.sheet_reader.specs.code.Read.{setFront, atEnd, refusalOf};
+use set_params::Params;
+use set_params::Sex;
+use set_refusal::Refusal;
 use sheet::Reading;
 use sheet::SHEET_LINES;
 use sheet_set::SetRead;
@@ -34,7 +34,7 @@ fn malformed() -> Reading
 {
     Reading {
         refusal: Refusal::Malformed,
-        set: params::blank(),
+        set: set_params::blank(),
     }
 }
 
@@ -68,9 +68,9 @@ fn refusal_of(whole: bool, within: bool) -> Refusal
 fn reading_of(whole: bool, set: Params) -> Reading
     ensures { λ r. ⌜ r ≡ readingOf (cond whole (taken set []) malformed) ⌝ }
 {
-    let refusal = refusal_of(whole, limits::in_limits(set));
-    if refusal::refusal_number(refusal) != 0 {
-        let nothing = params::blank();
+    let refusal = refusal_of(whole, set_limits::in_limits(set));
+    if set_refusal::refusal_number(refusal) != 0 {
+        let nothing = set_params::blank();
         return Reading {
             refusal,
             set: nothing,
@@ -86,7 +86,7 @@ fn none() -> SetRead
     SetRead {
         ok: false,
         next: 0,
-        set: params::blank(),
+        set: set_params::blank(),
     }
 }
 
@@ -94,13 +94,13 @@ fn none() -> SetRead
 fn front(bytes: &[u8]) -> SetRead
     ensures { λ r. ⌜ setRead (now (bytes .entry)) r ≡ setFront (now (bytes .entry)) ⌝ }
 {
-    if !tokens::text_at(bytes, 0, b"table=AG2014\nsex=") {
+    if !text_tokens::text_at(bytes, 0, b"table=AG2014\nsex=") {
         return none();
     }
-    if tokens::text_at(bytes, SEX, b"M\n") {
+    if text_tokens::text_at(bytes, SEX, b"M\n") {
         return sheet_set::set_at(bytes, Sex::M);
     }
-    if tokens::text_at(bytes, SEX, b"F\n") {
+    if text_tokens::text_at(bytes, SEX, b"F\n") {
         return sheet_set::set_at(bytes, Sex::F);
     }
     none()
@@ -128,7 +128,7 @@ pub fn read_first(bytes: &[u8]) -> First
     let set = got.set;
     let sheet = reading_of(got.ok, set);
     if !got.ok {
-        let end = lines::lines_end(bytes, SHEET_LINES);
+        let end = text_lines::lines_end(bytes, SHEET_LINES);
         return First { sheet, next: end };
     }
     if got.next < bytes.len() {

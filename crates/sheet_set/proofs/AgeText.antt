@@ -4,13 +4,13 @@ use Prim.Native.Nat.{ℕ, _≤_, _<_}
 use native.Mathlib.Omega.{arith}
 use mathlib.Core.List.{List, _++_, append-assoc}
 use lib.ListN.{length, length-append}
-use Rattle.words.specs.declared.Short.{Short}
-use Rattle.words.specs.ShortText.{Sized, Holds, Joins, textOf}
-use Rattle.words.specs.ShortTextLaws.{holds-joins, holds-sized}
-use Rattle.tokens.specs.Text.{bytesOf}
-use Rattle.tokens.specs.Number.{unsignedText}
-use Rattle.tokens.specs.DecimalLaws.{by-size, text-small, text-two}
-use Rattle.sheet.specs.Lines.{Heads}
+use Rattle.text_words.specs.declared.Short.{Short}
+use Rattle.text_words.specs.code.ShortText.{Sized, Holds, Joins, textOf}
+use Rattle.text_words.specs.laws.ShortTextLaws.{holds-joins, holds-sized}
+use Rattle.text_tokens.specs.Text.{bytesOf}
+use Rattle.text_tokens.specs.Number.{unsignedText}
+use Rattle.text_tokens.specs.laws.DecimalLaws.{by-size, text-small, text-two}
+use Rattle.sheet.specs.code.Lines.{Heads}
 
 -- two bytes or three
 pub age-length : (x : ℕ) → x < 100

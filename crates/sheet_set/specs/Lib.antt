@@ -1,7 +1,2 @@
--- definitions
-pub mod Ages
-pub mod SetLines
--- laws
-pub mod LinesLaws
-pub mod RunLaws
-pub mod SetLaws
+pub mod code
+pub mod laws

@@ -3,18 +3,18 @@ ghost use mathlib.Core.Path.{_≡_};
 ghost use mathlib.Core.List.{_++_};
 ghost use Prim.Native.Nat.{_<_};
 ghost use lib.ListN.{drop};
-ghost use Rattle.words.specs.ShortText.{Holds};
-ghost use Rattle.tokens.specs.Text.{bytesOf};
-ghost use Rattle.tokens.specs.Number.{unsignedText};
-ghost use Rattle.params.specs.Set.{ages, Whole};
+ghost use Rattle.text_words.specs.code.ShortText.{Holds};
+ghost use Rattle.text_tokens.specs.Text.{bytesOf};
+ghost use Rattle.text_tokens.specs.Number.{unsignedText};
+ghost use Rattle.set_params.specs.Set.{ages, Whole};
 ghost use Rattle.sheet.specs.Sheet.{readLines, ageKeys, headBytes};
-ghost use Rattle.sheet.specs.Lines.{fourRead};
-ghost use Rattle.sheet_set.specs.Ages.{setRead, fromAges};
-ghost use Rattle.sheet_set.specs.SetLines.{fromLines};
-use params::Params;
-use params::Sex;
+ghost use Rattle.sheet.specs.code.Lines.{fourRead};
+ghost use Rattle.sheet_set.specs.code.Ages.{setRead, fromAges};
+ghost use Rattle.sheet_set.specs.code.SetLines.{fromLines};
+use set_params::Params;
+use set_params::Sex;
 use sheet::FourRead;
-use words::Short;
+use text_words::Short;
 
 // A set that was read, and the place that follows its lines, where nothing was malformed.
 pub struct SetRead {
@@ -30,9 +30,9 @@ fn age_text(x: usize) -> Short
 {
     let units = b'0' + (x % 10) as u8;
     if x < 10 {
-        return words::two(units, b'=');
+        return text_words::two(units, b'=');
     }
-    words::three(b'0' + (x / 10) as u8, units, b'=')
+    text_words::three(b'0' + (x / 10) as u8, units, b'=')
 }
 
 // The four lines of age x at a place.
@@ -41,10 +41,10 @@ fn age_at(bytes: &[u8], at: usize, x: usize) -> FourRead
     ensures { λ r. ⌜ fourRead (now (bytes .entry)) r ≡ readLines (ageKeys x) (drop at (now (bytes .entry))) ⌝ }
 {
     let age = age_text(x);
-    let level = words::joined(words::two(b'A', b'.'), age);
-    let slope = words::joined(words::two(b'B', b'.'), age);
-    let alpha = words::joined(words::three(b'a', b'l', b'.'), age);
-    let beta = words::joined(words::three(b'b', b'e', b'.'), age);
+    let level = text_words::joined(text_words::two(b'A', b'.'), age);
+    let slope = text_words::joined(text_words::two(b'B', b'.'), age);
+    let alpha = text_words::joined(text_words::three(b'a', b'l', b'.'), age);
+    let beta = text_words::joined(text_words::three(b'b', b'e', b'.'), age);
     sheet::four_at(bytes, at, level, slope, alpha, beta)
 }
 
@@ -56,7 +56,7 @@ fn ages_at(bytes: &[u8], at: usize, start: Params) -> SetRead
     let mut set = start;
     let mut next = at;
     let mut x: usize = 0;
-    while x < params::AGES {
+    while x < set_params::AGES {
         let FourRead::Four(after, level, slope, alpha, beta) = age_at(bytes, next, x) else {
             return SetRead {
                 ok: false,
@@ -85,18 +85,18 @@ pub fn set_at(bytes: &[u8], sex: Sex) -> SetRead
     let FourRead::Four(next, a, theta, period, kappa) = sheet::four_at(
         bytes,
         sheet::HEAD_BYTES,
-        words::two(b'a', b'='),
-        words::joined(
-            words::three(b't', b'h', b'e'),
-            words::three(b't', b'a', b'='),
+        text_words::two(b'a', b'='),
+        text_words::joined(
+            text_words::three(b't', b'h', b'e'),
+            text_words::three(b't', b'a', b'='),
         ),
-        words::two(b'K', b'='),
-        words::two(b'k', b'='),
+        text_words::two(b'K', b'='),
+        text_words::two(b'k', b'='),
     ) else {
         return SetRead {
             ok: false,
             next: 0,
-            set: params::blank(),
+            set: set_params::blank(),
         };
     };
     let start = Params {
@@ -105,10 +105,10 @@ pub fn set_at(bytes: &[u8], sex: Sex) -> SetRead
         theta,
         period,
         kappa,
-        level: [0; params::AGES],
-        slope: [0; params::AGES],
-        alpha: [0; params::AGES],
-        beta: [0; params::AGES],
+        level: [0; set_params::AGES],
+        slope: [0; set_params::AGES],
+        alpha: [0; set_params::AGES],
+        beta: [0; set_params::AGES],
     };
     ages_at(bytes, next, start)
 }

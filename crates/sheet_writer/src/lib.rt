@@ -2,14 +2,14 @@
 ghost use mathlib.Core.Path.{_≡_};
 ghost use lib.Dec.{T};
 ghost use lib.ListN.{length};
-ghost use Rattle.params.specs.Set.{ages};
-ghost use Rattle.params.specs.Limits.{inLimits};
+ghost use Rattle.set_params.specs.Set.{ages};
+ghost use Rattle.set_params.specs.Limits.{inLimits};
 ghost use Rattle.sheet.specs.Sheet.{sheetText, writeAnswer, writtenBuffer};
-ghost use Rattle.sheet_length.specs.Parts.{agesText};
-ghost use Rattle.printing.specs.Put.{Room, Put};
-use params::AGES;
-use params::Params;
-use refusal::Refusal;
+ghost use Rattle.sheet_length.specs.code.Parts.{agesText};
+ghost use Rattle.text_printing.specs.code.Put.{Room, Put};
+use set_params::AGES;
+use set_params::Params;
+use set_refusal::Refusal;
 use sheet::Written;
 
 // Writes the lines of all ages; the place after them.
@@ -20,8 +20,8 @@ fn put_ages(buffer: &mut [u8], at: usize, p: Params) -> usize
     let mut place = at;
     let mut age: usize = 0;
     while age < AGES {
-        let four = params::age_of_runs(&p.level, &p.slope, &p.alpha, &p.beta, age);
-        place = line_writer::put_age(buffer, place, four, age);
+        let four = set_params::age_of_runs(&p.level, &p.slope, &p.alpha, &p.beta, age);
+        place = sheet_line_writer::put_age(buffer, place, four, age);
         age += 1;
     }
     place
@@ -33,8 +33,8 @@ fn put_sheet(buffer: &mut [u8], p: Params) -> usize
     ensures { λ r. ⌜ Put (now (buffer .entry)) 0 (sheetText p) (now (buffer .exit)) r ⌝ }
 {
     let sex = p.sex;
-    let series = line_writer::put_head(buffer, sex);
-    let first = line_writer::put_series(buffer, series, p);
+    let series = sheet_line_writer::put_head(buffer, sex);
+    let first = sheet_line_writer::put_series(buffer, series, p);
     put_ages(buffer, first, p)
 }
 
@@ -42,7 +42,7 @@ fn put_sheet(buffer: &mut [u8], p: Params) -> usize
 pub fn write(p: Params, buffer: &mut [u8]) -> Written
     ensures { λ r. ⌜ (r ≡ writeAnswer p (length (now (buffer .entry)))) × (now (buffer .exit) ≡ writtenBuffer p (now (buffer .entry))) ⌝ }
 {
-    if !limits::in_limits(p) {
+    if !set_limits::in_limits(p) {
         return Written {
             refusal: Refusal::OutOfLimits,
             len: 0,

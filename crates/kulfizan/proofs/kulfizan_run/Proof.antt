@@ -2,7 +2,7 @@
 use borrow.Author.Needs.{needs}
 use mathlib.Core.Path.{refl}
 use Rattle.kulfizan.specs.Run.{programOf}
-use Rattle.kulfizan.specs.RunLaws.{run-told}
+use Rattle.kulfizan.specs.laws.RunLaws.{run-told}
 use Rattle.kulfizan.proofs.kulfizan_run.Statement.{statement}
 use Rattle.kulfizan.proofs.kulfizan_run.Tie as tie
 

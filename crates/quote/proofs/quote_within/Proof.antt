@@ -7,16 +7,16 @@ use lib.IntN.{pos, natAbs, _-ℤ_}
 use mir.Syntax.{w64}
 use mir.Val.{SFits}
 use mir.Facts.{toZ-ofZ}
-use Rattle.whole.specs.Bound.{bits, under-pos, fits}
-use Rattle.params.specs.Limits.{startYear, lastYears}
-use Rattle.kinds.specs.declared.Rule.{Rule}
-use Rattle.kinds.specs.Kinds.{ruleOf, countOf}
-use Rattle.table_tests.specs.TableTests.{firstFailed, tableTests}
-use Rattle.table_tests.specs.TableLaws.{InTable, in-table}
+use Rattle.number_whole.specs.laws.Bound.{bits, under-pos, fits}
+use Rattle.set_params.specs.Limits.{startYear, lastYears}
+use Rattle.quote_kinds.specs.declared.Rule.{Rule}
+use Rattle.quote_kinds.specs.Kinds.{ruleOf, countOf}
+use Rattle.quote_table_tests.specs.TableTests.{firstFailed, tableTests}
+use Rattle.quote_table_tests.specs.laws.TableLaws.{InTable, in-table}
 use Rattle.quote.specs.Quote.{queryPath}
-use Rattle.quote.specs.Tests.{Counted, counted, path-first, path-room, path-in}
-use Rattle.refusal.specs.RefusalLaws.{accepted}
-use Rattle.kinds.proofs.Casts.{cast-whole}
+use Rattle.quote.specs.laws.Tests.{Counted, counted, path-first, path-room, path-in}
+use Rattle.set_refusal.specs.laws.RefusalLaws.{accepted}
+use Rattle.quote_kinds.proofs.Casts.{cast-whole}
 use Rattle.quote.proofs.Steps.{table-answer, along-answer, years-under, years-from}
 use Rattle.quote.proofs.quote_within.Statement.{statement}
 use Rattle.quote.proofs.quote_within.Tie as tie

@@ -4,11 +4,11 @@ use mathlib.Core.List.{List}
 use Prim.Native.Nat.{ℕ, _+_, _-_, _<_}
 use native.Mathlib.Omega.{arith}
 use lib.ListN.{length}
-use Rattle.lines.specs.LineLaws.{place-within}
+use Rattle.text_lines.specs.laws.LineLaws.{place-within}
 use Rattle.run_line.specs.Line.{lineAnswer, longestLine}
-use Rattle.run_line.specs.LineLaws.{Bounded}
-use Rattle.run_line.specs.ReplyLaws.{line-bounded}
-use Rattle.run.specs.AnswerLaws.{Going, lineAt, line-here, going-none, going-room, going-more, going-all}
+use Rattle.run_line.specs.laws.LineLaws.{Bounded}
+use Rattle.run_line.specs.laws.ReplyLaws.{line-bounded}
+use Rattle.run.specs.laws.AnswerLaws.{Going, lineAt, line-here, going-none, going-room, going-more, going-all}
 use Rattle.run.proofs.put_answers.Statement.{statement}
 use Rattle.run.proofs.put_answers.Tie as tie
 

@@ -5,14 +5,14 @@ use mathlib.Core.Bool.{Bool}
 use mathlib.Core.List.{List}
 use Prim.Native.Nat.{ℕ}
 use native.Mathlib.Omega.{arith}
-use Rattle.printing.specs.PutLaws.{put-as}
-use Rattle.refusal.specs.Refusals.{refusalNumber}
+use Rattle.text_printing.specs.laws.PutLaws.{put-as}
+use Rattle.set_refusal.specs.Refusals.{refusalNumber}
 use Rattle.run_sheets.specs.declared.Front.{Front}
 use Rattle.run_sheets.specs.Front.{frontOf}
-use Rattle.run_sheets.specs.FrontLaws.{Usable, front-usable}
-use Rattle.run_line.specs.ReplyLaws.{longest-between}
+use Rattle.run_sheets.specs.laws.FrontLaws.{Usable, front-usable}
+use Rattle.run_line.specs.laws.ReplyLaws.{longest-between}
 use Rattle.run.specs.Run.{takesTwo}
-use Rattle.run.specs.RunLaws.{lines-refused, lines-answered}
+use Rattle.run.specs.laws.RunLaws.{lines-refused, lines-answered}
 use Rattle.run.proofs.put_lines.Statement.{statement}
 use Rattle.run.proofs.put_lines.Tie as tie
 

@@ -3,13 +3,13 @@ use borrow.Author.Needs.{needs}
 use mathlib.Core.Path.{sym}
 use mathlib.Core.List.{_++_}
 use native.Mathlib.Omega.{arith}
-use Rattle.tokens.specs.Text.{bytesOf}
-use Rattle.tokens.specs.Number.{unsignedText}
-use Rattle.printing.specs.Put.{Room, Put}
-use Rattle.printing.specs.PutLaws.{put-as, room-as, room-first, room-rest, put-join}
-use Rattle.answer_text.specs.AnswerText.{refusedText}
+use Rattle.text_tokens.specs.Text.{bytesOf}
+use Rattle.text_tokens.specs.Number.{unsignedText}
+use Rattle.text_printing.specs.code.Put.{Room, Put}
+use Rattle.text_printing.specs.laws.PutLaws.{put-as, room-as, room-first, room-rest, put-join}
+use Rattle.run_answer_text.specs.AnswerText.{refusedText}
 use Rattle.run.specs.Run.{refusedRun}
-use Rattle.run.specs.RunLaws.{not-named, by-name, line-length}
+use Rattle.run.specs.laws.RunLaws.{not-named, by-name, line-length}
 use Rattle.run.proofs.put_refused.Statement.{statement}
 use Rattle.run.proofs.put_refused.Tie as tie
 

@@ -3,7 +3,7 @@ use borrow.Author.Needs.{needs}
 use mathlib.Core.Path.{_≡_, sym, ap, subst}
 use Prim.Native.Nat.{_≤_}
 use lib.ListN.{length}
-use Rattle.printing.specs.PutLaws.{put-as}
+use Rattle.text_printing.specs.laws.PutLaws.{put-as}
 use Rattle.run.specs.declared.Program.{Program}
 use Rattle.run.specs.Run.{runOf, runRoom}
 use Rattle.run.proofs.put_run.Statement.{statement}

@@ -5,7 +5,7 @@ use Prim.Native.Nat.{_≤_}
 use borrow.Author.Tests.{not-true, not-false, leb-true, leb-false}
 use lib.ListN.{length}
 use Rattle.run.specs.Run.{runOf, runRoom}
-use Rattle.run.specs.IntoLaws.{into-short, into-put}
+use Rattle.run.specs.laws.IntoLaws.{into-short, into-put}
 use Rattle.run.proofs.run.Statement.{statement}
 use Rattle.run.proofs.run.Tie as tie
 

@@ -5,9 +5,9 @@ use Prim.Native.Nat.{_≤_}
 use native.Mathlib.Omega.{arith}
 use lib.ListN.{length, take, length-take}
 use lib.Seq.{length-take-le}
-use Rattle.run.specs.IntoLaws.{front-within}
-use Rattle.run.specs.RunLaws.{room-most}
-use Rattle.streams.specs.Streams.{ReadIn}
+use Rattle.run.specs.laws.IntoLaws.{front-within}
+use Rattle.run.specs.laws.RunLaws.{room-most}
+use Rattle.run_streams.specs.code.Streams.{ReadIn}
 use Rattle.run_console.proofs.answer_in.Statement.{statement}
 use Rattle.run_console.proofs.answer_in.Tie as tie
 

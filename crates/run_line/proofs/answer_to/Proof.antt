@@ -1,6 +1,6 @@
 -- `answer_to` meets its contract: the quote of the query's fields.
 use borrow.Author.Needs.{needs}
-use Rattle.tokens.specs.ReadLaws.{held}
+use Rattle.text_tokens.specs.laws.ReadLaws.{held}
 use Rattle.run_line.specs.Line.{queryAnswer}
 use Rattle.run_line.proofs.answer_to.Statement.{statement}
 use Rattle.run_line.proofs.answer_to.Tie as tie

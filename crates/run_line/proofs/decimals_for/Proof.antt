@@ -1,8 +1,8 @@
 -- `decimals_for` meets its contract: the decimals of the rule's fold.
 use borrow.Author.Needs.{needs}
 use mathlib.Core.Path.{ap, _∙_}
-use Rattle.kinds.specs.declared.Rule.{Rule}
-use Rattle.kinds.specs.Kinds.{decimalsOf}
+use Rattle.quote_kinds.specs.declared.Rule.{Rule}
+use Rattle.quote_kinds.specs.Kinds.{decimalsOf}
 use Rattle.run_line.proofs.decimals_for.Statement.{statement}
 use Rattle.run_line.proofs.decimals_for.Tie as tie
 

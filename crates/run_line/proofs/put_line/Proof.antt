@@ -6,17 +6,17 @@ use Prim.Native.Nat.{ℕ, _-_, _<_}
 use native.Mathlib.Omega.{arith}
 use lib.ListN.{length}
 use lib.Seq.{length-take-le}
-use Rattle.tokens.specs.Text.{malformed, taken}
-use Rattle.printing.specs.Put.{Room, Put}
-use Rattle.printing.specs.PutLaws.{put-of, put-as, room-as, room-first, room-rest, put-join}
-use Rattle.refusal.specs.declared.Refusal.the-variants.{Malformed}
-use Rattle.query.specs.declared.Query.{Query}
-use Rattle.query.specs.Query.{readQuery}
-use Rattle.query.specs.Code.{queryRead}
-use Rattle.answer_text.specs.AnswerText.{refusalLine}
+use Rattle.text_tokens.specs.Text.{malformed, taken}
+use Rattle.text_printing.specs.code.Put.{Room, Put}
+use Rattle.text_printing.specs.laws.PutLaws.{put-of, put-as, room-as, room-first, room-rest, put-join}
+use Rattle.set_refusal.specs.declared.Refusal.the-variants.{Malformed}
+use Rattle.run_query.specs.declared.Query.{Query}
+use Rattle.run_query.specs.Query.{readQuery}
+use Rattle.run_query.specs.code.Code.{queryRead}
+use Rattle.run_answer_text.specs.AnswerText.{refusalLine}
 use Rattle.run_line.specs.Line.{withoutFeed, reply, lineAnswer}
-use Rattle.run_line.specs.LineLaws.{answered-malformed, answered-taken}
-use Rattle.run_line.specs.ReplyLaws.{query-lengths, line-bounded}
+use Rattle.run_line.specs.laws.LineLaws.{answered-malformed, answered-taken}
+use Rattle.run_line.specs.laws.ReplyLaws.{query-lengths, line-bounded}
 use Rattle.run_line.proofs.put_line.Statement.{statement}
 use Rattle.run_line.proofs.put_line.Tie as tie
 

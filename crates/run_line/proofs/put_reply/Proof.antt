@@ -1,13 +1,13 @@
 -- `put_reply` meets its contract: the text of the mode.
 use borrow.Author.Needs.{needs}
 use mathlib.Core.Path.{_≡_, sym}
-use Rattle.printing.specs.PutLaws.{put-as, room-as}
-use Rattle.answer_text.specs.AnswerText.{answerText}
-use Rattle.answer_text.specs.Sizes.{SizedAnswer}
-use Rattle.compare_text.specs.CompareText.{comparisonText}
-use Rattle.compare_text.specs.Sizes.{SizedComparison}
+use Rattle.text_printing.specs.laws.PutLaws.{put-as, room-as}
+use Rattle.run_answer_text.specs.AnswerText.{answerText}
+use Rattle.run_answer_text.specs.code.Sizes.{SizedAnswer}
+use Rattle.run_compare_text.specs.CompareText.{comparisonText}
+use Rattle.run_compare_text.specs.code.Sizes.{SizedComparison}
 use Rattle.run_line.specs.Line.{reply}
-use Rattle.run_line.specs.ReplyLaws.{query-sized, reply-quotes, reply-compare}
+use Rattle.run_line.specs.laws.ReplyLaws.{query-sized, reply-quotes, reply-compare}
 use Rattle.run_line.proofs.put_reply.Statement.{statement}
 use Rattle.run_line.proofs.put_reply.Tie as tie
 

@@ -7,10 +7,10 @@ use Prim.Native.Nat.{ℕ, _≤_}
 use native.Mathlib.Omega.{arith}
 use borrow.Author.Tests.{not-true, not-false}
 use lib.ListN.{length, drop, length-drop}
-use Rattle.refusal.specs.Refusals.{refusalNumber}
+use Rattle.set_refusal.specs.Refusals.{refusalNumber}
 use Rattle.sheet.specs.declared.Reading.{Reading}
 use Rattle.run_sheets.specs.Front.{sheetOf, sheetEnd}
-use Rattle.run_sheets.specs.FrontLaws.{sheet-within, rest-from, front-long, front-one, front-first, front-both}
+use Rattle.run_sheets.specs.laws.FrontLaws.{sheet-within, rest-from, front-long, front-one, front-first, front-both}
 use Rattle.run_sheets.proofs.read_front.Statement.{statement}
 use Rattle.run_sheets.proofs.read_front.Tie as tie
 

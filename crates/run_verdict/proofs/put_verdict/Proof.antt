@@ -7,22 +7,22 @@ use native.Mathlib.Omega.{arith}
 use mir.Syntax.{w64}
 use mir.Val.{toZ, ofZ}
 use lib.ListN.{length, drop}
-use Rattle.tokens.specs.Text.{malformed, taken}
-use Rattle.tokens.specs.ReadLaws.{held, read-malformed, read-taken}
-use Rattle.printing.specs.Put.{Room}
-use Rattle.printing.specs.PutLaws.{put-as, room-as}
-use Rattle.refusal.specs.declared.Refusal.{Refusal}
-use Rattle.refusal.specs.Refusals.{refusalNumber}
-use Rattle.answer_text.specs.AnswerText.{refusalLine}
-use Rattle.answer_text.specs.Lengths.{refusal-length}
+use Rattle.text_tokens.specs.Text.{malformed, taken}
+use Rattle.text_tokens.specs.laws.ReadLaws.{held, read-malformed, read-taken}
+use Rattle.text_printing.specs.code.Put.{Room}
+use Rattle.text_printing.specs.laws.PutLaws.{put-as, room-as}
+use Rattle.set_refusal.specs.declared.Refusal.{Refusal}
+use Rattle.set_refusal.specs.Refusals.{refusalNumber}
+use Rattle.run_answer_text.specs.AnswerText.{refusalLine}
+use Rattle.run_answer_text.specs.laws.Lengths.{refusal-length}
 use Rattle.run_sheets.specs.declared.Front.{Front}
-use Rattle.run_sheets.specs.FrontLaws.{rest-from}
-use Rattle.column_verdicts.specs.ColumnVerdict.{columnVerdict}
-use Rattle.verdict_text.specs.VerdictText.{verdictLine, mostVerdict}
+use Rattle.run_sheets.specs.laws.FrontLaws.{rest-from}
+use Rattle.run_column_verdict.specs.ColumnVerdict.{columnVerdict}
+use Rattle.run_verdict_text.specs.VerdictText.{verdictLine, mostVerdict}
 use Rattle.run_verdict.specs.VerdictRun.{readYear, verdictRun}
-use Rattle.run_verdict.specs.Code.{PlaceIn}
-use Rattle.run_verdict.specs.YearLaws.{year-small}
-use Rattle.run_verdict.specs.RunLaws.{run-malformed, run-refused, run-judged, run-most}
+use Rattle.run_verdict.specs.code.Code.{PlaceIn}
+use Rattle.run_verdict.specs.laws.YearLaws.{year-small}
+use Rattle.run_verdict.specs.laws.RunLaws.{run-malformed, run-refused, run-judged, run-most}
 use Rattle.run_verdict.proofs.put_verdict.Statement.{statement}
 use Rattle.run_verdict.proofs.put_verdict.Tie as tie
 

@@ -3,12 +3,12 @@ use borrow.Author.Needs.{needs}
 use mathlib.Core.Path.{_≡_, sym, _∙_}
 use native.Mathlib.Omega.{arith}
 use lib.ListN.{drop}
-use Rattle.tokens.specs.Text.{bytesOf}
-use Rattle.tokens.specs.Steps.{goes, stops}
-use Rattle.tokens.specs.TextLaws.{text-found, text-missing, text-room}
-use Rattle.tokens.specs.ReadLaws.{lacks, has, held, read-malformed, read-taken}
+use Rattle.text_tokens.specs.Text.{bytesOf}
+use Rattle.text_tokens.specs.laws.Steps.{goes, stops}
+use Rattle.text_tokens.specs.laws.TextLaws.{text-found, text-missing, text-room}
+use Rattle.text_tokens.specs.laws.ReadLaws.{lacks, has, held, read-malformed, read-taken}
 use Rattle.run_verdict.specs.VerdictRun.{readYear}
-use Rattle.run_verdict.specs.YearLaws.{withFeed, year-steps}
+use Rattle.run_verdict.specs.laws.YearLaws.{withFeed, year-steps}
 use Rattle.run_verdict.proofs.year_at.Statement.{statement}
 use Rattle.run_verdict.proofs.year_at.Tie as tie
 

@@ -1,7 +1,7 @@
 -- `four_at` meets its contract: the four lines one after another, each read or malformed.
 use mathlib.Core.Path.{sym}
-use Rattle.sheet.specs.FourLaws.{four-malformed₀, four-malformed₁, four-malformed₂, four-malformed₃, four-taken}
-use Rattle.tokens.specs.ReadLaws.{held, read-malformed, read-taken}
+use Rattle.sheet.specs.laws.FourLaws.{four-malformed₀, four-malformed₁, four-malformed₂, four-malformed₃, four-taken}
+use Rattle.text_tokens.specs.laws.ReadLaws.{held, read-malformed, read-taken}
 use borrow.Author.Needs.{needs}
 use Rattle.sheet.proofs.four_at.Statement.{statement}
 use Rattle.sheet.proofs.four_at.Tie as tie
@@ -72,6 +72,6 @@ returns-5 c k₀ k₁ k₂ k₃ e₀ e₁ e₂ e₃ =
 pub four-at-spec : {M : Type 1} → statement M
 four-at-spec =
     tie.close
-    (tie.spec (search needs) (search needs) (search needs) returns (search needs) (search needs) (search needs)
-    returns-2 (search needs) (search needs) (search needs) returns-3 (search needs) (search needs) (search needs)
-    returns-4 returns-5)
+    (tie.spec (λ c κs. search needs) (λ c. search needs) (λ c. search needs) returns (λ c κs. search needs)
+    (λ c. search needs) (λ c. search needs) returns-2 (λ c κs. search needs) (λ c. search needs) (λ c. search needs)
+    returns-3 (λ c κs. search needs) (λ c. search needs) (λ c. search needs) returns-4 returns-5)

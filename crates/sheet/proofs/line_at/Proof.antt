@@ -1,12 +1,12 @@
 -- `line_at` meets its contract: the key with its `=`, the number and the line feed, each found at its place or malformed.
 use mathlib.Core.Path.{sym, _∙_}
 use native.Mathlib.Omega.{arith}
-use Rattle.words.specs.Word.{byteBits}
-use Rattle.words.specs.LaneLaws.{lanes-length}
-use Rattle.words.specs.ShortText.{textOf}
-use Rattle.tokens.specs.Text.{bytesOf}
-use Rattle.tokens.specs.TextLaws.{text-room}
-use Rattle.tokens.specs.ReadLaws.{held, has, lacks}
+use Rattle.text_words.specs.code.Word.{byteBits}
+use Rattle.text_words.specs.laws.LaneLaws.{lanes-length}
+use Rattle.text_words.specs.code.ShortText.{textOf}
+use Rattle.text_tokens.specs.Text.{bytesOf}
+use Rattle.text_tokens.specs.laws.TextLaws.{text-room}
+use Rattle.text_tokens.specs.laws.ReadLaws.{held, has, lacks}
 use Rattle.sheet.proofs.LineSteps.{key-malformed, no-number, feed-malformed, line-taken}
 use borrow.Author.Needs.{needs}
 use Rattle.sheet.proofs.line_at.Statement.{statement}
@@ -60,5 +60,5 @@ returns-4 c key e =
 pub line-at-spec : {M : Type 1} → statement M
 line-at-spec =
     tie.close
-    (tie.spec (search needs) returns add-number-at (search needs) (search needs) (search needs) returns-2 (search needs)
-    returns-3 add-t9 returns-4)
+    (tie.spec (λ c κs. search needs) returns add-number-at (λ c κs. search needs) (λ c. search needs)
+    (λ c. search needs) returns-2 (λ c κs. search needs) returns-3 add-t9 returns-4)

@@ -7,11 +7,11 @@ use Prim.Native.Nat.{ℕ, _+_, _≤_}
 use native.Mathlib.Omega.{arith}
 use lib.IntN.{ℤ}
 use lib.ListN.{length}
-use Rattle.tokens.specs.Number.{unsignedText, numberText}
-use Rattle.tokens.specs.DecimalLaws.{text-small, text-two}
-use Rattle.sheet_length.specs.Parts.{lineLength}
-use Rattle.sheet_length.specs.PartsLaws.{age-length}
-use Rattle.sheet_length.specs.Held.{AgeHeld, age-held}
+use Rattle.text_tokens.specs.Number.{unsignedText, numberText}
+use Rattle.text_tokens.specs.laws.DecimalLaws.{text-small, text-two}
+use Rattle.sheet_length.specs.code.Parts.{lineLength}
+use Rattle.sheet_length.specs.laws.PartsLaws.{age-length}
+use Rattle.sheet_length.specs.laws.Held.{AgeHeld, age-held}
 use Rattle.sheet_length.proofs.age_len.Statement.{statement}
 use Rattle.sheet_length.proofs.age_len.Tie as tie
 
@@ -95,5 +95,6 @@ returns c =
 pub age-len-spec : {M : Type 1} → statement M
 age-len-spec =
     tie.close
-    (tie.spec add-line-len line-len-requires (search needs) line-len-requires-2 (search needs) (search needs)
-    line-len-requires-3 (search needs) (search needs) line-len-requires-4 (search needs) returns)
+    (tie.spec add-line-len line-len-requires (λ c. search needs) line-len-requires-2 (λ c. search needs)
+    (λ c. search needs) line-len-requires-3 (λ c. search needs) (λ c. search needs) line-len-requires-4
+    (λ c. search needs) returns)

@@ -5,8 +5,8 @@ use native.Mathlib.Omega.{arith}
 use lib.IntN.{ℤ}
 use lib.ListN.{length}
 use mir.Facts.{toZ-ofZ}
-use Rattle.tokens.specs.Number.{numberText}
-use Rattle.printing.specs.NumberLengths.{number-length}
+use Rattle.text_tokens.specs.Number.{numberText}
+use Rattle.text_printing.specs.laws.NumberLengths.{number-length}
 use Rattle.sheet_length.proofs.line_len.Statement.{statement}
 use Rattle.sheet_length.proofs.line_len.Tie as tie
 

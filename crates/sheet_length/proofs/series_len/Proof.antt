@@ -2,9 +2,9 @@
 use borrow.Author.Needs.{needs}
 use mathlib.Core.Path.{_≡_, ap, _∙_}
 use native.Mathlib.Omega.{arith}
-use Rattle.sheet_length.specs.Parts.{lineLength}
-use Rattle.sheet_length.specs.PartsLaws.{series-length}
-use Rattle.sheet_length.specs.Held.{SeriesHeld, series-held}
+use Rattle.sheet_length.specs.code.Parts.{lineLength}
+use Rattle.sheet_length.specs.laws.PartsLaws.{series-length}
+use Rattle.sheet_length.specs.laws.Held.{SeriesHeld, series-held}
 use Rattle.sheet_length.proofs.series_len.Statement.{statement}
 use Rattle.sheet_length.proofs.series_len.Tie as tie
 
@@ -63,5 +63,5 @@ returns c =
 pub series-len-spec : {M : Type 1} → statement M
 series-len-spec =
     tie.close
-    (tie.spec line-len-requires line-len-requires-2 (search needs) line-len-requires-3 (search needs)
-    line-len-requires-4 (search needs) returns)
+    (tie.spec line-len-requires line-len-requires-2 (λ c. search needs) line-len-requires-3 (λ c. search needs)
+    line-len-requires-4 (λ c. search needs) returns)

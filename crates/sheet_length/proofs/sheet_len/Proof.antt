@@ -6,15 +6,15 @@ use Prim.Native.Nat.{suc, _+_, _-_, _≤_}
 use native.Mathlib.Numerals.{add-one}
 use native.Mathlib.Omega.{arith}
 use lib.ListN.{length}
-use Rattle.params.specs.declared.Params.{Params}
-use Rattle.params.specs.declared.Age.{Age}
-use Rattle.params.specs.Set.{ages, ageOf, four-age}
-use Rattle.params.specs.Within.{AgeWithin}
-use Rattle.params.specs.LimitsLaws.{in-limits-age}
+use Rattle.set_params.specs.declared.Params.{Params}
+use Rattle.set_params.specs.declared.Age.{Age}
+use Rattle.set_params.specs.Set.{ages, ageOf, four-age}
+use Rattle.set_params.specs.code.Within.{AgeWithin}
+use Rattle.set_params.specs.laws.LimitsLaws.{in-limits-age}
 use Rattle.sheet.specs.Sheet.{headBytes}
-use Rattle.sheet.specs.SheetTrip.{sheet-length}
-use Rattle.sheet_length.specs.Parts.{seriesText, ageText, agesText}
-use Rattle.sheet_length.specs.PartsLaws.{ages-none, ages-step, ages-grow, sheet-sum}
+use Rattle.sheet.specs.laws.SheetTrip.{sheet-length}
+use Rattle.sheet_length.specs.code.Parts.{seriesText, ageText, agesText}
+use Rattle.sheet_length.specs.laws.PartsLaws.{ages-none, ages-step, ages-grow, sheet-sum}
 use Rattle.sheet_length.proofs.sheet_len.Statement.{statement}
 use Rattle.sheet_length.proofs.sheet_len.Tie as tie
 
@@ -78,5 +78,5 @@ returns c =
 pub sheet-len-spec : {M : Type 1} → statement M
 sheet-len-spec =
     tie.close
-    (tie.spec Inv-loop μ-loop (λ c κs. search needs) add-len loop-holds (search needs) age-len-requires add-len-2
-    (search needs) (search needs) loop-again returns)
+    (tie.spec Inv-loop μ-loop (λ c κs. search needs) add-len loop-holds (λ c κs. search needs) age-len-requires
+    add-len-2 (λ c. search needs) (λ c. search needs) loop-again returns)

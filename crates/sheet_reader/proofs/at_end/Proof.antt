@@ -2,7 +2,7 @@
 use borrow.Author.Tests.{not-true, not-false}
 use mathlib.Core.Path.{sym}
 use native.Mathlib.Omega.{arith}
-use Rattle.sheet_reader.specs.SheetLaws.{ended, unread, followed}
+use Rattle.sheet_reader.specs.laws.SheetLaws.{ended, unread, followed}
 use Rattle.sheet_reader.proofs.at_end.Statement.{statement}
 use Rattle.sheet_reader.proofs.at_end.Tie as tie
 

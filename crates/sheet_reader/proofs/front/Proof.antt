@@ -5,12 +5,12 @@ use mathlib.Core.Path.{_≡_, sym, _∙_}
 use mathlib.Core.Bool.{true, false}
 use mathlib.Core.List.{List}
 use Prim.Native.Nat.{ℕ}
-use Rattle.tokens.specs.Text.{bytesOf, malformed}
-use Rattle.tokens.specs.Places.{textAt}
+use Rattle.text_tokens.specs.Text.{bytesOf, malformed}
+use Rattle.text_tokens.specs.code.Places.{textAt}
 use Rattle.sheet_set.specs.declared.SetRead.{SetRead}
-use Rattle.sheet_set.specs.Ages.{setRead}
-use Rattle.sheet_reader.specs.Read.{setFront}
-use Rattle.sheet_reader.specs.SheetLaws.{sexText, head-none, head-m, head-f, head-malformed}
+use Rattle.sheet_set.specs.code.Ages.{setRead}
+use Rattle.sheet_reader.specs.code.Read.{setFront}
+use Rattle.sheet_reader.specs.laws.SheetLaws.{sexText, head-none, head-m, head-f, head-malformed}
 use Rattle.sheet_reader.proofs.front.Statement.{statement}
 use Rattle.sheet_reader.proofs.front.Tie as tie
 

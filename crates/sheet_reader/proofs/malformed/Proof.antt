@@ -9,4 +9,4 @@ unfolding refused
 returns c = rw (c .blank .ensures)
 
 pub malformed-spec : {M : Type 1} → statement M
-malformed-spec = tie.close (tie.spec (search needs) returns)
+malformed-spec = tie.close (tie.spec (λ c κs. search needs) returns)

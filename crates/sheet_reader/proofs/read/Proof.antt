@@ -3,9 +3,9 @@ use borrow.Author.Needs.{needs}
 use mathlib.Core.Path.{sym, ap, _∙_}
 use mathlib.Core.Bool.{Bool, cond}
 use mathlib.Core.List.{[]}
-use Rattle.tokens.specs.Text.{malformed, taken}
+use Rattle.text_tokens.specs.Text.{malformed, taken}
 use Rattle.sheet.specs.Sheet.{readingOf}
-use Rattle.sheet_reader.specs.SheetLaws.{too-long, whole-reading}
+use Rattle.sheet_reader.specs.laws.SheetLaws.{too-long, whole-reading}
 use Rattle.sheet_reader.proofs.read.Statement.{statement}
 use Rattle.sheet_reader.proofs.read.Tie as tie
 

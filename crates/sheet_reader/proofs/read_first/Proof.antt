@@ -6,9 +6,9 @@ use mathlib.Core.Path.{_≡_, _∙_}
 use Prim.Native.Nat.{_+_, _-_}
 use native.Mathlib.Omega.{arith}
 use lib.ListN.{length}
-use Rattle.lines.specs.Lines.{firstLines}
+use Rattle.text_lines.specs.Lines.{firstLines}
 use Rattle.sheet.specs.Sheet.{sheetLines, readSheet}
-use Rattle.sheet_reader.specs.FirstLaws.{first-reading, first-place}
+use Rattle.sheet_reader.specs.laws.FirstLaws.{first-reading, first-place}
 use Rattle.sheet_reader.proofs.read_first.Statement.{statement}
 use Rattle.sheet_reader.proofs.read_first.Tie as tie
 

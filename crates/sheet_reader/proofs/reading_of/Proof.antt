@@ -1,8 +1,8 @@
 -- `reading_of` meets its contract: the refusal is decided on the set, and the blank set stands for it where it is refused.
 use mathlib.Core.Path.{_≡_, sym, _∙_}
-use Rattle.sheet_reader.specs.Read.{refusalOf}
-use Rattle.sheet_reader.specs.SheetLaws.{reading-refused, reading-accepted}
-use Rattle.params.specs.Limits.{inLimits}
+use Rattle.sheet_reader.specs.code.Read.{refusalOf}
+use Rattle.sheet_reader.specs.laws.SheetLaws.{reading-refused, reading-accepted}
+use Rattle.set_params.specs.Limits.{inLimits}
 use borrow.Author.Needs.{needs}
 use Rattle.sheet_reader.proofs.reading_of.Statement.{statement}
 use Rattle.sheet_reader.proofs.reading_of.Tie as tie

@@ -1,7 +1,7 @@
 -- `refusal_of` meets its contract: a sheet that is not whole is malformed whatever its numbers.
 use borrow.Author.Tests.{not-true, not-false}
 use mathlib.Core.Path.{sym}
-use Rattle.sheet_reader.specs.SheetLaws.{malformed-first, then-out-of-limits, then-accepted}
+use Rattle.sheet_reader.specs.laws.SheetLaws.{malformed-first, then-out-of-limits, then-accepted}
 use Rattle.sheet_reader.proofs.refusal_of.Statement.{statement}
 use Rattle.sheet_reader.proofs.refusal_of.Tie as tie
 

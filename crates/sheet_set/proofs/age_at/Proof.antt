@@ -1,7 +1,7 @@
 -- `age_at` meets its contract: each head is a name and then the age, one word of at most six bytes.
 use Prim.Native.Nat.{_<_}
 use native.Mathlib.Omega.{arith}
-use Rattle.tokens.specs.Text.{bytesOf}
+use Rattle.text_tokens.specs.Text.{bytesOf}
 use Rattle.sheet.specs.Sheet.{ageKeys}
 use Rattle.sheet_set.proofs.AgeText.{age-joins, age-sized, age-head}
 use borrow.Author.Needs.{needs}
@@ -63,5 +63,5 @@ returns c =
 pub age-at-spec : {M : Type 1} → statement M
 age-at-spec =
     tie.close
-    (tie.spec (search needs) (search needs) joined-requires (search needs) joined-requires-2 (search needs)
-    joined-requires-3 (search needs) joined-requires-4 four-at-requires returns)
+    (tie.spec (λ c κs. search needs) (λ c κs. search needs) joined-requires (λ c κs. search needs) joined-requires-2
+    (λ c κs. search needs) joined-requires-3 (λ c κs. search needs) joined-requires-4 four-at-requires returns)

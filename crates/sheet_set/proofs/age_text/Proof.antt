@@ -2,8 +2,8 @@
 use mathlib.Core.Path.{_≡_}
 use Prim.Native.Nat.{_%_}
 use native.Mathlib.Omega.{arith}
-use Rattle.tokens.specs.Text.{bytesOf}
-use Rattle.tokens.specs.DecimalLaws.{text-small, text-two}
+use Rattle.text_tokens.specs.Text.{bytesOf}
+use Rattle.text_tokens.specs.laws.DecimalLaws.{text-small, text-two}
 use borrow.Author.Needs.{needs}
 use Rattle.sheet_set.proofs.age_text.Statement.{statement}
 use Rattle.sheet_set.proofs.age_text.Tie as tie
@@ -24,5 +24,5 @@ returns-2 c =
 pub age-text-spec : {M : Type 1} → statement M
 age-text-spec =
     tie.close
-    (tie.spec (search needs) (search needs) (search needs) returns (search needs) (search needs) (search needs)
-    returns-2)
+    (tie.spec (λ c. search needs) (λ c. search needs) (λ c κs. search needs) returns (λ c. search needs)
+    (λ c. search needs) (λ c κs. search needs) returns-2)

@@ -6,10 +6,10 @@ use Prim.Native.Nat.{_-_, _≤_}
 use native.Mathlib.Omega.{arith}
 use native.Mathlib.Numerals.{add-one}
 use lib.ListN.{drop}
-use Rattle.params.specs.Set.{ages}
-use Rattle.sheet_set.specs.RunLaws.{AgesRead, ages-start, ages-next, ages-malformed, ages-end}
-use Rattle.tokens.specs.ReadLaws.{held}
-use Rattle.sheet.specs.ResultLaws.{four-malformed, four-taken}
+use Rattle.set_params.specs.Set.{ages}
+use Rattle.sheet_set.specs.laws.RunLaws.{AgesRead, ages-start, ages-next, ages-malformed, ages-end}
+use Rattle.text_tokens.specs.laws.ReadLaws.{held}
+use Rattle.sheet.specs.laws.ResultLaws.{four-malformed, four-taken}
 use Rattle.sheet_set.proofs.ages_at.Statement.{statement}
 use Rattle.sheet_set.proofs.ages_at.Tie as tie
 
@@ -58,6 +58,7 @@ returns-2 c =
 pub ages-at-spec : {M : Type 1} → statement M
 ages-at-spec =
     tie.close
-    (tie.spec Inv-loop μ-loop loop-holds (search needs) (search needs) (search needs) returns (search needs)
-    (search needs) (search needs) (search needs) (search needs) (search needs) (search needs) (search needs)
-    (search needs) (search needs) loop-again returns-2)
+    (tie.spec Inv-loop μ-loop loop-holds (λ c κs. search needs) (λ c. search needs) (λ c. search needs) returns
+    (λ c. search needs) (λ c. search needs) (λ c. search needs) (λ c. search needs) (λ c. search needs)
+    (λ c. search needs) (λ c. search needs) (λ c. search needs) (λ c. search needs) (λ c. search needs) loop-again
+    returns-2)

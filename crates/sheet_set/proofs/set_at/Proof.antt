@@ -4,14 +4,14 @@ use native.Mathlib.Omega.{arith}
 use Prim.Native.Nat.{ℕ}
 use mathlib.Core.List.{List, _++_}
 use lib.ListN.{drop}
-use Rattle.words.specs.ShortText.{textOf}
-use Rattle.words.specs.ShortTextLaws.{holds-joins, holds-sized}
-use Rattle.tokens.specs.Text.{bytesOf}
-use Rattle.tokens.specs.ReadLaws.{held}
+use Rattle.text_words.specs.code.ShortText.{textOf}
+use Rattle.text_words.specs.laws.ShortTextLaws.{holds-joins, holds-sized}
+use Rattle.text_tokens.specs.Text.{bytesOf}
+use Rattle.text_tokens.specs.laws.ReadLaws.{held}
 use Rattle.sheet.specs.Sheet.{headBytes, readLines}
-use Rattle.sheet.specs.Lines.{fourRead}
-use Rattle.sheet.specs.ResultLaws.{four-malformed, four-taken}
-use Rattle.sheet_set.specs.SetLaws.{seriesKeys, series-malformed, series-read}
+use Rattle.sheet.specs.code.Lines.{fourRead}
+use Rattle.sheet.specs.laws.ResultLaws.{four-malformed, four-taken}
+use Rattle.sheet_set.specs.laws.SetLaws.{seriesKeys, series-malformed, series-read}
 use borrow.Author.Needs.{needs}
 use Rattle.sheet_set.proofs.set_at.Statement.{statement}
 use Rattle.sheet_set.proofs.set_at.Tie as tie
@@ -70,5 +70,6 @@ returns-2 c =
 pub set-at-spec : {M : Type 1} → statement M
 set-at-spec =
     tie.close
-    (tie.spec (search needs) (search needs) (search needs) joined-requires (search needs) (search needs)
-    four-at-requires (search needs) (search needs) (search needs) returns (search needs) returns-2)
+    (tie.spec (λ c κs. search needs) (λ c κs. search needs) (λ c κs. search needs) joined-requires
+    (λ c κs. search needs) (λ c κs. search needs) four-at-requires (λ c. search needs) (λ c. search needs)
+    (λ c κs. search needs) returns (λ c κs. search needs) returns-2)

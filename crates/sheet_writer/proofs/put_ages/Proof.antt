@@ -6,14 +6,14 @@ use mathlib.Core.List.{_++_}
 use Prim.Native.Nat.{ℕ, suc, _-_, _≤_, _<_}
 use native.Mathlib.Numerals.{add-one}
 use native.Mathlib.Omega.{arith}
-use Rattle.params.specs.declared.Age.{Age}
-use Rattle.params.specs.Set.{ages, ageOf, four-age}
-use Rattle.params.specs.Within.{AgeWithin}
-use Rattle.params.specs.LimitsLaws.{in-limits-age}
-use Rattle.printing.specs.Put.{Room, Put}
-use Rattle.printing.specs.PutLaws.{put-none, put-as, room-as, put-length, room-rest, put-join}
-use Rattle.sheet_length.specs.Parts.{ageText, agesText}
-use Rattle.sheet_length.specs.PartsLaws.{ages-none, ages-more, ages-grow}
+use Rattle.set_params.specs.declared.Age.{Age}
+use Rattle.set_params.specs.Set.{ages, ageOf, four-age}
+use Rattle.set_params.specs.code.Within.{AgeWithin}
+use Rattle.set_params.specs.laws.LimitsLaws.{in-limits-age}
+use Rattle.text_printing.specs.code.Put.{Room, Put}
+use Rattle.text_printing.specs.laws.PutLaws.{put-none, put-as, room-as, put-length, room-rest, put-join}
+use Rattle.sheet_length.specs.code.Parts.{ageText, agesText}
+use Rattle.sheet_length.specs.laws.PartsLaws.{ages-none, ages-more, ages-grow}
 use Rattle.sheet_writer.proofs.put_ages.Statement.{statement}
 use Rattle.sheet_writer.proofs.put_ages.Tie as tie
 
@@ -84,5 +84,5 @@ same-length c = put-length (all c) (c .before .before .before .pre .1)
 pub put-ages-spec : {M : Type 1} → statement M
 put-ages-spec =
     tie.close
-    (tie.spec Inv-loop μ-loop loop-holds (search needs) put-age-requires (λ c. omega arith) (λ c. omega arith)
+    (tie.spec Inv-loop μ-loop loop-holds (λ c κs. search needs) put-age-requires (λ c. omega arith) (λ c. omega arith)
     loop-again same-length all)

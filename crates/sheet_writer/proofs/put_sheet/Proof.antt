@@ -1,12 +1,12 @@
 -- `put_sheet` meets its contract: the three parts, one right after the other.
 use borrow.Author.Needs.{needs}
 use mathlib.Core.Path.{sym}
-use Rattle.params.specs.Set.{ages}
+use Rattle.set_params.specs.Set.{ages}
 use Rattle.sheet.specs.Sheet.{headText}
-use Rattle.printing.specs.Put.{Put}
-use Rattle.printing.specs.PutLaws.{put-as, room-as, Three, three-first, three-second, three-third, three-put}
-use Rattle.sheet_length.specs.Parts.{seriesText, agesText}
-use Rattle.sheet_length.specs.PartsLaws.{sheet-parts}
+use Rattle.text_printing.specs.code.Put.{Put}
+use Rattle.text_printing.specs.laws.PutLaws.{put-as, room-as, Three, three-first, three-second, three-third, three-put}
+use Rattle.sheet_length.specs.code.Parts.{seriesText, agesText}
+use Rattle.sheet_length.specs.laws.PartsLaws.{sheet-parts}
 use Rattle.sheet_writer.proofs.put_sheet.Statement.{statement}
 use Rattle.sheet_writer.proofs.put_sheet.Tie as tie
 
@@ -58,4 +58,5 @@ returns c =
     (three-put (parts s) (head (first c₂)) (series c₂) (c .before .before .put-ages .ensures))
 
 pub put-sheet-spec : {M : Type 1} → statement M
-put-sheet-spec = tie.close (tie.spec put-head-requires put-series-requires put-ages-requires (search needs) returns)
+put-sheet-spec =
+    tie.close (tie.spec put-head-requires put-series-requires put-ages-requires (λ c. search needs) returns)

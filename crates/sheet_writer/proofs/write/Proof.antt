@@ -4,8 +4,8 @@ use mathlib.Core.Path.{_≡_, sym, _∙_}
 use mathlib.Core.Bool.{true}
 use native.Mathlib.Omega.{arith}
 use borrow.Author.Tests.{not-true, not-false}
-use Rattle.params.specs.Limits.{inLimits}
-use Rattle.sheet_writer.specs.Answers.{out-of-limits, short, accepted}
+use Rattle.set_params.specs.Limits.{inLimits}
+use Rattle.sheet_writer.specs.laws.Answers.{out-of-limits, short, accepted}
 use Rattle.sheet_writer.proofs.write.Statement.{statement}
 use Rattle.sheet_writer.proofs.write.Tie as tie
 
@@ -44,4 +44,6 @@ returns-3 c =
 
 pub write-spec : {M : Type 1} → statement M
 write-spec =
-    tie.close (tie.spec (search needs) returns sheet-len-requires returns-2 put-sheet-requires (search needs) returns-3)
+    tie.close
+    (tie.spec (λ c κs. search needs) returns sheet-len-requires returns-2 put-sheet-requires (λ c. search needs)
+    returns-3)

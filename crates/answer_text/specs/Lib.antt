@@ -1,7 +1,0 @@
--- definitions
-pub mod AnswerText
--- words of the contracts of writers
-pub mod Sizes
--- laws
-pub mod SizeLaws
-pub mod Lengths

@@ -1,0 +1,167 @@
+-- The starred edges hold, each row by computing the definitions. A set's sheet is not computed byte by byte: it reads back as the
+-- set where the set is in limits, and else is refused.
+use mathlib.Core.Path.{_≡_, refl, ap, _∙_}
+use mathlib.Core.Bool.{false}
+use mathlib.Core.List.{List, []}
+use Prim.Native.Nat.{ℕ}
+use native.Mathlib.Omega.{arith}
+use lib.Dec.{T}
+use lib.IntN.{ℤ, pos}
+use Rattle.number_whole.specs.Listed.{listed}
+use Rattle.number_whole.specs.Division.{floorDiv, ceilDiv, ceilDivℕ}
+use Rattle.number_whole.specs.SignedEnds.{leastProduct, greatestProduct, outward}
+use Rattle.number_taylor.specs.Alternating.{double}
+use Rattle.number_exponential.specs.Exponential.{nextLower, nextUpper, termLower, termUpper, total, evens, odds, sumLower, sumUpper}
+use Rattle.number_exponential.specs.Exponential.{constantLower, constantUpper, expLower, expUpper, expBetween}
+use Rattle.number_exponential.specs.Billionths.{wholeParts}
+use Rattle.text_tokens.specs.Text.{bytesOf, taken, takeText}
+use Rattle.text_tokens.specs.Number.{decimal, unsignedText}
+use Rattle.set_params.specs.declared.Params.{Params}
+use Rattle.set_params.specs.Set.{A, B, alpha, beta, Whole}
+use Rattle.set_params.specs.Limits.{inLimits, seriesInLimits, agesInLimits, ageInLimits}
+use Rattle.set_refusal.specs.Refusals.{refusalNumber}
+use Rattle.sheet.specs.declared.Reading.{Reading}
+use Rattle.sheet.specs.Sheet.{ageValues, values, sheetText, refused, readSheet}
+use Rattle.sheet.specs.laws.SheetTrip.{AllSmall, in-limits-small, written-reads-back, written-out-of-limits}
+use Rattle.model_series.specs.Series.{periodIn, kappaIn, kappaStep, cellForce, logForce, inRange}
+use Rattle.model_closure.specs.Weights.{weight, weightRow, weightTable, rowTotal, beside, totalled, ruled}
+use Rattle.model_closure.specs.laws.WeightLaws.{row-total}
+use Rattle.model_mortality.specs.Cell.{neededInRange}
+use Rattle.number_exact.specs.Figure.{halfUp, figureOf}
+use Rattle.quote_paths.specs.Path.{placeAt, pathOf, pathInRange}
+use Rattle.quote_kinds.specs.declared.Kind.{Kind}
+use Rattle.quote_kinds.specs.declared.Kind.the-variants as kind
+use Rattle.quote_kinds.specs.Kinds.{takesRate, ruleOf, rateOf, mostSpan, countOf, stepOf, decimalsOf}
+use Rattle.quote_table_tests.specs.TableTests.{ageInTable, yearInTable, spanInTable, rateInTable, firstFailed, tableTests}
+use Rattle.quote_along.specs.declared.Answer.{Answer}
+use Rattle.quote_along.specs.declared.Answer.the-variants.{Quoted, Refused}
+use Rattle.quote.specs.Quote.{queryPath, refusalOf, answerOf}
+use Rattle.quote.specs.Demand.{numberOf}
+use Rattle.quote.specs.laws.Theorem.{demand-met}
+use Rattle.run_query.specs.Query.{wordOf, onOffer, readWord, alone}
+use Rattle.run_figure_text.specs.FigureText.{lastDigits, stepsText, figureText}
+use Rattle.c_sheet_quote.specs.SheetQuote.{wordKind, kindOf, answerTo, sheetAnswer, quoteLength, quotedNo, quoteNo}
+use Rattle.c_edges.specs.examples.Edges.{setOf, withTheta, withForce, callNumber, printedText, minus, StarredEdges}
+
+-- ---- the number of a call, with room for a quote
+
+answer-number : (a : Answer) → quoteNo a quoteLength ≡ numberOf a
+unfolding quoteNo quotedNo numberOf refusalNumber
+answer-number (Quoted q) = refl
+answer-number (Refused r) = refl
+
+module _ (word : List ℕ) (kind : Kind) (read : kindOf word ≡ taken kind []) (p : Params) (age year span : ℤ) where
+  -- of a kind's word the answer is that of what was read
+  answer-read : {got : Reading} → readSheet (sheetText p) ≡ got
+      → sheetAnswer (sheetText p) (kindOf word) age year span ≡ answerTo (taken kind []) got age year span
+  unfolding sheetAnswer
+  answer-read e = rw (read) (ap (λ (g : Reading). answerTo (taken kind []) g age year span) e)
+
+  module _ (w : Whole p) where
+    -- of a set in limits it is the number of the query's refusal
+    number-within : T (inLimits p)
+        → quoteNo (sheetAnswer (sheetText p) (kindOf word) age year span) quoteLength ≡ refusalNumber (refusalOf p kind age year span)
+    unfolding answerTo refusalNumber
+    number-within t =
+        ap (λ (a : Answer). quoteNo a quoteLength) (answer-read (written-reads-back p w t))
+        ∙ answer-number (answerOf p kind age year span)
+        ∙ demand-met p kind age year span .number
+
+    -- and else 2
+    number-past : AllSmall (values p) → inLimits p ≡ false
+        → quoteNo (sheetAnswer (sheetText p) (kindOf word) age year span) quoteLength ≡ 2
+    unfolding answerTo refusalNumber refused quoteNo
+    number-past s e = ap (λ (a : Answer). quoteNo a quoteLength) (answer-read (written-out-of-limits p w s e))
+
+-- ---- the kinds' words
+
+read-coh : kindOf (bytesOf "coh") ≡ taken kind.CohortSurvival []
+unfolding bytesOf takeText wordOf onOffer takesRate readWord alone wordKind kindOf
+read-coh = refl
+
+read-q : kindOf (bytesOf "q") ≡ taken kind.Death []
+unfolding bytesOf takeText wordOf onOffer takesRate readWord alone wordKind kindOf
+read-q = refl
+
+-- ---- the sets
+
+set-whole : (a theta kappa level : ℤ) → Whole (setOf a theta kappa level)
+unfolding setOf
+set-whole a theta kappa level = record { level = refl; slope = refl; alpha = refl; beta = refl }
+
+theta-within : T (inLimits (withTheta 2923976608))
+unfolding inLimits seriesInLimits agesInLimits ageInLimits A B alpha beta setOf
+theta-within = tt
+
+theta-past : inLimits (withTheta 2923976609) ≡ false
+unfolding inLimits seriesInLimits agesInLimits ageInLimits A B alpha beta setOf
+theta-past = refl
+
+-- theta alone differs from a set that is in limits
+theta-small : AllSmall (values (withTheta 2923976609))
+unfolding values ageValues A B alpha beta setOf
+theta-small =
+    let s = in-limits-small (withTheta 2923976608) theta-within in (s .0, (omega arith, s .1 .1))
+
+force-within : T (inLimits (withForce (minus 700000000)))
+unfolding inLimits seriesInLimits agesInLimits ageInLimits A B alpha beta setOf
+force-within = tt
+
+next-within : T (inLimits (withForce (minus 699999999)))
+unfolding inLimits seriesInLimits agesInLimits ageInLimits A B alpha beta setOf
+next-within = tt
+
+-- ---- their queries
+
+theta-passes : refusalNumber (refusalOf (withTheta 2923976608) kind.CohortSurvival (pos 65) (pos 2020) (pos 0)) ≡ 0
+unfolding inLimits seriesInLimits agesInLimits ageInLimits A B alpha beta setOf refusalOf firstFailed tableTests refusalNumber
+    ageInTable yearInTable spanInTable rateInTable ruleOf rateOf mostSpan countOf queryPath pathOf listed pathInRange
+theta-passes = refl
+
+force-passes : refusalNumber (refusalOf (withForce (minus 700000000)) kind.Death (pos 65) (pos 2020) (pos 0)) ≡ 0
+unfolding inLimits seriesInLimits agesInLimits ageInLimits A B alpha beta setOf refusalOf firstFailed tableTests refusalNumber
+    ageInTable yearInTable spanInTable rateInTable ruleOf rateOf mostSpan countOf queryPath pathOf listed placeAt pathInRange
+    neededInRange inRange logForce cellForce periodIn kappaIn kappaStep leastProduct greatestProduct outward floorDiv ceilDiv
+force-passes = refl
+
+next-fails : refusalNumber (refusalOf (withForce (minus 699999999)) kind.Death (pos 65) (pos 2020) (pos 0)) ≡ 6
+unfolding inLimits seriesInLimits agesInLimits ageInLimits A B alpha beta setOf refusalOf firstFailed tableTests refusalNumber
+    ageInTable yearInTable spanInTable rateInTable ruleOf rateOf mostSpan countOf queryPath pathOf listed placeAt pathInRange
+    neededInRange inRange logForce cellForce periodIn kappaIn kappaStep leastProduct greatestProduct outward floorDiv ceilDiv
+next-fails = refl
+
+-- ---- the weights
+
+table-ruled : totalled weightTable ≡ ruled
+unfolding listed weight weightRow weightTable rowTotal beside totalled ruled
+table-ruled = refl
+
+-- ---- the table
+
+pub starred-edges : StarredEdges
+unfolding nextLower nextUpper termLower termUpper total evens odds sumLower sumUpper constantLower constantUpper expLower expUpper
+    expBetween wholeParts double ceilDivℕ weight A B alpha beta setOf kappaIn kappaStep periodIn cellForce logForce leastProduct
+    greatestProduct outward floorDiv ceilDiv callNumber printedText stepOf decimalsOf halfUp figureOf figureText stepsText
+    lastDigits unsignedText decimal bytesOf
+starred-edges =
+    record {
+      exponential-0 = refl;
+      exponential-1 = refl;
+      exponential-21 = refl;
+      weight-91 = refl;
+      weight-120 = refl;
+      weights-total = λ x h l. row-total weightTable table-ruled h l;
+      kappa-next = refl;
+      kappa-a-year-on = refl;
+      theta-accepted = number-within (bytesOf "coh") kind.CohortSurvival read-coh (withTheta 2923976608) (pos 65) (pos 2020) (pos 0)
+          (set-whole _ _ _ _) theta-within ∙ theta-passes;
+      theta-one-more = number-past (bytesOf "coh") kind.CohortSurvival read-coh (withTheta 2923976609) (pos 65) (pos 2020) (pos 0)
+          (set-whole _ _ _ _) theta-small theta-past;
+      force-highest = refl;
+      force-accepted = number-within (bytesOf "q") kind.Death read-q (withForce (minus 700000000)) (pos 65) (pos 2020) (pos 0)
+          (set-whole _ _ _ _) force-within ∙ force-passes;
+      force-one-more = number-within (bytesOf "q") kind.Death read-q (withForce (minus 699999999)) (pos 65) (pos 2020) (pos 0)
+          (set-whole _ _ _ _) next-within ∙ next-fails;
+      ends-printed = refl;
+      ends-open = refl;
+    }

@@ -1,0 +1,2 @@
+pub mod SetNumbers
+pub mod laws

@@ -1,0 +1,3 @@
+pub mod SetNumbersLaws
+pub mod AnswerLaws
+pub mod NumbersTrip

@@ -1,0 +1,3 @@
+pub mod SheetQuote
+pub mod laws
+pub mod examples

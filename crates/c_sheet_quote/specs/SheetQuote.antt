@@ -1,0 +1,85 @@
+-- A query of a sheet, with a rate or without: its answer, the answer's number, and the four numbers in which a quote is told.
+use mathlib.Core.Bool.{cond}
+use mathlib.Core.List.{List, [], _∷_, _++_}
+use Prim.Native.Nat.{ℕ}
+use lib.Dec.{eqb, leb}
+use lib.IntN.{ℤ}
+use lib.ListN.{length, drop}
+use Rattle.text_tokens.specs.Text.{Parse, malformed, taken, andThen}
+use Rattle.set_refusal.specs.declared.Refusal.the-variants.{Accepted, Malformed, BufferTooShort}
+use Rattle.set_refusal.specs.Refusals.{refusalNumber}
+use Rattle.sheet.specs.declared.Reading.{Reading}
+use Rattle.sheet.specs.Sheet.{readSheet}
+use Rattle.number_exact.specs.declared.Figure.{Figure}
+use Rattle.number_exact.specs.declared.Figure.the-variants.{Printed, Open}
+use Rattle.quote_kinds.specs.declared.Kind.{Kind}
+use Rattle.quote_along.specs.declared.Quote.{Quote}
+use Rattle.quote_along.specs.declared.Answer.{Answer}
+use Rattle.quote_along.specs.declared.Answer.the-variants.{Quoted, Refused}
+use Rattle.quote.specs.Quote.{answerOf}
+use Rattle.quote_kinds.specs.Kinds.{takesRate, withRate}
+use Rattle.run_query.specs.Query.{onOffer, readWord, alone}
+
+-- ---- the kind
+
+-- the kind of a word, rates aside, and malformed where the word is no kind's or goes on
+unfoldable pub wordKind : List ℕ → Parse Kind
+wordKind word = andThen (readWord onOffer word) (λ kind rest. alone kind rest)
+
+-- as in a query line, an annuity's word without a rate and another kind's with one are malformed. The kind of a word where no
+-- rate is given, and where one is
+unfoldable pub kindOf : List ℕ → Parse Kind
+kindOf word = andThen (wordKind word) (λ kind rest. cond (takesRate kind) malformed (taken kind rest))
+
+unfoldable pub ratedKindOf : List ℕ → ℤ → Parse Kind
+ratedKindOf word rate = andThen (wordKind word) (λ kind rest. cond (takesRate kind) (taken (withRate kind rate) rest) malformed)
+
+-- ---- the answer
+
+-- malformed, which has the lowest number; else the sheet's refusal; else the answer of its set
+unfoldable pub answerTo : Parse Kind → Reading → ℤ → ℤ → ℤ → Answer
+answerTo malformed got age year span = Refused Malformed
+answerTo (taken kind rest) got age year span =
+    cond (eqb (refusalNumber (got .refusal)) 0) (answerOf (got .set) kind age year span) (Refused (got .refusal))
+
+-- the answer to a query of a sheet's bytes, by the kind that was read
+unfoldable pub sheetAnswer : List ℕ → Parse Kind → ℤ → ℤ → ℤ → Answer
+sheetAnswer sheet kind age year span = answerTo kind (readSheet sheet) age year span
+
+-- ---- a quote as four numbers: its ends, whether its figure is printed, and the figure's steps
+
+abbrev pub quoteLength : ℕ
+quoteLength = 4
+
+unfoldable pub printedNumber : Figure → ℕ
+printedNumber (Printed n) = 1
+printedNumber Open = 0
+
+unfoldable pub stepsNumber : Figure → ℕ
+stepsNumber (Printed n) = n
+stepsNumber Open = 0
+
+unfoldable pub quoteNumbers : Quote → List ℕ
+quoteNumbers q = q .lower ∷ q .upper ∷ printedNumber (q .figure) ∷ stepsNumber (q .figure) ∷ []
+
+-- the numbers with a quote's in their first places
+unfoldable pub quoteOver : Quote → List ℕ → List ℕ
+quoteOver q before = quoteNumbers q ++ drop quoteLength before
+
+-- ---- what a call gives, and the numbers after it
+
+-- of a quote: short where there are too few places, and then the numbers as they were
+unfoldable pub quotedNo : ℕ → ℕ
+quotedNo places = refusalNumber (cond (leb quoteLength places) Accepted BufferTooShort)
+
+unfoldable pub quotedAfter : Quote → List ℕ → List ℕ
+quotedAfter q before = cond (leb quoteLength (length before)) (quoteOver q before) before
+
+-- of any answer: a refusal's number comes before short, and then "untouched buffers"
+unfoldable pub quoteNo : Answer → ℕ → ℕ
+quoteNo (Quoted q) places = quotedNo places
+quoteNo (Refused r) places = refusalNumber r
+
+unfoldable pub quoteAfter : Answer → List ℕ → List ℕ
+quoteAfter (Quoted q) before = quotedAfter q before
+quoteAfter (Refused r) before = before

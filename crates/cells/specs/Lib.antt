@@ -1,5 +1,0 @@
--- definitions
-pub mod Fitted
-pub mod Code
--- laws
-pub mod Answers

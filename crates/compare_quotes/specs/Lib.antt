@@ -1,8 +1,0 @@
--- definitions
-pub mod Compare
-pub mod Meaning
--- laws
-pub mod CompareLaws
-pub mod MeaningLaws
-pub mod Theorem
-pub mod Rows

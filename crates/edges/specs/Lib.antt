@@ -1,4 +1,0 @@
--- the table
-pub mod Edges
--- that it holds
-pub mod EdgeLaws

@@ -1,9 +1,0 @@
--- What it means that the grid's two ends and an order's interval overlap.
-use Rattle.fraction.specs.Ratio.{Ratio, _≤/_}
-use Rattle.expo.specs.Grid.{Grid, inUnits}
-use Rattle.expo.specs.declared.Ends.{Ends}
-
--- neither interval lies wholly beyond the other
-pub record Overlap (g : Grid) (ends : Ends) (least most : Ratio) : Type 0 where
-  pub below : inUnits g (ends .lower) ≤/ most
-  pub above : least ≤/ inUnits g (ends .upper)

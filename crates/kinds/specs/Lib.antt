@@ -1,5 +1,0 @@
--- definitions
-pub mod Kinds
-pub mod Code
--- laws
-pub mod KindLaws

@@ -1,5 +1,0 @@
--- definitions
-pub mod Lines
--- laws
-pub mod LineLaws
-pub mod CutLaws

@@ -1,0 +1,2 @@
+pub mod Fitted
+pub mod Code

@@ -1,0 +1,80 @@
+// One cell of the table on the grid of 10^-9: p, the chance to live through the year, with two ends, from an age's
+// parameters at ages to 90 and by the closure above, which is fitted to the ages 80 to 90 of the year.
+ghost use mathlib.Core.Path.{_≡_};
+ghost use lib.Dec.{T};
+ghost use Rattle.model_series.specs.Series.{cellForce};
+ghost use Rattle.model_closure.specs.code.Code.{InLimit, RowWithin};
+ghost use Rattle.model_series.specs.code.Year.{CellWithin};
+ghost use Rattle.model_cells.specs.code.Code.{youngCell, oldCell};
+ghost use Rattle.model_cells.specs.code.Fitted.{LentIn, FittedIn};
+use model_closure::FIRST_FITTED;
+use model_closure::FITTED;
+use model_series::Year;
+use number_exponential::Ends;
+use number_whole::SignedEnds;
+use set_params::AGES;
+use set_params::Age;
+
+// The ends of H at ages 80 to 90 of a year, where its cells are in range.
+pub struct Fitted {
+    pub ok: bool,
+    pub ends: [SignedEnds; 11],
+}
+
+// The ends of H of a year of the set that lends the four runs.
+pub fn fitted_in<'a>(
+    level: &'a [i64; AGES],
+    slope: &'a [i64; AGES],
+    alpha: &'a [i64; AGES],
+    beta: &'a [i64; AGES],
+    y: Year,
+) -> Fitted
+    requires { ⌜ LentIn (now level) (now slope) (now alpha) (now beta) y ⌝ }
+    ensures { λ r. ⌜ FittedIn (now (level .entry)) (now (slope .entry)) (now (alpha .entry)) (now (beta .entry)) y r ⌝ }
+{
+    let mut ends = [SignedEnds { lower: 0, upper: 0 }; 11];
+    let mut i = 0;
+    while i < FITTED {
+        let m = model_series::log_force_at(
+            set_params::age_of_runs(level, slope, alpha, beta, FIRST_FITTED + i),
+            y,
+        );
+        if !model_series::in_range(m) {
+            return Fitted { ok: false, ends };
+        }
+        ends[i] = model_force::inverse_logistic(m);
+        i += 1;
+    }
+    Fitted { ok: true, ends }
+}
+
+// The ends of p, or a needed cell out of range.
+pub enum Cell {
+    LogForceOutOfRange,
+    Of(Ends),
+}
+
+// The cell at an age to 90, by its parameters.
+pub fn young_cell(age: Age, y: Year) -> Cell
+    requires { ⌜ CellWithin age y ⌝ }
+    ensures { λ r. ⌜ r ≡ youngCell (cellForce age (y .period) (y .kappas)) ⌝ }
+{
+    let m = model_series::log_force_at(age, y);
+    if !model_series::in_range(m) {
+        return Cell::LogForceOutOfRange;
+    }
+    Cell::Of(model_force::survival_to_90(m))
+}
+
+// The cell at an age above 90, by its row of weights and the ends of H of its year.
+pub fn old_cell(row: [i64; 11], f: Fitted) -> Cell
+    requires { ⌜ RowWithin row × (T (f .ok) → InLimit (f .ends)) ⌝ }
+    ensures { λ r. ⌜ r ≡ oldCell row f ⌝ }
+{
+    if !f.ok {
+        return Cell::LogForceOutOfRange;
+    }
+    let ends = f.ends;
+    let sum = model_closure::closed_sum(row, ends);
+    Cell::Of(number_exp_ends::exp_between(model_logistic::logistic(sum)))
+}

@@ -1,0 +1,11 @@
+pub mod Half
+pub mod WidthFacts
+pub mod Range
+pub mod Powers
+pub mod Sums
+pub mod Brackets
+pub mod Holds
+pub mod Width
+pub mod Narrowing
+pub mod Force
+pub mod BillionthsFacts

@@ -1,0 +1,37 @@
+// −ln(1 − u) on the grid of 10^-9, u in units: the sum of u^k/k, k = 1 to 28, with two ends.
+ghost use mathlib.Core.Path.{_≡_};
+ghost use Prim.Native.Nat.{_≤_};
+ghost use Rattle.number_exponential.specs.Billionths.{billionths};
+ghost use Rattle.model_logarithm.specs.Logarithm.{logLower, logUpper};
+use number_exponential::Ends;
+use number_exponential::UNIT;
+
+// The number of terms.
+pub const TERMS: u64 = 28;
+
+// Both ends in one loop. The lower one: powers and quotients rounded down.
+// The upper one: powers and quotients rounded up, and twice the next power over its place.
+pub fn log_between(u: Ends) -> Ends
+    requires { ⌜ (u .lower ≤ billionths .unit) × (u .upper ≤ billionths .unit) ⌝ }
+    ensures { λ r. ⌜ (r .lower ≡ logLower billionths (u .lower)) × (r .upper ≡ logUpper billionths (u .upper)) ⌝ }
+{
+    let low = u.lower;
+    let high = u.upper;
+    let mut down = UNIT;
+    let mut up = UNIT;
+    let mut least = 0;
+    let mut most = 0;
+    let mut k = 0;
+    while k < TERMS {
+        down = low * down / UNIT;
+        up = (high * up + (UNIT - 1)) / UNIT;
+        least += down / (k + 1);
+        most += (up + k) / (k + 1);
+        k += 1;
+    }
+    let rest = 2 * ((high * up + (UNIT - 1)) / UNIT);
+    Ends {
+        lower: least,
+        upper: most + (rest + TERMS) / (TERMS + 1),
+    }
+}

@@ -1,0 +1,9 @@
+pub mod WidthFacts
+pub mod Sizes
+pub mod LogisticHolds
+pub mod OrdersAgree
+pub mod RelativeWidth
+pub mod LogisticWidth
+pub mod Billionths
+pub mod ExpNarrow
+pub mod LogisticNarrow

@@ -1,0 +1,201 @@
+-- Every order of a cell's exact value overlaps the grid's ends: z, the force, H, G, p and q, for a set in its limits, an age
+-- and a year whose needed cells are in range.
+use mathlib.Core.Path.{_≡_, refl, ap, sym, _∙_}
+use Prim.Native.Nat.{ℕ, zero, suc, _+_, _*_, _≤_, _<_}
+use native.Mathlib.Nat.{le-trans}
+use native.Mathlib.Decide.{decLt}
+use native.Mathlib.Omega.{arith}
+use lib.Dec.{lit<}
+use borrow.Author.Tests.{lt-ltb, le-ltb}
+use lib.IntN.{ℤ, pos, negsuc, negℤ, natAbs, _+ℤ_, _*ℤ_, pos-*ℤ-pos}
+use Rattle.number_whole.specs.laws.Order.{pos-nonneg, ≤ℤ-of-≡, *ℤ-assoc, *ℤ-distrib-right}
+use Rattle.number_whole.specs.Parts.{below}
+use Rattle.number_whole.specs.laws.Table.{listed-at}
+use Rattle.number_fraction.specs.Ratio.{_≤/_, whole/, quotient/, complement}
+use Rattle.number_fraction.specs.laws.RatioLaws.{≤/-trans, quotient/-mono, complement-reverse}
+use Rattle.number_fraction.specs.Fraction.{Fraction, _≤ℚ_, _+ℚ_, negℚ, wholeℚ, quotientℚ, signed, absolute}
+use Rattle.number_fraction.specs.laws.FractionLaws.{≤ℚ-trans, signed-≤ℚ, signed-whole, signed-absolute, wholeℚ-≤ℚ, +ℚ-mono, quotientℚ-mono}
+use Rattle.number_taylor.specs.Order.{leastOrder}
+use Rattle.number_exponential.specs.Grid.{Grid, inUnits}
+use Rattle.number_exponential.specs.Exponential.{expBetween}
+use Rattle.number_exponential.specs.laws.Facts.{Sound}
+use Rattle.number_exponential.specs.laws.WidthFacts.{Narrow}
+use Rattle.number_exponential.specs.laws.Overlap.{Overlap}
+use Rattle.number_exponential.specs.laws.Holds.{exp-overlap}
+use Rattle.set_params.specs.declared.Params.{Params}
+use Rattle.model_series.specs.Series.{logForce, highestForce}
+use Rattle.model_series.specs.Exact.{exactLogForce}
+use Rattle.model_series.specs.laws.SeriesLaws.{logForce-holds}
+use Rattle.model_series.specs.code.Within.{logForceWidth, Negated}
+use Rattle.model_series.specs.laws.RangeLaws.{negated-holds}
+use Rattle.model_logarithm.specs.Logarithm.{logLower, logUpper, inverseLogistic}
+use Rattle.model_logarithm.specs.laws.Force.{force-half}
+use Rattle.model_logarithm.specs.laws.Holds.{log-overlap}
+use Rattle.model_closure.specs.Weights.{fitted, firstFitted, firstClosed}
+use Rattle.model_logistic.specs.laws.LogisticHolds.{logistic-overlap}
+use Rattle.model_logistic.specs.Units.{inUnitsℚ, SignedOverlap}
+use Rattle.model_closure.specs.Closure.{endsAt, closedSum}
+use Rattle.model_closure.specs.Exact.{intervalAt, exactClosedSum}
+use Rattle.model_closure.specs.laws.WeightedSum.{closedSum-overlap}
+use Rattle.model_force.specs.Force.{negated, deathOf}
+use Rattle.model_mortality.specs.Cell.{youngForce, fittedEnds, fittedList, oldForce, force, survival, death}
+use Rattle.model_mortality.specs.Exact.{sheetUnit, exactM, exactZ, orderYoungForce, orderFitted, orderFittedList, orderOldForce, orderForce, orderSurvival, orderDeath}
+use Rattle.model_mortality.specs.laws.Facts.{Fit}
+use Rattle.model_mortality.specs.laws.Answered.{Answered}
+use Rattle.model_mortality.specs.laws.Needed.{young-needed, old-needed}
+
+-- ---- −m as a fraction
+
+natAbs-neg : (z : ℤ) → natAbs (negℤ z) ≡ natAbs z
+natAbs-neg (pos zero) = refl
+natAbs-neg (pos (suc n)) = refl
+natAbs-neg (negsuc n) = refl
+
+absolute-neg : (y : Fraction) → absolute (negℚ y) ≡ absolute y
+unfolding absolute negℚ
+absolute-neg y = ap (λ (n : ℕ). record { num = n; den = y .den; positive = y .positive }) (natAbs-neg (y .num))
+
+-- a ≤ −y ≤ b gives a ≤ |y| ≤ b
+size-below : (y : Fraction) (a : ℕ) → wholeℚ (pos a) ≤ℚ negℚ y → whole/ a ≤/ absolute y
+size-below y a h =
+    let e = signed-absolute (≤ℚ-trans (wholeℚ-≤ℚ .0 (pos-nonneg a)) h) in
+    let k : signed (whole/ a) ≤ℚ signed (absolute (negℚ y)) = rw (signed-whole a) (≤ℚ-trans h (e .above)) in
+    rw (absolute-neg y) at (signed-≤ℚ {x = whole/ a} {y = absolute (negℚ y)} .1 k)
+
+size-above : (y : Fraction) (b : ℕ) → wholeℚ (pos 0) ≤ℚ negℚ y → negℚ y ≤ℚ wholeℚ (pos b) → absolute y ≤/ whole/ b
+size-above y b h k =
+    let e = signed-absolute h in
+    let l : signed (absolute (negℚ y)) ≤ℚ signed (whole/ b) = rw (signed-whole b) (≤ℚ-trans (e .below) k) in
+    rw (absolute-neg y) at (signed-≤ℚ {x = absolute (negℚ y)} {y = whole/ b} .1 l)
+
+sum-cross : (a b : ℤ) (U : ℕ) → (a +ℤ b) *ℤ pos (U * U) ≡ (a *ℤ pos U +ℤ b *ℤ pos U) *ℤ pos U
+sum-cross a b U =
+    ap (λ (t : ℤ). (a +ℤ b) *ℤ t) (sym (pos-*ℤ-pos U U)) ∙ sym (*ℤ-assoc (a +ℤ b) (pos U) (pos U))
+    ∙ ap (λ (t : ℤ). t *ℤ pos U) (*ℤ-distrib-right a b (pos U))
+
+abbrev unit-positive : 0 < sheetUnit
+unit-positive = lit< tt
+
+-- what stands at each place of the two lists
+pub fitted-at : (g : Grid) (p : Params) (n i : ℕ) → i < fitted → endsAt (fittedList g p n) i ≡ fittedEnds g p n (firstFitted + i)
+unfolding fittedList
+fitted-at g p n i h = listed-at (fittedEnds g p n) _ firstFitted fitted i h
+
+pub order-fitted-at : (p : Params) (n j i : ℕ) → i < fitted → intervalAt (orderFittedList p n j) i ≡ orderFitted p n j (firstFitted + i)
+unfolding orderFittedList
+order-fitted-at p n j i h = listed-at (orderFitted p n j) _ firstFitted fitted i h
+
+module _ (g : Grid) (s : Sound g) (fit : Fit g) where
+  -- n/unit in both forms
+  unit-below : (n : ℕ) → inUnits g n ≤/ quotient/ (whole/ n) sheetUnit unit-positive
+  unfolding inUnits quotient/ whole/
+  unit-below n = record { cross = omega (arith, ap (λ (u : ℕ). n * u) (fit .unit)) }
+
+  unit-above : (n : ℕ) → quotient/ (whole/ n) sheetUnit unit-positive ≤/ inUnits g n
+  unfolding inUnits quotient/ whole/
+  unit-above n = record { cross = omega (arith, ap (λ (u : ℕ). n * u) (fit .unit)) }
+
+  exactZ-quotient : (p : Params) (x n : ℕ) → exactZ p x n ≡ quotient/ (absolute (exactLogForce p x n)) sheetUnit unit-positive
+  unfolding exactZ exactM absolute quotientℚ quotient/
+  exactZ-quotient p x n = refl
+
+  -- a signed number of units in both forms, and a sum
+  unitℚ-below : (a : ℤ) → inUnitsℚ g a ≤ℚ quotientℚ (wholeℚ a) sheetUnit unit-positive
+  unfolding inUnitsℚ quotientℚ wholeℚ
+  unitℚ-below a = record { cross = ≤ℤ-of-≡ (ap (λ (u : ℕ). a *ℤ pos u) (sym (fit .unit))) }
+
+  unitℚ-above : (a : ℤ) → quotientℚ (wholeℚ a) sheetUnit unit-positive ≤ℚ inUnitsℚ g a
+  unfolding inUnitsℚ quotientℚ wholeℚ
+  unitℚ-above a = record { cross = ≤ℤ-of-≡ (ap (λ (u : ℕ). a *ℤ pos u) (fit .unit)) }
+
+  sum-below : (a : ℤ) (b : ℕ) → inUnitsℚ g (a +ℤ pos b) ≤ℚ inUnitsℚ g a +ℚ signed (inUnits g b)
+  unfolding inUnitsℚ inUnits signed _+ℚ_
+  sum-below a b = record { cross = ≤ℤ-of-≡ (sum-cross a (pos b) (g .unit)) }
+
+  sum-above : (a : ℤ) (b : ℕ) → inUnitsℚ g a +ℚ signed (inUnits g b) ≤ℚ inUnitsℚ g (a +ℤ pos b)
+  unfolding inUnitsℚ inUnits signed _+ℚ_
+  sum-above a b = record { cross = ≤ℤ-of-≡ (sym (sum-cross a (pos b) (g .unit))) }
+
+  -- ends of z that hold −m
+  pub z-overlap : (p : Params) (x n : ℕ) → Negated (logForce p x n) logForceWidth
+      → Overlap g (negated (logForce p x n)) (exactZ p x n) (exactZ p x n)
+  unfolding negated
+  z-overlap p x n r =
+      let h = negated-holds r (logForce-holds p x n) in
+      let y = exactLogForce p x n in
+      let a = below (logForce p x n .upper) in
+      let b = below (logForce p x n .lower) in
+      rw (exactZ-quotient p x n)
+      (record {
+        below = ≤/-trans (unit-below a) (quotient/-mono (size-below y a (h .0)) sheetUnit unit-positive);
+        above = ≤/-trans (quotient/-mono (size-above y b (≤ℚ-trans (wholeℚ-≤ℚ .0 (pos-nonneg a)) (h .0)) (h .1)) sheetUnit unit-positive) (unit-above b);
+      })
+
+  -- ---- the force to 90
+
+  pub half-young : Narrow g s → (p : Params) (x n : ℕ) → Negated (logForce p x n) logForceWidth → 2 * youngForce g p x n .upper ≤ g .unit
+  unfolding youngForce expBetween negated
+  half-young w p x n r = force-half g s (below highestForce) (fit .half) w (below (logForce p x n .upper)) (r .least)
+
+  pub young-overlap : (p : Params) (x n j : ℕ) → Negated (logForce p x n) logForceWidth
+      → Overlap g (youngForce g p x n) (orderYoungForce p x n j .least) (orderYoungForce p x n j .most)
+  unfolding youngForce orderYoungForce
+  young-overlap p x n j r = exp-overlap g s (negated (logForce p x n)) (exactZ p x n) (exactZ p x n) j (z-overlap p x n r)
+
+  -- ---- H
+
+  m-overlap : (p : Params) (x n : ℕ)
+      → (inUnitsℚ g (logForce p x n .lower) ≤ℚ exactM p x n) × (exactM p x n ≤ℚ inUnitsℚ g (logForce p x n .upper))
+  unfolding exactM
+  m-overlap p x n =
+      let h = logForce-holds p x n in (
+        ≤ℚ-trans (unitℚ-below (logForce p x n .lower)) (quotientℚ-mono (h .low) sheetUnit unit-positive),
+        ≤ℚ-trans (quotientℚ-mono (h .high) sheetUnit unit-positive) (unitℚ-above (logForce p x n .upper)),
+      )
+
+  fitted-overlap : Narrow g s → (p : Params) (n j y : ℕ) → leastOrder ≤ j → Negated (logForce p y n) logForceWidth
+      → SignedOverlap g (fittedEnds g p n y) (orderFitted p n j y)
+  unfolding fittedEnds orderFitted inverseLogistic
+  fitted-overlap w p n j y l r =
+      let m = m-overlap p y n in
+      let u = youngForce g p y n in
+      let o = log-overlap g u (orderYoungForce p y n j .least) (orderYoungForce p y n j .most) j (young-overlap p y n j r)
+      (half-young w p y n r) (le-trans (fit .terms) l) in
+      record {
+        below = ≤ℚ-trans (sum-below (logForce p y n .lower) (logLower g (u .lower))) (+ℚ-mono (m .0) (signed-≤ℚ .0 (o .below)));
+        above = ≤ℚ-trans (+ℚ-mono (m .1) (signed-≤ℚ .0 (o .above))) (sum-above (logForce p y n .upper) (logUpper g (u .upper)));
+      }
+
+  -- ---- the closure
+
+  old-overlap : Narrow g s → (p : Params) (x n j : ℕ) → leastOrder ≤ j
+      → ((i : ℕ) → i < fitted → Negated (logForce p (firstFitted + i) n) logForceWidth)
+      → Overlap g (oldForce g p x n) (orderOldForce p x n j .least) (orderOldForce p x n j .most)
+  unfolding oldForce orderOldForce
+  old-overlap w p x n j l r =
+      logistic-overlap g s (closedSum x (fittedList g p n)) (exactClosedSum x (orderFittedList p n j)) j
+      (closedSum-overlap g x (fittedList g p n) (orderFittedList p n j) (λ i h.
+      rw (fitted-at g p n i h, order-fitted-at p n j i h) (fitted-overlap w p n j (firstFitted + i) l (r i h))))
+
+  -- ---- the force at any age, p and q
+
+  module _ (w : Narrow g s) {p : Params} {x n : ℕ} (a : Answered p x n) (j : ℕ) (l : leastOrder ≤ j) where
+    force-overlap : Overlap g (force g p x n) (orderForce p x n j .least) (orderForce p x n j .most)
+    unfolding force orderForce
+    force-overlap =
+        elim (decLt x firstClosed) [
+          | yes h ↦ rw (lt-ltb x firstClosed h) (young-overlap p x n j (young-needed a h))
+          | no h ↦
+              let k : firstClosed ≤ x = omega arith in
+              rw (le-ltb x firstClosed k) (old-overlap w p x n j l (old-needed a k))
+        ]
+
+    pub survival-holds : Overlap g (survival g p x n) (orderSurvival p x n j .least) (orderSurvival p x n j .most)
+    unfolding survival orderSurvival
+    survival-holds = exp-overlap g s (force g p x n) (orderForce p x n j .least) (orderForce p x n j .most) j force-overlap
+
+    -- q holds every order's bracket
+    pub death-holds : Overlap g (death g p x n) (orderDeath p x n j .least) (orderDeath p x n j .most)
+    unfolding death deathOf orderDeath inUnits complement
+    death-holds =
+        record { below = complement-reverse (survival-holds .above); above = complement-reverse (survival-holds .below) }

@@ -1,0 +1,58 @@
+// The price of an annuity on the grid of 10^-9, as a fold over the factors of a path: one pass over an array of factors.
+use number_exponential::Ends;
+use number_exponential::UNIT;
+use number_folds::MOST_FACTORS;
+use number_folds::with_factor;
+use number_whole::ceil_div_u;
+ghost use mathlib.Core.Path.{_≡_};
+ghost use Prim.Native.Nat.{_≤_};
+ghost use lib.ListN.{take};
+ghost use Rattle.number_exponential.specs.Billionths.{billionths};
+ghost use Rattle.number_folds.specs.code.Code.{AtMost, Chances};
+ghost use Rattle.number_annuity.specs.Annuity.{mostRate, discounted, annuityOver};
+
+// What a rate is counted in, and the highest one.
+const RATE_UNIT: u64 = 1_000_000;
+
+pub const MOST_RATE: u64 = 200_000;
+
+// A discount over one year more.
+fn discounted(d: Ends, rate: u64) -> Ends
+    requires { ⌜ AtMost (billionths .unit) d × (rate ≤ mostRate) ⌝ }
+    ensures { λ r. ⌜ r ≡ discounted rate d ⌝ }
+{
+    let divisor = RATE_UNIT + rate;
+    Ends {
+        lower: d.lower * RATE_UNIT / divisor,
+        upper: ceil_div_u(d.upper * RATE_UNIT, divisor),
+    }
+}
+
+// The price over the first `count` factors: 1 now, and after each factor the discount times the survival to it.
+pub fn annuity_over(factors: [Ends; MOST_FACTORS], count: usize, rate: u64) -> Ends
+    requires { ⌜ Chances factors count × (rate ≤ mostRate) ⌝ }
+    ensures { λ r. ⌜ r ≡ annuityOver billionths rate (take count factors) ⌝ }
+{
+    let one = Ends {
+        lower: UNIT,
+        upper: UNIT,
+    };
+    let mut price = one;
+    let mut discount = one;
+    let mut survival = one;
+    let mut k = 0;
+    while k < count {
+        let p = factors[k];
+        let longer = with_factor(survival, p);
+        let later = discounted(discount, rate);
+        let payment = with_factor(later, longer);
+        price = Ends {
+            lower: price.lower + payment.lower,
+            upper: price.upper + payment.upper,
+        };
+        discount = later;
+        survival = longer;
+        k += 1;
+    }
+    price
+}

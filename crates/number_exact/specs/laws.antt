@@ -1,0 +1,4 @@
+pub mod ValueLaws
+pub mod OneValue
+pub mod FigureLaws
+pub mod Rounding

@@ -1,0 +1,164 @@
+// The exponential of −z on the grid of 10^-9, for any z in units: one function for the lower end, one for the upper end.
+// Each takes a sum of the exponential's terms for f up to 1, which works only the terms that it needs.
+ghost use mathlib.Core.Path.{_≡_};
+ghost use Rattle.number_exponential.specs.Billionths.{billionths};
+ghost use Rattle.number_exponential.specs.Exponential.{expLower, expUpper, expBetween, nextLower, nextUpper, sumLower, sumUpper};
+ghost use Prim.Native.Nat.{_≤_};
+ghost use Rattle.number_exp_ends.specs.code.Code.{TermRange};
+use number_exponential::CUTOFF;
+use number_exponential::Ends;
+use number_exponential::STEP;
+use number_exponential::UNIT;
+use number_whole::ceil_div_u;
+
+// The whole parts of 10^9·e^−(n/2).
+const WHOLE_PARTS: [u64; 42] = [
+    1000000000,
+    606530659,
+    367879441,
+    223130160,
+    135335283,
+    82084998,
+    49787068,
+    30197383,
+    18315638,
+    11108996,
+    6737946,
+    4086771,
+    2478752,
+    1503439,
+    911881,
+    553084,
+    335462,
+    203468,
+    123409,
+    74851,
+    45399,
+    27536,
+    16701,
+    10130,
+    6144,
+    3726,
+    2260,
+    1370,
+    831,
+    504,
+    305,
+    185,
+    112,
+    68,
+    41,
+    25,
+    15,
+    9,
+    5,
+    3,
+    2,
+    1,
+];
+
+// The next term, t·f/(k·10^9), rounded down.
+fn next_lower(t: u64, f: u64, k: u64) -> u64
+    requires { ⌜ TermRange t f k ⌝ }
+    ensures { λ r. ⌜ r ≡ nextLower billionths t f k ⌝ }
+{
+    t * f / (k * UNIT)
+}
+
+// The next term, rounded up.
+fn next_upper(t: u64, f: u64, k: u64) -> u64
+    requires { ⌜ TermRange t f k ⌝ }
+    ensures { λ r. ⌜ r ≡ nextUpper billionths t f k ⌝ }
+{
+    ceil_div_u(t * f, k * UNIT)
+}
+
+// The even terms' lower ends less the odd terms' upper ends, to term 13.
+pub fn sum_lower(f: u64) -> u64
+    requires { ⌜ f ≤ billionths .unit ⌝ }
+    ensures { λ r. ⌜ r ≡ sumLower billionths f ⌝ }
+{
+    let mut low = UNIT;
+    let mut high = UNIT;
+    let mut evens = UNIT;
+    let mut odds = 0;
+    let mut i = 0;
+    while i < 6 {
+        let k = 2 * i + 1;
+        let odd = next_upper(high, f, k);
+        low = next_lower(next_lower(low, f, k), f, k + 1);
+        high = next_upper(odd, f, k + 1);
+        evens += low;
+        odds += odd;
+        i += 1;
+    }
+    evens - (odds + next_upper(high, f, 13))
+}
+
+// The even terms' upper ends less the odd terms' lower ends, to term 12, capped at 1.
+pub fn sum_upper(f: u64) -> u64
+    requires { ⌜ f ≤ billionths .unit ⌝ }
+    ensures { λ r. ⌜ r ≡ sumUpper billionths f ⌝ }
+{
+    let mut low = UNIT;
+    let mut high = UNIT;
+    let mut evens = UNIT;
+    let mut odds = 0;
+    let mut i = 0;
+    while i < 5 {
+        let k = 2 * i + 1;
+        let odd = next_lower(low, f, k);
+        low = next_lower(odd, f, k + 1);
+        high = next_upper(next_upper(high, f, k), f, k + 1);
+        evens += high;
+        odds += odd;
+        i += 1;
+    }
+    odds += next_lower(low, f, 11);
+    evens += next_upper(next_upper(high, f, 11), f, 12);
+    let sum = evens - odds;
+    if sum < UNIT {
+        return sum;
+    }
+    UNIT
+}
+
+// The lower end of the exponential of −z. Below the first step the constant is 1, and the sum is the answer.
+pub fn exp_lower(z: u64) -> u64
+    ensures { λ r. ⌜ r ≡ expLower billionths z ⌝ }
+{
+    if z < CUTOFF {
+        let sum = sum_lower(z % STEP);
+        let n = z / STEP;
+        if n == 0 {
+            return sum;
+        }
+        return sum * WHOLE_PARTS[n as usize] / UNIT;
+    }
+    0
+}
+
+// The upper end of the exponential of −z.
+pub fn exp_upper(z: u64) -> u64
+    ensures { λ r. ⌜ r ≡ expUpper billionths z ⌝ }
+{
+    if z < CUTOFF {
+        let sum = sum_upper(z % STEP);
+        let n = z / STEP;
+        if n == 0 {
+            return sum;
+        }
+        return ceil_div_u(sum * (WHOLE_PARTS[n as usize] + 1), UNIT);
+    }
+    1
+}
+
+// The ends of the exponential of −z for a z with two ends: the larger z gives the lower end.
+pub fn exp_between(z: Ends) -> Ends
+    ensures { λ r. ⌜ r ≡ expBetween billionths z ⌝ }
+{
+    Ends {
+        lower: exp_lower(z.upper),
+        upper: exp_upper(z.lower),
+    }
+}

@@ -1,0 +1,13 @@
+pub mod Overlap
+pub mod Facts
+pub mod WidthFacts
+pub mod Terms
+pub mod Sums
+pub mod SumLaws
+pub mod Soundness
+pub mod Holds
+pub mod NearSums
+pub mod Width
+pub mod AtMostOne
+pub mod BillionthsFacts
+pub mod OutwardLaws

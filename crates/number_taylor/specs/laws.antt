@@ -1,0 +1,14 @@
+pub mod Meaning
+pub mod Cross
+pub mod Sums
+pub mod Stretched
+pub mod Convolution
+pub mod Products
+pub mod Narrowing
+pub mod OrderLaws
+pub mod SumLaws
+pub mod DoubleSums
+pub mod DoubleSumLaws
+pub mod TermShares
+pub mod TermShareLaws
+pub mod AlternatingLaws

@@ -1,0 +1,9 @@
+pub mod Split
+pub mod Sign
+pub mod Difference
+pub mod Order
+pub mod DivisionLaws
+pub mod Bound
+pub mod EndLaws
+pub mod Table
+pub mod Clash

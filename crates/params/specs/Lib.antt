@@ -1,4 +1,0 @@
-pub mod Set
-pub mod Limits
-pub mod Within
-pub mod LimitsLaws

@@ -1,5 +1,0 @@
-pub mod NumberLengths
-pub mod Overwritten
-pub mod OverwrittenLaws
-pub mod Put
-pub mod PutLaws

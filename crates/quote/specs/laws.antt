@@ -1,0 +1,4 @@
+pub mod AnswerLaws
+pub mod Tests
+pub mod Theorem
+pub mod NoInterest

@@ -1,0 +1,42 @@
+-- Two quotes compared by their ends: the first is below the second or above it, with the least and the most between them,
+-- or near, with the most that they can differ by. Beside it stand the two figures.
+use mathlib.Core.Bool.{cond}
+use Prim.Native.Nat.{ℕ, _-_, max}
+use lib.Dec.{ltb}
+use Rattle.number_exponential.specs.declared.Ends.{Ends}
+use Rattle.quote_along.specs.declared.Quote.{Quote}
+use Rattle.quote_along.specs.declared.Answer.{Answer}
+use Rattle.quote_along.specs.declared.Answer.the-variants.{Quoted, Refused}
+use Rattle.quote_compare.specs.declared.Excess.{Excess}
+use Rattle.quote_compare.specs.declared.Values.{Values}
+use Rattle.quote_compare.specs.declared.Values.the-variants.{Below, Above, Near}
+use Rattle.quote_compare.specs.declared.Comparison.{Comparison}
+use Rattle.quote_compare.specs.declared.Comparison.the-variants.{Compared, NotCompared}
+
+-- by how many units a value between the second ends exceeds one between the first: at least the gap between the two pairs
+-- of ends, and at most from end to end
+unfoldable pub excess : Ends → Ends → Excess
+excess a b = record { least = b .lower - a .upper; most = b .upper - a .lower }
+
+-- the most that two values between these ends can differ by, in units: the greater of the first's upper end less the
+-- second's lower and the second's upper end less the first's lower
+unfoldable pub mostApart : Ends → Ends → ℕ
+mostApart a b = max (a .upper - b .lower) (b .upper - a .lower)
+
+-- below, where the first's upper end is under the second's lower end, by the second's excess; above, where the second's is
+-- under the first's, by the first's excess; and else near
+unfoldable pub valuesOf : Ends → Ends → Values
+valuesOf a b =
+    cond (ltb (a .upper) (b .lower)) (Below (excess a b))
+    (cond (ltb (b .upper) (a .lower)) (Above (excess b a)) (Near (mostApart a b)))
+
+-- the ends of a quote
+unfoldable pub quotedEnds : Quote → Ends
+quotedEnds q = record { lower = q .lower; upper = q .upper }
+
+-- of two answers: a refusal, the first's or, if it has none, the second's; and else the two figures and the values
+unfoldable pub comparisonOf : Answer → Answer → Comparison
+comparisonOf (Refused r) b = NotCompared r
+comparisonOf (Quoted q) (Refused r) = NotCompared r
+comparisonOf (Quoted q) (Quoted q′) =
+    Compared (record { first = q .figure; second = q′ .figure; values = valuesOf (quotedEnds q) (quotedEnds q′) })

@@ -1,0 +1,4 @@
+pub mod Compare
+pub mod Meaning
+pub mod laws
+pub mod examples

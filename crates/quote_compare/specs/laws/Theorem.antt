@@ -1,0 +1,81 @@
+-- What a comparison tells of any two queries, whichever their sets, kinds, ages, years and spans.
+use mathlib.Core.Path.{_≡_, ap, _∙_}
+use Prim.Native.Nat.{ℕ}
+use lib.IntN.{ℤ}
+use Rattle.number_exponential.specs.Billionths.{billionths}
+use Rattle.set_params.specs.declared.Params.{Params}
+use Rattle.number_exact.specs.declared.Figure.the-variants.{Printed}
+use Rattle.number_exact.specs.Value.{Exact, OneStep}
+use Rattle.quote_kinds.specs.declared.Kind.{Kind}
+use Rattle.quote_kinds.specs.Kinds.{OneKind}
+use Rattle.quote_along.specs.declared.Answer.{Answer}
+use Rattle.quote.specs.Quote.{exactQuery, answerOf}
+use Rattle.quote.specs.Demand.{shownOf, numberOf, step, Kept}
+use Rattle.quote.specs.laws.Theorem.{same-figure, demand-met}
+use Rattle.quote_compare.specs.declared.Excess.{Excess}
+use Rattle.quote_compare.specs.declared.Values.the-variants.{Below, Above}
+use Rattle.quote_compare.specs.declared.Pair.{Pair}
+use Rattle.quote_compare.specs.declared.Comparison.the-variants.{Compared}
+use Rattle.quote_compare.specs.Compare.{comparisonOf}
+use Rattle.quote_compare.specs.Meaning.{Held, Means, Less}
+use Rattle.quote_compare.specs.laws.CompareLaws.{answerEnds, compared-both}
+use Rattle.quote_compare.specs.laws.MeaningLaws.{values-mean, exceeds-less}
+
+-- an accepted answer is kept, and so its ends hold its exact value
+kept : (p : Params) (kind : Kind) (age year span : ℤ) → numberOf (answerOf p kind age year span) ≡ 0
+    → Kept p kind age year span (answerOf p kind age year span)
+kept p kind age year span e = demand-met p kind age year span .kept e
+
+held : {p : Params} {kind : Kind} {age year span : ℤ} → Kept p kind age year span (answerOf p kind age year span)
+    → Held billionths (answerEnds (answerOf p kind age year span)) (exactQuery p kind age year span)
+unfolding answerEnds
+held k = record { at-least = k .at-least; at-most = k .at-most }
+
+module _ (p : Params) (kind : Kind) (age year span : ℤ) (p′ : Params) (kind′ : Kind) (age′ year′ span′ : ℤ) where
+  -- the two answers, and their exact values
+  abbrev pub answer : Answer
+  answer = answerOf p kind age year span
+
+  abbrev pub answer′ : Answer
+  answer′ = answerOf p′ kind′ age′ year′ span′
+
+  abbrev pub value : Exact
+  value = exactQuery p kind age year span
+
+  abbrev pub value′ : Exact
+  value′ = exactQuery p′ kind′ age′ year′ span′
+
+  module _ {x : Pair} (e : comparisonOf answer answer′ ≡ Compared x) where
+    first-kept : Kept p kind age year span answer
+    first-kept = kept p kind age year span (compared-both answer answer′ e .first-quoted)
+
+    second-kept : Kept p′ kind′ age′ year′ span′ answer′
+    second-kept = kept p′ kind′ age′ year′ span′ (compared-both answer answer′ e .second-quoted)
+
+    -- below, above and near are true of the exact values, with their numbers
+    pub compared-mean : Means billionths (x .values) value value′
+    compared-mean =
+        rw (compared-both answer answer′ e .values)
+        (values-mean (answerEnds answer) (answerEnds answer′) (held first-kept) (held second-kept))
+
+    -- and below and above are of two values that differ
+    pub below-less : {b : Excess} → x .values ≡ Below b → Less value value′
+    unfolding Means
+    below-less q = exceeds-less (rw q at compared-mean) (first-kept .narrows) (second-kept .narrows)
+
+    pub above-less : {b : Excess} → x .values ≡ Above b → Less value′ value
+    unfolding Means
+    above-less q = exceeds-less (rw q at compared-mean) (second-kept .narrows) (first-kept .narrows)
+
+-- of one kind, figures that are printed and different have exact values that do not round to one step
+pub figures-differ : (kind kind′ : Kind) → OneKind kind kind′ → (p p′ : Params) (age year span age′ year′ span′ : ℤ) {x : Pair}
+    {n n′ : ℕ} → comparisonOf (answerOf p kind age year span) (answerOf p′ kind′ age′ year′ span′) ≡ Compared x
+    → x .first ≡ Printed n → x .second ≡ Printed n′ → (n ≡ n′ → ⊥)
+    → OneStep billionths (step kind) (exactQuery p kind age year span) (exactQuery p′ kind′ age′ year′ span′)
+    → ⊥
+unfolding shownOf
+figures-differ kind kind′ one p p′ age year span age′ year′ span′ e f f′ d o =
+    let b = compared-both (answerOf p kind age year span) (answerOf p′ kind′ age′ year′ span′) e in
+    let shown = b .first-figure ∙ ap shownOf f in
+    let shown′ = b .second-figure ∙ ap shownOf f′ in
+    d (same-figure kind kind′ one p p′ age year span age′ year′ span′ shown shown′ .1 o)

@@ -1,0 +1,4 @@
+pub mod Path
+pub mod Values
+pub mod laws
+pub mod examples

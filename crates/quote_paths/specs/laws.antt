@@ -1,0 +1,7 @@
+pub mod Answers
+pub mod Oldest
+pub mod Holds
+pub mod Narrowing
+pub mod OrdersAgree
+pub mod Width
+pub mod NoInterest

@@ -1,0 +1,105 @@
+-- Paths in parts, and the paths that are answered: every cell of them is.
+use mathlib.Core.Path.{_≡_, refl, ap, sym, _∙_}
+use mathlib.Core.Bool.{Bool, true, false, _&&_, and-assoc, and-true, and-false}
+use mathlib.Core.List.{List, [], _∷_, _++_, map-append}
+use Prim.Native.Nat.{ℕ, zero, suc, _+_, _≤_, _<_}
+use native.Mathlib.Nat.{zero-add, not-suc-le-zero}
+use native.Mathlib.Decide.{decLt}
+use native.Mathlib.Omega.{arith}
+use lib.Dec.{T}
+use lib.ListN.{length, length-map}
+use mir.Facts.{and-yes}
+use Rattle.number_whole.specs.laws.Table.{listed-length, listed-more}
+use Rattle.number_exponential.specs.Grid.{Grid}
+use Rattle.set_params.specs.declared.Params.{Params}
+use Rattle.set_params.specs.Limits.{inLimits, lastYears}
+use Rattle.model_closure.specs.Weights.{lastClosed}
+use Rattle.number_folds.specs.laws.Each.{Each, none, also, each-listed, each-with}
+use Rattle.model_mortality.specs.Cell.{neededInRange}
+use Rattle.model_mortality.specs.laws.Answered.{Answered}
+use Rattle.quote_paths.specs.Path.{Place, placeAt, pathOf, factors, pathInRange}
+
+-- ---- lengths and parts
+
+-- a path over k years has k cells, and a factor for each
+pub path-length : (cohort : Bool) (x n k : ℕ) → length (pathOf cohort x n k) ≡ k
+unfolding pathOf
+path-length cohort x n k = listed-length (placeAt cohort x n) 0 k
+
+pub factors-length : (g : Grid) (p : Params) (path : List Place) → length (factors g p path) ≡ length path
+unfolding factors
+factors-length g p path = length-map path _
+
+-- one year more puts one cell at the end
+pub path-more : (cohort : Bool) (x n k : ℕ) → pathOf cohort x n (suc k) ≡ pathOf cohort x n k ++ (placeAt cohort x n k ∷ [])
+unfolding pathOf
+path-more cohort x n k =
+    listed-more (placeAt cohort x n) 0 k
+    ∙ ap (λ (s : ℕ). pathOf cohort x n k ++ (placeAt cohort x n s ∷ [])) (zero-add k)
+
+pub factors-append : (g : Grid) (p : Params) (a b : List Place) → factors g p (a ++ b) ≡ factors g p a ++ factors g p b
+unfolding factors
+factors-append g p a b = map-append _ a b
+
+-- ---- which are in range
+
+pub in-range-append : (p : Params) (a b : List Place) → pathInRange p (a ++ b) ≡ (pathInRange p a && pathInRange p b)
+unfolding pathInRange
+in-range-append p [] b = refl
+in-range-append p (c ∷ a) b =
+    ap (λ (t : Bool). neededInRange p (c .age) (c .year) && t) (in-range-append p a b)
+    ∙ sym (and-assoc (neededInRange p (c .age) (c .year)) (pathInRange p a) (pathInRange p b))
+
+-- what the cell at place s of a path needs is in range
+abbrev pub placeInRange : Params → Bool → ℕ → ℕ → ℕ → Bool
+placeInRange p cohort x n s = neededInRange p (placeAt cohort x n s .age) (placeAt cohort x n s .year)
+
+pub in-range-more : (p : Params) (cohort : Bool) (x n k : ℕ)
+    → pathInRange p (pathOf cohort x n (suc k)) ≡ (pathInRange p (pathOf cohort x n k) && placeInRange p cohort x n k)
+unfolding pathInRange
+in-range-more p cohort x n k =
+    ap (pathInRange p) (path-more cohort x n k) ∙ in-range-append p (pathOf cohort x n k) (placeAt cohort x n k ∷ [])
+    ∙ ap (λ (t : Bool). pathInRange p (pathOf cohort x n k) && t) (and-true (placeInRange p cohort x n k))
+
+-- one cell out of range is enough
+pub range-out : (p : Params) (cohort : Bool) (x n s k : ℕ) → s < k → placeInRange p cohort x n s ≡ false
+    → pathInRange p (pathOf cohort x n k) ≡ false
+range-out p cohort x n s zero h e = absurd (not-suc-le-zero h)
+range-out p cohort x n s (suc k) h e =
+    in-range-more p cohort x n k
+    ∙ elim (decLt s k) [
+      | yes l ↦ ap (λ (t : Bool). t && placeInRange p cohort x n k) (range-out p cohort x n s k l e)
+      | no l ↦
+          let m : k ≡ s = omega arith in
+          rw m (ap (λ (t : Bool). pathInRange p (pathOf cohort x n s) && t) e ∙ and-false (pathInRange p (pathOf cohort x n s)))
+    ]
+
+-- ---- which are answered
+
+abbrev pub AnsweredPath : Params → List Place → Type 0
+AnsweredPath p path = Each (λ (c : Place). Answered p (c .age) (c .year)) path
+
+in-range-each : (p : Params) (path : List Place) → T (pathInRange p path)
+    → Each (λ (c : Place). T (neededInRange p (c .age) (c .year))) path
+unfolding pathInRange
+in-range-each p [] t = none
+in-range-each p (c ∷ path) t =
+    let b = and-yes (neededInRange p (c .age) (c .year)) (pathInRange p path) t in also (b .0) (in-range-each p path (b .1))
+
+-- a cohort's years are in the table when the last is, a period's when its one is
+pub path-years : (cohort : Bool) (x n k : ℕ) → n ≤ lastYears → (cohort ≡ true → n + k ≤ suc lastYears)
+    → (s : ℕ) → s < k → placeAt cohort x n s .year ≤ lastYears
+unfolding placeAt
+path-years true x n k h c s l = omega (arith, c refl)
+path-years false x n k h c s l = h
+
+-- a path in the table whose needed cells are in range
+pub path-answered : (p : Params) (cohort : Bool) (x n k : ℕ) → T (inLimits p)
+    → ((s : ℕ) → s < k → placeAt cohort x n s .year ≤ lastYears) → T (pathInRange p (pathOf cohort x n k))
+    → AnsweredPath p (pathOf cohort x n k)
+unfolding pathOf placeAt
+path-answered p cohort x n k limits years t =
+    each-with (in-range-each p (pathOf cohort x n k) t)
+    (each-listed {P = λ (c : Place). (c .age ≤ lastClosed) × (c .year ≤ lastYears)} (placeAt cohort x n) 0 k
+    (λ s l. (omega arith, years s (omega arith))))
+    (λ c r h. record { limits = limits; age = h .0; year = h .1; needed = r })

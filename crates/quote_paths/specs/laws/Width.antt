@@ -1,0 +1,204 @@
+-- How far apart the ends of the values along an answered path lie, and how great any path's are, on the grid of 10^-9.
+use mathlib.Core.Path.{_≡_, refl, ap, ap₂, sym, _∙_}
+use mathlib.Core.Bool.{Bool, true, false, cond}
+use mathlib.Core.List.{List, [], _∷_, map, Forall₂}
+use Prim.Native.Nat.{ℕ, zero, suc, _+_, _*_, _≤_, _<_}
+use native.Mathlib.Nat.{add-zero, zero-add, le-refl, mul-le-mul, mul-le-mul-right, div-le-self}
+use native.Mathlib.Decide.{decLt}
+use native.Mathlib.Omega.{arith}
+use lib.Dec.{ltb, lit≤}
+use lib.IntN.{ℤ, natAbs}
+use lib.ListN.{length, take, drop, length-map}
+use borrow.Author.Tests.{lt-ltb, le-ltb}
+use Rattle.number_whole.specs.Listed.{listed}
+use Rattle.number_whole.specs.laws.Table.{listed-shift, listed-part, listed-map}
+use Rattle.number_exponential.specs.Grid.{Grid}
+use Rattle.number_exponential.specs.Billionths.{billionths}
+use Rattle.number_exponential.specs.laws.Facts.{Sound}
+use Rattle.number_exponential.specs.laws.BillionthsFacts.{billionths-sound}
+use Rattle.number_exponential.specs.Exponential.{expBetween}
+use Rattle.number_exponential.specs.laws.AtMostOne.{exp-lower-one, exp-upper-one}
+use Rattle.set_params.specs.declared.Params.{Params}
+use Rattle.model_closure.specs.Weights.{firstClosed, lastClosed}
+use Rattle.number_folds.specs.laws.Each.{Each, none, also, each-places}
+use Rattle.number_folds.specs.code.Code.{AtMost, mostFactors}
+use Rattle.number_folds.specs.laws.Steps.{survival-one}
+use Rattle.number_folds.specs.laws.Bounds.{survival-at-most, expectancy-at-most}
+use Rattle.number_folds.specs.laws.Width.{Chance, spread, spreads, survival-chance, expectancy-width}
+use Rattle.number_folds.specs.laws.Parts.{spread-part}
+use Rattle.number_folds.specs.laws.Plain.{spreads-plain}
+use Rattle.number_annuity.specs.laws.Bounds.{annuity-at-most}
+use Rattle.number_annuity.specs.laws.Width.{priceSpread, annuity-width}
+use Rattle.model_force.specs.Force.{deathOf}
+use Rattle.model_mortality.specs.Cell as cell
+use Rattle.model_mortality.specs.laws.Answered.{Answered}
+use Rattle.model_mortality.specs.laws.Width.{Narrowed, death-narrowed}
+use Rattle.model_mortality.specs.laws.Billionths.{youngLimit, oldLimit, p-width-young, p-width-old}
+use Rattle.quote_paths.specs.Path.{Place, placeAt, pathOf, factors}
+use Rattle.quote_paths.specs.declared.Fold.{Fold}
+use Rattle.quote_paths.specs.declared.Fold.the-variants.{Death, Survival, Expectancy, Annuity}
+use Rattle.quote_paths.specs.Values.{foldOver, gridValue}
+use Rattle.quote_paths.specs.laws.Answers.{AnsweredPath, factors-length}
+use Rattle.quote_paths.specs.laws.Oldest.{place-age}
+
+-- the limits of `widthOf` of kinds/Kinds: of a cell by its age, of a survival, and of an expectancy or a price
+unfoldable pub ageLimit : ℕ → ℕ
+ageLimit x = cond (ltb x firstClosed) youngLimit oldLimit
+
+abbrev pub survivalLimit : ℕ
+survivalLimit = 30000
+
+abbrev pub expectancyLimit : ℕ
+expectancyLimit = 10000000
+
+-- ---- one cell
+
+-- p and q of an answered cell
+p-narrowed : {p : Params} {x n : ℕ} → Answered p x n → Narrowed (cell.survival billionths p x n) (ageLimit x)
+unfolding ageLimit
+p-narrowed {x = x} a =
+    elim (decLt x firstClosed) [
+      | yes l ↦ rw (lt-ltb x firstClosed l) (p-width-young a l)
+      | no l ↦ let k : firstClosed ≤ x = omega arith in rw (le-ltb x firstClosed k) (p-width-old a k)
+    ]
+
+-- no factor of any cell, answered or not, is above 1
+module _ (g : Grid) (s : Sound g) (p : Params) where
+  factor-at-most : (x n : ℕ) → AtMost (g .unit) (cell.survival g p x n)
+  unfolding cell.survival expBetween
+  factor-at-most x n = record { lower = exp-lower-one g s _; upper = exp-upper-one g s _ }
+
+  pub factors-chances : (path : List Place) → Each (AtMost (g .unit)) (factors g p path)
+  unfolding factors
+  factors-chances [] = none
+  factors-chances (c ∷ path) = also (factor-at-most (c .age) (c .year)) (factors-chances path)
+
+p-chance : {p : Params} {x n : ℕ} → Answered p x n → Chance billionths (ageLimit x) (cell.survival billionths p x n)
+p-chance {p} {x} {n} a =
+    let w = p-narrowed a in
+    record { ordered = w .ordered; most = factor-at-most billionths billionths-sound p x n .upper; width = w .width }
+
+-- ---- a path of one cell
+
+-- the same for a cohort and a period
+pub one-place : (cohort : Bool) (x n : ℕ) → x ≤ lastClosed → pathOf cohort x n 1 ≡ record { age = x; year = n } ∷ []
+unfolding pathOf listed placeAt
+one-place true x n l = ap₂ (λ (y m : ℕ). record { age = y; year = m } ∷ []) (omega arith) (omega arith)
+one-place false x n l = ap (λ (y : ℕ). record { age = y; year = n } ∷ []) (omega arith)
+
+-- its chance to die is the cell's q
+pub one-cell : (g : Grid) → 0 < g .unit → (p : Params) (cohort : Bool) (x n : ℕ) → x ≤ lastClosed
+    → gridValue Death g p (pathOf cohort x n 1) ≡ cell.death g p x n
+unfolding gridValue foldOver factors cell.death
+one-cell g positive p cohort x n l =
+    rw (one-place cohort x n l) (ap (deathOf g) (survival-one g positive (cell.survival g p x n)))
+
+pub death-limit : {p : Params} (cohort : Bool) (x n : ℕ) → x ≤ lastClosed → AnsweredPath p (pathOf cohort x n 1)
+    → gridValue Death billionths p (pathOf cohort x n 1) .upper
+    ≤ gridValue Death billionths p (pathOf cohort x n 1) .lower + ageLimit x
+death-limit {p} cohort x n l a =
+    rw (one-cell billionths (billionths .positive) p cohort x n l)
+    (death-narrowed billionths p x n (ageLimit x) (p-narrowed (first (rw (one-place cohort x n l) at a))) .width)
+  where
+    first : AnsweredPath p (record { age = x; year = n } ∷ []) → Answered p x n
+    first (also h none) = h
+
+-- ---- a path's widths
+
+-- of its factors, in order
+abbrev pub pathLimits : List Place → List ℕ
+pathLimits path = map (λ (c : Place). ageLimit (c .age)) path
+
+pub path-chances : {p : Params} {path : List Place} → AnsweredPath p path
+    → Forall₂ (Chance billionths) (pathLimits path) (factors billionths p path)
+unfolding factors
+path-chances a = each-places _ _ (λ c t. p-chance t) a
+
+-- to age 120 they are a part of those of all ages
+abbrev ageLimits : List ℕ
+ageLimits = listed ageLimit 0 (suc lastClosed)
+
+widest-survival : spread ageLimits ≡ 27342
+unfolding spread listed ageLimit
+widest-survival = refl
+
+-- two rules that agree
+listed-same : (f h : ℕ → ℕ) (i n : ℕ) → ((k : ℕ) → k < i + n → f k ≡ h k) → listed f i n ≡ listed h i n
+unfolding listed
+listed-same f h i zero e = refl
+listed-same f h i (suc n) e =
+    ap₂ (λ (v : ℕ) (l : List ℕ). v ∷ l) (e i (omega arith)) (listed-same f h (suc i) n (λ k l. e k (omega arith)))
+
+limits-part : (cohort : Bool) (x n k : ℕ) → x + k ≤ suc lastClosed → pathLimits (pathOf cohort x n k) ≡ take k (drop x ageLimits)
+unfolding pathOf
+limits-part cohort x n k h =
+    listed-map (λ (c : Place). ageLimit (c .age)) (placeAt cohort x n) 0 k
+    ∙ listed-same _ _ 0 k (λ s l. ap ageLimit (place-age cohort x n s (omega arith))) ∙ listed-shift ageLimit x 0 k
+    ∙ ap (λ (y : ℕ). listed ageLimit y k) (add-zero x ∙ sym (zero-add x)) ∙ sym (listed-part ageLimit 0 (suc lastClosed) x k h)
+
+pub survival-limit : {p : Params} (cohort : Bool) (x n k : ℕ) → x + k ≤ suc lastClosed → AnsweredPath p (pathOf cohort x n k)
+    → gridValue Survival billionths p (pathOf cohort x n k) .upper
+    ≤ gridValue Survival billionths p (pathOf cohort x n k) .lower + survivalLimit
+unfolding gridValue foldOver
+survival-limit cohort x n k h a =
+    omega (
+      arith,
+      survival-chance billionths (billionths .positive) (path-chances a) .width,
+      ap spread (limits-part cohort x n k h),
+      spread-part x k ageLimits,
+      widest-survival,
+    )
+
+-- at any age none is above 600, so those of an expectancy are at most the plain sum of 602 units a factor, over 171 factors
+old-widest : (x : ℕ) → ageLimit x ≤ oldLimit
+unfolding ageLimit
+old-widest x = elim (decLt x firstClosed) [
+  | yes l ↦ rw (lt-ltb x firstClosed l) (lit≤ tt)
+  | no l ↦ let k : firstClosed ≤ x = omega arith in rw (le-ltb x firstClosed k) (le-refl oldLimit)
+]
+
+limits-widest : (path : List Place) → Each (λ (w : ℕ). w ≤ oldLimit) (pathLimits path)
+limits-widest [] = none
+limits-widest (c ∷ path) = also (old-widest (c .age)) (limits-widest path)
+
+pub path-spreads : (path : List Place) → length path ≤ mostFactors → spreads (pathLimits path) ≤ 8853012
+path-spreads path h = omega (arith, spreads-plain oldLimit (limits-widest path) {k = mostFactors} (rw (length-map path _) h))
+
+pub expectancy-limit : {p : Params} {path : List Place} → length path ≤ mostFactors → AnsweredPath p path
+    → gridValue Expectancy billionths p path .upper ≤ gridValue Expectancy billionths p path .lower + expectancyLimit
+unfolding gridValue foldOver
+expectancy-limit {path = path} h a =
+    omega (arith, expectancy-width billionths (billionths .positive) (path-chances a), path-spreads path h)
+
+pub annuity-limit : {p : Params} {path : List Place} → length path ≤ mostFactors → AnsweredPath p path → (rate : ℤ)
+    → gridValue (Annuity rate) billionths p path .upper ≤ gridValue (Annuity rate) billionths p path .lower + expectancyLimit
+unfolding gridValue foldOver priceSpread
+annuity-limit {path = path} h a rate =
+    let n = length (pathLimits path) in
+    let l : n ≤ mostFactors = rw (length-map path (λ (c : Place). ageLimit (c .age))) h in
+    let a₁ : suc n ≤ suc mostFactors = omega arith in
+    let a₂ : n + 2 ≤ mostFactors + 2 = omega arith in
+    let m = mul-le-mul a₁ a₂ in
+    omega (arith, annuity-width billionths (billionths .positive) (natAbs rate) (path-chances a), path-spreads path h)
+
+-- ---- sizes
+
+-- a value along any path of at most 171 cells is at most 172
+pub value-small : (g : Grid) (s : Sound g) (p : Params) (path : List Place) → length path ≤ mostFactors → (f : Fold)
+    → AtMost (suc mostFactors * g .unit) (gridValue f g p path)
+unfolding gridValue foldOver deathOf
+value-small g s p path h Death = record { lower = omega arith; upper = omega arith }
+value-small g s p path h Survival =
+    let a = survival-at-most g (g .positive) (factors-chances g s p path) in
+    record { lower = omega (arith, a .lower); upper = omega (arith, a .upper) }
+value-small g s p path h Expectancy =
+    let a = expectancy-at-most g (g .positive) (factors-chances g s p path) in
+    let m = mul-le-mul-right (g .unit) h in
+    let e = ap (λ (k : ℕ). k * g .unit) (factors-length g p path) in
+    let d = div-le-self (g .unit) 2 in
+    record { lower = omega (arith, a .lower); upper = omega (arith, a .upper) }
+value-small g s p path h (Annuity rate) =
+    let a = annuity-at-most g (g .positive) (natAbs rate) (factors-chances g s p path) in
+    let m = mul-le-mul-right (g .unit) h in
+    let e = ap (λ (k : ℕ). k * g .unit) (factors-length g p path) in
+    record { lower = omega (arith, a .lower); upper = omega (arith, a .upper) }

@@ -1,0 +1,2 @@
+pub mod TableTests
+pub mod laws

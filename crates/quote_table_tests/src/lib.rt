@@ -1,0 +1,43 @@
+// The tests of an age, a year, a span and a rate against the table: refusals 3 to 5 and 8.
+ghost use mathlib.Core.Path.{_≡_};
+ghost use Rattle.number_whole.specs.code.Sizes.{Under};
+ghost use Rattle.set_params.specs.Limits.{lastYears};
+ghost use Rattle.quote_table_tests.specs.TableTests.{between, tableTests, firstFailed};
+use model_closure::LAST_CLOSED;
+use number_annuity::MOST_RATE;
+use quote_kinds::Rule;
+use set_params::FIRST_YEARS;
+use set_params::START_YEAR;
+use set_refusal::Refusal;
+
+// Whether v is at least low and at most high.
+fn between(low: i64, high: i64, v: i64) -> bool
+    ensures { λ r. ⌜ r ≡ between low high v ⌝ }
+{
+    if v < low {
+        return false;
+    }
+    v <= high
+}
+
+// The refusal that the table gives an age, a year, a span and a kind's rate, the first of 3, 4, 5 and 8 that applies.
+pub fn table_refusal(rule: Rule, age: i64, year: i64, span: i64) -> Refusal
+    requires { ⌜ Under (rule .years) lastYears ⌝ }
+    ensures { λ r. ⌜ r ≡ firstFailed (tableTests rule age year span) ⌝ }
+{
+    let fold = rule.fold;
+    let last = START_YEAR + rule.years;
+    if !between(0, LAST_CLOSED as i64, age) {
+        return Refusal::NoSuchAge;
+    }
+    if !between(START_YEAR + FIRST_YEARS, last, year) {
+        return Refusal::NoSuchYear;
+    }
+    if !between(0, quote_kinds::most_span(fold, age as usize) as i64, span) {
+        return Refusal::NoSuchSpan;
+    }
+    if !between(0, MOST_RATE as i64, quote_kinds::rate_of(fold)) {
+        return Refusal::NoSuchRate;
+    }
+    Refusal::Accepted
+}

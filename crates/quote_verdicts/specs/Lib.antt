@@ -1,0 +1,5 @@
+pub mod Verdict
+pub mod Meaning
+pub mod code
+pub mod laws
+pub mod examples

@@ -1,0 +1,41 @@
+-- What the code's contracts say beside the definitions: a column that was read or not, the verdict on one age, and the figures by
+-- the factors of a year's cells.
+use mathlib.Core.Bool.{Bool, true, false, cond}
+use mathlib.Core.List.{List, []}
+use Prim.Native.Nat.{ℕ}
+use lib.ListN.{getD}
+use Rattle.text_tokens.specs.Text.{Parse, malformed, taken}
+use Rattle.number_exponential.specs.declared.Ends.{Ends}
+use Rattle.number_exponential.specs.Billionths.{billionths}
+use Rattle.number_exact.specs.Figure.{probabilityStep, figureOf}
+use Rattle.model_force.specs.Force.{deathOf}
+use Rattle.quote.specs.Demand.{Shown, shownOf}
+use Rattle.quote_factors.specs.code.Code.{empty}
+use Rattle.quote_verdicts.specs.declared.Verdict.{Verdict}
+use Rattle.quote_verdicts.specs.declared.Verdict.the-variants.{Right, Wrong, Open}
+use Rattle.quote_verdicts.specs.Verdict.{differs, isOpen}
+
+-- a column where the whole of it was read
+unfoldable pub columnRead : Bool → List ℕ → Parse (List ℕ)
+columnRead true column = taken column []
+columnRead false column = malformed
+
+-- the verdict on one age
+unfoldable pub ageVerdict : Shown → ℕ → Verdict
+ageVerdict s entry = cond (differs s entry) Wrong (cond (isOpen s) Open Right)
+
+-- that on some ages and one more
+unfoldable pub joined : Verdict → Verdict → Verdict
+joined Wrong v = Wrong
+joined Open Wrong = Wrong
+joined Open Open = Open
+joined Open Right = Open
+joined Right v = v
+
+-- the figure of q by p's ends
+unfoldable pub figureBy : Ends → Shown
+figureBy p = shownOf (figureOf probabilityStep (deathOf billionths p))
+
+-- that of age x by the factors of its year
+unfoldable pub figureIn : List Ends → ℕ → Shown
+figureIn factors x = figureBy (getD factors x empty)

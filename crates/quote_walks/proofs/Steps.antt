@@ -1,0 +1,151 @@
+-- One step along a path: the factor that is put, the cell that is out of range, and the year of the next cell.
+use mathlib.Core.Path.{_≡_, refl, ap, sym, _∙_}
+use mathlib.Core.Bool.{Bool, true, false, cond, _&&_, false≢true}
+use mathlib.Core.List.{List, [], _∷_, _++_}
+use Prim.Native.Nat.{ℕ, suc, _+_, _≤_, _<_}
+use native.Mathlib.Numerals.{add-one}
+use native.Mathlib.Omega.{arith}
+use lib.Dec.{T, ltb, ltb→lt}
+use lib.Ieee.Bits.{is-true}
+use borrow.Author.Tests.{lt-ltb}
+use lib.ListN.{length, take, getD, set, length-set}
+use lib.Seq.{take-suc, take-suc-set, length-take-le, getD-at}
+use mir.Facts.{and-yes, yes-and}
+use Rattle.number_whole.specs.laws.Clash.{clash}
+use Rattle.number_whole.specs.Listed.{listed}
+use Rattle.number_exponential.specs.declared.Ends.{Ends}
+use Rattle.number_exponential.specs.Billionths.{billionths}
+use Rattle.set_params.specs.declared.Params.{Params}
+use Rattle.set_params.specs.Limits.{lastYears}
+use Rattle.model_cells.specs.declared.Cell.{Cell}
+use Rattle.model_cells.specs.declared.Cell.the-variants.{LogForceOutOfRange, Of}
+use Rattle.model_series.specs.declared.Year.{Year}
+use Rattle.model_mortality.specs.Cell.{survival, neededInRange}
+use Rattle.model_series.specs.code.Year.{YearWithin}
+use Rattle.model_cells.specs.code.Code.{cellOf}
+use Rattle.model_series.specs.laws.YearLaws.{year-within, year-next}
+use Rattle.number_folds.specs.code.Code.{mostFactors}
+use Rattle.quote_paths.specs.Path.{placeAt, pathOf, factors, pathInRange}
+use Rattle.quote_paths.specs.laws.Answers.{path-length, factors-length, path-more, factors-append, in-range-more, range-out}
+use Rattle.quote_paths.specs.declared.Path.{Path}
+use Rattle.quote_walks.specs.code.Code.{placeOf, pathTo, pathIs, PathWithin, Advanced, Worked, YearAt}
+
+-- the path of a function's locals
+abbrev pub along : Bool → ℕ → ℕ → ℕ → Path
+along cohort age year count = record { cohort = cohort; age = age; year = year; count = count }
+
+-- ---- the cell at a place
+
+-- the answer at the cell at s
+abbrev pub cellAt : Params → Path → ℕ → Cell
+cellAt p w s = cellOf p (placeOf w s .age) (placeOf w s .year)
+
+inside : (b : Bool) {d e : Ends} → cond b (Of d) LogForceOutOfRange ≡ Of e → T b × (d ≡ e)
+inside true q = (tt, cc)
+inside false q = clash cc
+
+outside : (b : Bool) (d : Ends) → cond b (Of d) LogForceOutOfRange ≡ LogForceOutOfRange → b ≡ false
+outside true d q = clash cc
+outside false d q = refl
+
+cell-in : (p : Params) (x n : ℕ) {e : Ends} → cellOf p x n ≡ Of e
+    → T (neededInRange p x n) × (e ≡ survival billionths p x n)
+unfolding cellOf
+cell-in p x n {e} q =
+    let r = inside (neededInRange p x n) {d = survival billionths p x n} {e = e} q in
+    (r .0, sym (r .1))
+
+cell-out : (p : Params) (x n : ℕ) → cellOf p x n ≡ LogForceOutOfRange → neededInRange p x n ≡ false
+unfolding cellOf
+cell-out p x n q = outside (neededInRange p x n) (survival billionths p x n) q
+
+-- ---- the factors
+
+pub worked-none : (p : Params) (w : Path) {es : List Ends} → length es ≡ mostFactors → Worked p w es 0
+unfolding listed pathOf pathInRange factors
+worked-none p w h = record { some = omega arith; range = tt; ends = refl; size = h }
+
+factors-more : (p : Params) (w : Path) (s : ℕ)
+    → factors billionths p (pathTo w (suc s))
+    ≡ factors billionths p (pathTo w s) ++ (survival billionths p (placeOf w s .age) (placeOf w s .year) ∷ [])
+unfolding factors
+factors-more p w s =
+    ap (factors billionths p) (path-more (w .cohort) (w .age) (w .year) s)
+    ∙ factors-append billionths p (pathTo w s) (placeOf w s ∷ [])
+
+pub worked-more : {p : Params} {w : Path} {es : List Ends} {s : ℕ} {e : Ends} → Worked p w es s
+    → w .count ≤ mostFactors → s < w .count → cellAt p w s ≡ Of e → Worked p w (set es s e) (s + 1)
+worked-more {p} {w} {es} {s} {e} h m l q =
+    let r = cell-in p (placeOf w s .age) (placeOf w s .year) q in
+    rw (add-one s)
+    (record {
+      some = l;
+      range =
+          rw (in-range-more p (w .cohort) (w .age) (w .year) s)
+          (yes-and (pathInRange p (pathTo w s)) (neededInRange p (placeOf w s .age) (placeOf w s .year)) (h .range) (r .0));
+      ends = rw (factors-more p w s, take-suc-set es s e (omega (arith, h .size)), h .ends, r .1);
+      size = length-set es s e ∙ h .size;
+    })
+
+-- the last factor that was put
+pub worked-last : {p : Params} {w : Path} {es : List Ends} {s : ℕ} (d : Ends) → Worked p w es (suc s)
+    → w .count ≤ mostFactors → getD es s d ≡ survival billionths p (placeOf w s .age) (placeOf w s .year)
+worked-last {p} {w} {es} {s} d h m =
+    let l : s < length es = omega (arith, h .some, h .size) in
+    let e : take s es ++ (getD es s d ∷ [])
+    ≡ factors billionths p (pathTo w s) ++ (survival billionths p (placeOf w s .age) (placeOf w s .year) ∷ []) =
+    sym (take-suc es s d l) ∙ h .ends ∙ factors-more p w s in
+    sym (getD-at (take s es) (getD es s d) [] d s (length-take-le s es (omega arith)))
+    ∙ ap (λ (l : List Ends). getD l s d) e
+    ∙ getD-at (factors billionths p (pathTo w s)) _ [] d s
+    (factors-length billionths p (pathTo w s) ∙ path-length (w .cohort) (w .age) (w .year) s)
+
+pub worked-out : (p : Params) (w : Path) {s : ℕ} → s < w .count → cellAt p w s ≡ LogForceOutOfRange → pathInRange p (pathIs w) ≡ false
+worked-out p w {s} l q =
+    range-out p (w .cohort) (w .age) (w .year) s (w .count) l (cell-out p (placeOf w s .age) (placeOf w s .year) q)
+
+-- ---- the year of the next cell
+
+-- the next year where the path goes on along the cohort: it is in the table
+next-place : (w : Path) (s : ℕ) → w .cohort ≡ true → placeOf w (suc s) .year ≡ suc (placeOf w s .year)
+unfolding placeAt
+next-place w s c = rw c (omega arith)
+
+same-place : (w : Path) (s : ℕ) → w .cohort ≡ false → placeOf w (suc s) .year ≡ placeOf w s .year
+unfolding placeAt
+same-place w s c = rw c refl
+
+-- the first cell's year
+pub first-year : (c : Bool) (n : ℕ) → n ≡ cond c (n + 0) n
+first-year true n = omega arith
+first-year false n = refl
+
+module _ {p : Params} {w : Path} {y : Year} {s : ℕ} (k : PathWithin p w) (h : YearAt p w s y) (l : s < w .count) where
+  goes : {on : Bool} → on ≡ (w .cohort && ltb (s + 1) (w .count)) → T on → (w .cohort ≡ true) × (suc s < w .count)
+  goes e t =
+      let b = and-yes (w .cohort) (ltb (s + 1) (w .count)) (rw e at t) in
+      (is-true (w .cohort) (b .0), omega (arith, ltb→lt (s + 1) (w .count) (b .1)))
+
+  room : (w .cohort ≡ true) × (suc s < w .count) → y .number < lastYears
+  room g = omega (arith, h .place l, next-place w s (g .0), k .years (suc s) (g .1))
+
+  pub year-may : {on : Bool} → on ≡ (w .cohort && ltb (s + 1) (w .count)) → T on → YearWithin (p .a) (p .theta) y
+  year-may e t = year-within (h .year) (room (goes e t))
+
+  -- where it stays in its year
+  stays : (c : Bool) → w .cohort ≡ c → false ≡ (c && ltb (s + 1) (w .count)) → suc s < w .count → y .number ≡ placeOf w (suc s) .year
+  stays true q e m = absurd (false≢true (e ∙ lt-ltb (s + 1) (w .count) (omega arith)))
+  stays false q e m = h .place l ∙ sym (same-place w s q)
+
+  pub year-step : (on : Bool) {r : Year} → on ≡ (w .cohort && ltb (s + 1) (w .count)) → Advanced (p .a) (p .theta) y on r
+      → YearAt p w (s + 1) r
+  year-step true e a =
+      let g = goes e tt in
+      let n = a .next tt in
+      rw (add-one s)
+      (record {
+        year = year-next (h .year) (room g) n;
+        place = λ m. n .number ∙ ap suc (h .place l) ∙ sym (next-place w s (g .0));
+      })
+  year-step false e a =
+      rw (add-one s, a .same tt) (record { year = h .year; place = λ m. stays (w .cohort) refl e m })

@@ -1,0 +1,34 @@
+-- What is printed after a query: ` fig=` and a figure or `open`, with the two ends before it where they are shown, or ` no=`
+-- and a refusal.
+use mathlib.Core.Bool.{Bool, cond}
+use mathlib.Core.List.{List, [], _++_}
+use Prim.Native.Nat.{ℕ}
+use Rattle.text_tokens.specs.Text.{bytesOf}
+use Rattle.text_tokens.specs.Number.{unsignedText}
+use Rattle.set_refusal.specs.declared.Refusal.{Refusal}
+use Rattle.set_refusal.specs.Refusals.{refusalNumber}
+use Rattle.run_figure_text.specs.FigureText.{shownText}
+use Rattle.quote_along.specs.declared.Quote.{Quote}
+use Rattle.quote_along.specs.declared.Answer.{Answer}
+use Rattle.quote_along.specs.declared.Answer.the-variants.{Quoted, Refused}
+
+-- `no=` and a refusal's number, as a line
+unfoldable pub refusalLine : Refusal → List ℕ
+refusalLine r = (bytesOf "no=" ++ unsignedText (refusalNumber r)) ++ bytesOf "\n"
+
+-- the same behind what is refused
+unfoldable pub refusedText : Refusal → List ℕ
+refusedText r = bytesOf " " ++ refusalLine r
+
+-- the two ends, in whole units, where they are asked for
+unfoldable pub endsText : Bool → ℕ → ℕ → List ℕ
+endsText ends lower upper = cond ends ((bytesOf " lo=" ++ unsignedText lower) ++ (bytesOf " hi=" ++ unsignedText upper)) []
+
+-- a quote, its figure with so many decimals
+unfoldable pub quoteText : Bool → ℕ → Quote → List ℕ
+quoteText ends d a = endsText ends (a .lower) (a .upper) ++ (shownText d (a .figure) ++ bytesOf "\n")
+
+-- an answer
+unfoldable pub answerText : Bool → ℕ → Answer → List ℕ
+answerText ends d (Quoted a) = quoteText ends d a
+answerText ends d (Refused r) = refusedText r

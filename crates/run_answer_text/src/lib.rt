@@ -1,0 +1,79 @@
+// What is printed after a query, written into a buffer that the caller lends.
+ghost use mathlib.Core.Path.{_≡_};
+ghost use mathlib.Core.List.{_++_};
+ghost use Prim.Native.Nat.{_^_, _<_};
+ghost use Rattle.text_tokens.specs.Number.{mostDigits, unsignedText};
+ghost use Rattle.text_printing.specs.code.Put.{Room, Put};
+ghost use Rattle.run_answer_text.specs.AnswerText.{refusalLine, refusedText, endsText, quoteText, answerText};
+ghost use Rattle.run_answer_text.specs.code.Sizes.{Sized, SizedAnswer};
+use quote_along::Answer;
+use quote_along::Quote;
+use set_refusal::Refusal;
+
+// Writes a name and a number; the place after them.
+pub fn put_field(buffer: &mut [u8], at: usize, name: &[u8], n: u64) -> usize
+    requires { ⌜ (n < 10 ^ mostDigits) × Room (now buffer) at (now name ++ unsignedText n) ⌝ }
+    ensures { λ r. ⌜ Put (now (buffer .entry)) at (now (name .entry) ++ unsignedText n) (now (buffer .exit)) r ⌝ }
+{
+    let place = text_printing::put_text(buffer, at, name);
+    text_printing::put_digits(buffer, place, n)
+}
+
+// Writes `no=` and a refusal's number, as a line; the place after it.
+pub fn put_refusal(buffer: &mut [u8], at: usize, refusal: Refusal) -> usize
+    requires { ⌜ Room (now buffer) at (refusalLine refusal) ⌝ }
+    ensures { λ r. ⌜ Put (now (buffer .entry)) at (refusalLine refusal) (now (buffer .exit)) r ⌝ }
+{
+    let number = set_refusal::refusal_number(refusal) as u64;
+    let end = put_field(buffer, at, b"no=", number);
+    text_printing::put_text(buffer, end, b"\n")
+}
+
+// Writes a refusal behind what is refused; the place after it.
+pub fn put_refused(buffer: &mut [u8], at: usize, refusal: Refusal) -> usize
+    requires { ⌜ Room (now buffer) at (refusedText refusal) ⌝ }
+    ensures { λ r. ⌜ Put (now (buffer .entry)) at (refusedText refusal) (now (buffer .exit)) r ⌝ }
+{
+    let place = text_printing::put_text(buffer, at, b" ");
+    put_refusal(buffer, place, refusal)
+}
+
+// Writes the two ends where they are asked for; the place after them.
+fn put_ends(buffer: &mut [u8], at: usize, ends: bool, lower: u64, upper: u64) -> usize
+    requires { ⌜ (lower < 10 ^ mostDigits) × (upper < 10 ^ mostDigits) × Room (now buffer) at (endsText ends lower upper) ⌝ }
+    ensures { λ r. ⌜ Put (now (buffer .entry)) at (endsText ends lower upper) (now (buffer .exit)) r ⌝ }
+{
+    if !ends {
+        return at;
+    }
+    let place = put_field(buffer, at, b" lo=", lower);
+    put_field(buffer, place, b" hi=", upper)
+}
+
+// Writes what follows a query that is quoted, with the ends where they are asked for; the place after it.
+fn put_quote(buffer: &mut [u8], at: usize, ends: bool, decimals: usize, quote: Quote) -> usize
+    requires { ⌜ Sized quote × Room (now buffer) at (quoteText ends decimals quote) ⌝ }
+    ensures { λ r. ⌜ Put (now (buffer .entry)) at (quoteText ends decimals quote) (now (buffer .exit)) r ⌝ }
+{
+    let figure = quote.figure;
+    let place = put_ends(buffer, at, ends, quote.lower, quote.upper);
+    let end = run_figure_text::put_shown(buffer, place, decimals, figure);
+    text_printing::put_text(buffer, end, b"\n")
+}
+
+// Writes what follows a query; the place after it.
+pub fn put_answer(
+    buffer: &mut [u8],
+    at: usize,
+    ends: bool,
+    decimals: usize,
+    answer: Answer,
+) -> usize
+    requires { ⌜ SizedAnswer answer × Room (now buffer) at (answerText ends decimals answer) ⌝ }
+    ensures { λ r. ⌜ Put (now (buffer .entry)) at (answerText ends decimals answer) (now (buffer .exit)) r ⌝ }
+{
+    match answer {
+        Answer::Quoted(quote) => put_quote(buffer, at, ends, decimals, quote),
+        Answer::Refused(refusal) => put_refused(buffer, at, refusal),
+    }
+}

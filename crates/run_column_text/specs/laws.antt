@@ -1,0 +1,5 @@
+pub mod QLaws
+pub mod QText
+pub mod StepLaws
+pub mod WalkLaws
+pub mod ColumnLaws

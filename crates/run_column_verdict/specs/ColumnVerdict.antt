@@ -1,0 +1,30 @@
+-- "Checking a column somebody else published" (paper 02, E3): what is answered of any bytes, and what that says of the exact
+-- values: "Right is returned only for a column whose every entry is the rounded exact value, wrong only for one with an entry that
+-- isn't."
+use mathlib.Core.Path.{_≡_}
+use mathlib.Core.List.{List, []}
+use Prim.Native.Nat.{ℕ}
+use lib.IntN.{ℤ}
+use Rattle.text_tokens.specs.Text.{taken}
+use Rattle.set_params.specs.declared.Params.{Params}
+use Rattle.run_column_text.specs.Column.{columnOf}
+use Rattle.quote_verdicts.specs.declared.Verdict.the-variants.{Right, Wrong}
+use Rattle.quote_verdicts.specs.declared.Judged.{Judged}
+use Rattle.quote_verdicts.specs.declared.Judged.the-variants.{Of}
+use Rattle.quote_verdicts.specs.Verdict.{judged}
+use Rattle.quote_verdicts.specs.Meaning.{EachRounded, SomeOther}
+
+-- the answer
+unfoldable pub columnVerdict : Params → ℤ → List ℕ → Judged
+columnVerdict p year bytes = judged p year (columnOf bytes)
+
+-- the bytes are a column of which this holds
+pub record ColumnWith (bytes : List ℕ) (P : List ℕ → Type 0) : Type 0 where
+  pub column : List ℕ
+  pub is : columnOf bytes ≡ taken column []
+  pub holds : P column
+
+-- what an answer of the bytes says
+pub record HonestOn (p : Params) (year : ℤ) (bytes : List ℕ) (r : Judged) : Type 0 where
+  pub right : r ≡ Of Right → ColumnWith bytes (EachRounded p year)
+  pub wrong : r ≡ Of Wrong → ColumnWith bytes (SomeOther p year)

@@ -1,0 +1,3 @@
+pub mod ColumnVerdict
+pub mod SheetVerdict
+pub mod laws

@@ -1,0 +1,2 @@
+pub mod ColumnTheorem
+pub mod VerdictLaws

@@ -1,0 +1,3 @@
+pub mod CompareText
+pub mod code
+pub mod laws

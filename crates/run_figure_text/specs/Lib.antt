@@ -1,0 +1,5 @@
+pub mod FigureText
+pub mod Reading
+pub mod code
+pub mod laws
+pub mod examples

@@ -1,0 +1,10 @@
+-- A figure that has room for its digits: what the writers ask for.
+use Prim.Native.Nat.{_^_, _<_}
+use Rattle.text_tokens.specs.Number.{mostDigits}
+use Rattle.number_exact.specs.declared.Figure.{Figure}
+use Rattle.number_exact.specs.declared.Figure.the-variants.{Printed, Open}
+
+-- steps of at most 15 digits
+unfoldable pub Printable : Figure → Type 0
+Printable (Printed n) = n < 10 ^ mostDigits
+Printable Open = Unit

@@ -1,0 +1,2 @@
+pub mod FigureTextLaws
+pub mod ReadingLaws

@@ -1,0 +1,167 @@
+-- `kind_at` meets its contract: the first word that is found gives its kind, and a word that is missing leaves those
+-- behind it.
+use borrow.Author.Needs.{needs}
+use mathlib.Core.Path.{_≡_, sym, _∙_}
+use Prim.Native.Nat.{ℕ}
+use native.Mathlib.Omega.{arith}
+use lib.IntN.{pos}
+use lib.ListN.{drop}
+use Rattle.text_tokens.specs.Text.{bytesOf}
+use Rattle.text_tokens.specs.laws.TextLaws.{text-room}
+use Rattle.quote_kinds.specs.declared.Kind.the-variants.{Death, CohortSurvival, PeriodSurvival, CohortExpectancy, PeriodExpectancy}
+use Rattle.quote_kinds.specs.declared.Kind.the-variants.{CohortAnnuity, PeriodAnnuity}
+use Rattle.run_query.specs.Query.{wordOf, onOffer, readWord}
+use Rattle.run_query.proofs.WordSteps.{word-found, word-missing}
+use Rattle.run_query.proofs.kind_at.Statement.{statement}
+use Rattle.run_query.proofs.kind_at.Tie as tie
+
+-- ---- the start, seen from each test
+
+abbrev start₁ : tie.After-text-at → tie.Start
+start₁ c = c .before .before .before
+
+abbrev start₂ : tie.After-text-at2 → tie.Start
+start₂ c = start₁ (c .before .before .before)
+
+abbrev start₃ : tie.After-text-at3 → tie.Start
+start₃ c = start₂ (c .before .before .before)
+
+abbrev start₄ : tie.After-text-at4 → tie.Start
+start₄ c = start₃ (c .before .before .before)
+
+abbrev start₅ : tie.After-text-at5 → tie.Start
+start₅ c = start₄ (c .before .before .before)
+
+abbrev start₆ : tie.After-text-at6 → tie.Start
+start₆ c = start₅ (c .before .before .before)
+
+abbrev start₇ : tie.After-text-at7 → tie.Start
+start₇ c = start₆ (c .before .before .before)
+
+-- ---- the words that are left after the first n
+
+abbrev Left : ℕ → tie.Start → Type 0
+Left n s =
+    let here = drop (s .args .at) (s .args .bytes .now) in readWord onOffer here ≡ readWord (drop n onOffer) here
+
+left₁ : (c : tie.Else1) → Left 1 (start₁ (c .before))
+unfolding onOffer wordOf bytesOf
+left₁ c = word-missing _ _ Death _ (c .before .text-at .ensures) (c .if1 .left)
+
+left₂ : (c : tie.Else2) → Left 2 (start₂ (c .before))
+unfolding onOffer wordOf bytesOf
+left₂ c =
+    left₁ (c .before .before .before)
+    ∙ word-missing _ _ CohortSurvival _ (c .before .text-at2 .ensures) (c .if2 .left)
+
+left₃ : (c : tie.Else3) → Left 3 (start₃ (c .before))
+unfolding onOffer wordOf bytesOf
+left₃ c =
+    left₂ (c .before .before .before)
+    ∙ word-missing _ _ PeriodSurvival _ (c .before .text-at3 .ensures) (c .if3 .left)
+
+left₄ : (c : tie.Else4) → Left 4 (start₄ (c .before))
+unfolding onOffer wordOf bytesOf
+left₄ c =
+    left₃ (c .before .before .before)
+    ∙ word-missing _ _ CohortExpectancy _ (c .before .text-at4 .ensures) (c .if4 .left)
+
+left₅ : (c : tie.Else5) → Left 5 (start₅ (c .before))
+unfolding onOffer wordOf bytesOf
+left₅ c =
+    left₄ (c .before .before .before)
+    ∙ word-missing _ _ PeriodExpectancy _ (c .before .text-at5 .ensures) (c .if5 .left)
+
+left₆ : (c : tie.Else6) → Left 6 (start₆ (c .before))
+unfolding onOffer wordOf bytesOf
+left₆ c =
+    left₅ (c .before .before .before)
+    ∙ word-missing _ _ (CohortAnnuity (pos 0)) _ (c .before .text-at6 .ensures) (c .if6 .left)
+
+left₇ : (c : tie.Else7) → Left 7 (start₇ (c .before))
+unfolding onOffer wordOf bytesOf
+left₇ c =
+    left₆ (c .before .before .before)
+    ∙ word-missing _ _ (PeriodAnnuity (pos 0)) _ (c .before .text-at7 .ensures) (c .if7 .left)
+
+-- ---- the needs
+
+add-t14 : tie.Need-add-t14
+add-t14 c = omega (arith, text-room _ _ _ (sym (c .before .text-at .ensures) ∙ c .if1 .taken))
+
+returns : tie.Need-returns
+unfolding onOffer wordOf bytesOf
+returns c = sym (word-found _ _ Death _ (c .before .text-at .ensures) (c .if1 .taken))
+
+add-t19 : tie.Need-add-t19
+add-t19 c = omega (arith, text-room _ _ _ (sym (c .before .text-at2 .ensures) ∙ c .if2 .taken))
+
+returns-2 : tie.Need-returns-2
+unfolding onOffer wordOf bytesOf
+returns-2 c =
+    sym
+    (left₁ (c .before .before .before)
+    ∙ word-found _ _ CohortSurvival _ (c .before .text-at2 .ensures) (c .if2 .taken))
+
+add-t24 : tie.Need-add-t24
+add-t24 c = omega (arith, text-room _ _ _ (sym (c .before .text-at3 .ensures) ∙ c .if3 .taken))
+
+returns-3 : tie.Need-returns-3
+unfolding onOffer wordOf bytesOf
+returns-3 c =
+    sym
+    (left₂ (c .before .before .before)
+    ∙ word-found _ _ PeriodSurvival _ (c .before .text-at3 .ensures) (c .if3 .taken))
+
+add-t29 : tie.Need-add-t29
+add-t29 c = omega (arith, text-room _ _ _ (sym (c .before .text-at4 .ensures) ∙ c .if4 .taken))
+
+returns-4 : tie.Need-returns-4
+unfolding onOffer wordOf bytesOf
+returns-4 c =
+    sym
+    (left₃ (c .before .before .before)
+    ∙ word-found _ _ CohortExpectancy _ (c .before .text-at4 .ensures) (c .if4 .taken))
+
+add-t34 : tie.Need-add-t34
+add-t34 c = omega (arith, text-room _ _ _ (sym (c .before .text-at5 .ensures) ∙ c .if5 .taken))
+
+returns-5 : tie.Need-returns-5
+unfolding onOffer wordOf bytesOf
+returns-5 c =
+    sym
+    (left₄ (c .before .before .before)
+    ∙ word-found _ _ PeriodExpectancy _ (c .before .text-at5 .ensures) (c .if5 .taken))
+
+add-t39 : tie.Need-add-t39
+add-t39 c = omega (arith, text-room _ _ _ (sym (c .before .text-at6 .ensures) ∙ c .if6 .taken))
+
+returns-6 : tie.Need-returns-6
+unfolding onOffer wordOf bytesOf
+returns-6 c =
+    sym
+    (left₅ (c .before .before .before)
+    ∙ word-found _ _ (CohortAnnuity (pos 0)) _ (c .before .text-at6 .ensures) (c .if6 .taken))
+
+add-t44 : tie.Need-add-t44
+add-t44 c = omega (arith, text-room _ _ _ (sym (c .before .text-at7 .ensures) ∙ c .if7 .taken))
+
+returns-7 : tie.Need-returns-7
+unfolding onOffer wordOf bytesOf
+returns-7 c =
+    sym
+    (left₆ (c .before .before .before)
+    ∙ word-found _ _ (PeriodAnnuity (pos 0)) _ (c .before .text-at7 .ensures) (c .if7 .taken))
+
+returns-8 : tie.Need-returns-8
+unfolding onOffer readWord
+returns-8 c = sym (left₇ c)
+
+pub kind-at-spec : {M : Type 1} → statement M
+kind-at-spec =
+    tie.close
+    (tie.spec (λ c. search needs) (λ c κs. search needs) add-t14 returns (λ c. search needs) (λ c κs. search needs)
+    add-t19 returns-2 (λ c. search needs) (λ c κs. search needs) add-t24 returns-3 (λ c. search needs)
+    (λ c κs. search needs) add-t29 returns-4 (λ c. search needs) (λ c κs. search needs) add-t34 returns-5
+    (λ c. search needs) (λ c κs. search needs) add-t39 returns-6 (λ c. search needs) (λ c κs. search needs) add-t44
+    returns-7 returns-8)

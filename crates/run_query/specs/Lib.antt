@@ -1,0 +1,4 @@
+pub mod Query
+pub mod code
+pub mod laws
+pub mod examples

@@ -1,0 +1,81 @@
+-- "A query line has the form shown below without its `fig=` part, numbers formed as in a sheet, and ends in a line feed":
+-- `kind=q age=65 year=2020 span=0`; the line of an annuity (paper 02, E1) "for these two kinds only, ends with `rate=`":
+-- `kind=acoh age=65 year=2020 span=0 rate=30000`. What a line asks, and the text of what is asked.
+use Prim.Native.Nat.{ℕ}
+use mathlib.Core.Bool.{cond}
+use mathlib.Core.List.{List, [], _∷_, _++_}
+use lib.IntN.{ℤ, pos}
+use Rattle.text_tokens.specs.Text.{bytesOf, Parse, malformed, taken, takeText, andThen}
+use Rattle.text_tokens.specs.Number.{readNumber, numberText}
+use Rattle.quote_kinds.specs.declared.Kind.{Kind}
+use Rattle.quote_kinds.specs.declared.Kind.the-variants.{Death, CohortSurvival, PeriodSurvival, CohortExpectancy, PeriodExpectancy}
+use Rattle.quote_kinds.specs.declared.Kind.the-variants.{CohortAnnuity, PeriodAnnuity}
+use Rattle.quote_kinds.specs.Kinds.{ruleOf, takesRate, withRate, rateOf}
+use Rattle.run_query.specs.declared.Query.{Query}
+
+-- ---- the kinds' words
+
+-- each kind's word, whatever the rate
+unfoldable pub wordOf : Kind → List ℕ
+wordOf Death = bytesOf "q"
+wordOf CohortSurvival = bytesOf "coh"
+wordOf PeriodSurvival = bytesOf "per"
+wordOf CohortExpectancy = bytesOf "ecoh"
+wordOf PeriodExpectancy = bytesOf "eper"
+wordOf (CohortAnnuity rate) = bytesOf "acoh"
+wordOf (PeriodAnnuity rate) = bytesOf "aper"
+
+-- every kind, rates aside: no kind's word begins with another's, so the order decides nothing
+unfoldable pub onOffer : List Kind
+onOffer =
+    Death ∷ CohortSurvival ∷ PeriodSurvival ∷ CohortExpectancy ∷ PeriodExpectancy
+    ∷ CohortAnnuity (pos 0) ∷ PeriodAnnuity (pos 0) ∷ []
+
+-- ---- a query's text
+
+-- the rate of a kind that takes one
+abbrev pub kindRate : Kind → ℤ
+kindRate k = rateOf (ruleOf k .fold)
+
+unfoldable pub rateText : Kind → List ℕ
+rateText k = cond (takesRate k) (bytesOf " rate=" ++ numberText (kindRate k)) []
+
+unfoldable pub queryText : Query → List ℕ
+queryText q =
+    bytesOf "kind=" ++ (wordOf (q .kind) ++ (bytesOf " age=" ++ (numberText (q .age)
+    ++ (bytesOf " year=" ++ (numberText (q .year) ++ (bytesOf " span=" ++ (numberText (q .span) ++ rateText (q .kind))))))))
+
+-- ---- reading
+
+-- the kind whose word stands at the front
+unfoldable pub readWord : List Kind → List ℕ → Parse Kind
+readWord [] bs = malformed
+readWord (k ∷ ks) bs = elim (takeText (wordOf k) bs) [ malformed ↦ readWord ks bs | taken u rest ↦ taken k rest ]
+
+-- a name, and the number behind it
+unfoldable pub readField : List ℕ → List ℕ → Parse ℤ
+readField name bs = andThen (takeText name bs) (λ u rest. readNumber rest)
+
+-- a line of these kinds without ` rate=`, or of another kind with it, is malformed: the kind with the rate that stands at the
+-- front; of a kind that takes none nothing is read
+unfoldable pub readRate : Kind → List ℕ → Parse Kind
+readRate k bs =
+    cond (takesRate k) (andThen (readField (bytesOf " rate=") bs) (λ rate rest. taken (withRate k rate) rest))
+    (taken k bs)
+
+-- a value that nothing follows
+unfoldable pub alone : {A : Type 0} → A → List ℕ → Parse A
+alone a [] = taken a []
+alone a (b ∷ bs) = malformed
+
+-- the query of a whole line
+unfoldable pub readQuery : List ℕ → Parse Query
+readQuery line =
+    andThen (takeText (bytesOf "kind=") line) (λ u after₀.
+    andThen (readWord onOffer after₀) (λ word after₁.
+    andThen (readField (bytesOf " age=") after₁) (λ age after₂.
+    andThen (readField (bytesOf " year=") after₂) (λ year after₃.
+    andThen (readField (bytesOf " span=") after₃) (λ span after₄.
+    andThen (readRate word after₄) (λ kind after₅.
+    andThen (takeText (bytesOf "\n") after₅) (λ v after₆.
+    alone (record { kind = kind; age = age; year = year; span = span }) after₆)))))))

@@ -1,0 +1,67 @@
+-- The parameter set as the definitions read it: through A, B, alpha and beta at an age, whatever its layout.
+use Prim.Native.Nat.{ℕ}
+use lib.IntN.{ℤ, pos}
+use lib.ListN.{getD, length, replicate}
+use mathlib.Core.Path.{_≡_, refl}
+use mathlib.Core.List.{List}
+use Rattle.set_params.specs.declared.Params.{Params}
+use Rattle.set_params.specs.declared.Age.{Age}
+use Rattle.set_params.specs.declared.Sex.the-variants.{M}
+
+-- ages 0 to 90 have parameters
+abbrev pub ages : ℕ
+ages = 91
+
+-- A, B, alpha and beta at age x
+unfoldable pub A : Params → ℕ → ℤ
+A p x = getD (p .level) x (pos 0)
+
+unfoldable pub B : Params → ℕ → ℤ
+B p x = getD (p .slope) x (pos 0)
+
+unfoldable pub alpha : Params → ℕ → ℤ
+alpha p x = getD (p .alpha) x (pos 0)
+
+unfoldable pub beta : Params → ℕ → ℤ
+beta p x = getD (p .beta) x (pos 0)
+
+-- the four together
+abbrev pub ageOf : Params → ℕ → Age
+ageOf p x = record { level = A p x; slope = B p x; alpha = alpha p x; beta = beta p x }
+
+-- the numbers at place x of four runs
+abbrev pub fourAt : List ℤ → List ℤ → List ℤ → List ℤ → ℕ → Age
+fourAt level slope alpha beta x =
+    record {
+      level = getD level x (pos 0);
+      slope = getD slope x (pos 0);
+      alpha = getD alpha x (pos 0);
+      beta = getD beta x (pos 0);
+    }
+
+-- of a set's runs, the age's parameters
+pub four-age : (p : Params) (x : ℕ) → fourAt (p .level) (p .slope) (p .alpha) (p .beta) x ≡ ageOf p x
+unfolding A B alpha beta
+four-age p x = refl
+
+-- each run has one number for each age, as in every set that a program holds
+pub record Whole (p : Params) : Type 0 where
+  pub level : length (p .level) ≡ ages
+  pub slope : length (p .slope) ≡ ages
+  pub alpha : length (p .alpha) ≡ ages
+  pub beta : length (p .beta) ≡ ages
+
+-- sex M and every number 0
+unfoldable pub blank : Params
+blank =
+    record {
+      sex = M;
+      a = pos 0;
+      theta = pos 0;
+      period = pos 0;
+      kappa = pos 0;
+      level = replicate ages (pos 0);
+      slope = replicate ages (pos 0);
+      alpha = replicate ages (pos 0);
+      beta = replicate ages (pos 0);
+    }

@@ -1,0 +1,34 @@
+-- Laws of the refusals' numbers: only what is not refused has the number 0, and each number has one digit.
+use mathlib.Core.Path.{_≡_, refl}
+use Prim.Native.Nat.{_<_}
+use native.Mathlib.Omega.{arith}
+use Rattle.set_refusal.specs.declared.Refusal.{Refusal}
+use Rattle.set_refusal.specs.declared.Refusal.the-variants.{Accepted, Malformed, OutOfLimits, NoSuchAge, NoSuchYear}
+use Rattle.set_refusal.specs.declared.Refusal.the-variants.{NoSuchSpan, LogForceOutOfRange, BufferTooShort, NoSuchRate, MalformedColumn}
+use Rattle.set_refusal.specs.Refusals.{refusalNumber}
+
+pub accepted : (r : Refusal) → refusalNumber r ≡ 0 → r ≡ Accepted
+unfolding refusalNumber
+accepted Accepted e = refl
+accepted Malformed e = absurd (omega arith)
+accepted OutOfLimits e = absurd (omega arith)
+accepted NoSuchAge e = absurd (omega arith)
+accepted NoSuchYear e = absurd (omega arith)
+accepted NoSuchSpan e = absurd (omega arith)
+accepted LogForceOutOfRange e = absurd (omega arith)
+accepted BufferTooShort e = absurd (omega arith)
+accepted NoSuchRate e = absurd (omega arith)
+accepted MalformedColumn e = absurd (omega arith)
+
+pub number-small : (r : Refusal) → refusalNumber r < 10
+unfolding refusalNumber
+number-small Accepted = omega arith
+number-small Malformed = omega arith
+number-small OutOfLimits = omega arith
+number-small NoSuchAge = omega arith
+number-small NoSuchYear = omega arith
+number-small NoSuchSpan = omega arith
+number-small LogForceOutOfRange = omega arith
+number-small BufferTooShort = omega arith
+number-small NoSuchRate = omega arith
+number-small MalformedColumn = omega arith

@@ -1,0 +1,4 @@
+pub mod SetTrip
+pub mod SheetTrip
+pub mod ResultLaws
+pub mod FourLaws

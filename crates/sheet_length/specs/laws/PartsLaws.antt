@@ -1,0 +1,87 @@
+-- Laws of a sheet's parts: how they make up the sheet, and how long they are.
+use mathlib.Core.Path.{_≡_, refl, ap}
+use mathlib.Core.List.{List, [], _∷_, _++_, append-assoc}
+use Prim.Native.Nat.{ℕ, zero, suc, _+_, _≤_}
+use native.Mathlib.Nat.{eq-or-lt-of-le, le-of-suc-le-suc}
+use mathlib.Core.Logic.{⊎-elim}
+use native.Mathlib.Omega.{arith}
+use lib.IntN.{ℤ}
+use lib.ListN.{length, length-append}
+use Rattle.text_tokens.specs.Text.{bytesOf}
+use Rattle.text_tokens.specs.Number.{unsignedText}
+use Rattle.set_params.specs.declared.Params.{Params}
+use Rattle.set_params.specs.declared.Age.{Age}
+use Rattle.set_params.specs.Set.{ages, ageOf}
+use Rattle.sheet.specs.Sheet.{headBytes, forAges, ageKeys, keys, ageValues, values, lineText, linesText, headText, sheetText}
+use Rattle.sheet.specs.laws.SheetTrip.{head-length}
+use Rattle.sheet_length.specs.code.Parts.{lineLength, seriesText, ageText, agesText}
+
+-- ---- lines, and then lines
+
+lines-append : (ks ks′ : List (List ℕ)) (vs vs′ : List ℤ) → length ks ≡ length vs
+    → linesText (ks ++ ks′) (vs ++ vs′) ≡ linesText ks vs ++ linesText ks′ vs′
+unfolding linesText
+lines-append [] ks′ [] vs′ h = refl
+lines-append [] ks′ (v ∷ vs) vs′ h = absurd (omega arith)
+lines-append (k ∷ ks) ks′ [] vs′ h = absurd (omega arith)
+lines-append (k ∷ ks) ks′ (v ∷ vs) vs′ h =
+    rw (lines-append ks ks′ vs vs′ (omega arith), append-assoc (lineText k v) (linesText ks vs) (linesText ks′ vs′))
+
+-- as many keys as values
+even : (p : Params) (n : ℕ) → length (forAges ageKeys n) ≡ length (forAges (ageValues p) n)
+unfolding forAges ageKeys ageValues
+even p zero = refl
+even p (suc n) = simp length-append (omega (arith, even p n))
+
+-- ---- ages
+
+pub ages-none : (p : Params) → agesText p 0 ≡ []
+unfolding agesText forAges linesText
+ages-none p = refl
+
+pub ages-more : (p : Params) (n : ℕ) → agesText p (suc n) ≡ agesText p n ++ ageText (ageOf p n) n
+unfolding agesText ageText forAges ageValues
+ages-more p n = lines-append (forAges ageKeys n) (ageKeys n) (forAges (ageValues p) n) (ageValues p n) (even p n)
+
+pub ages-step : (p : Params) (n : ℕ) → length (agesText p (suc n)) ≡ length (agesText p n) + length (ageText (ageOf p n) n)
+ages-step p n = rw (ages-more p n, length-append)
+
+-- more ages have no fewer bytes
+pub ages-grow : (p : Params) (m n : ℕ) → m ≤ n → length (agesText p m) ≤ length (agesText p n)
+ages-grow p m zero h = let e : m ≡ 0 = omega arith in rw e (omega arith)
+ages-grow p m (suc n) h =
+    ⊎-elim (λ e. rw e (omega arith))
+    (λ l. omega (arith, ages-step p n, ages-grow p m n (le-of-suc-le-suc l)))
+    (eq-or-lt-of-le h)
+
+-- ---- the whole
+
+pub sheet-parts : (p : Params) → sheetText p ≡ headText (p .sex) ++ (seriesText p ++ agesText p ages)
+unfolding sheetText keys values seriesText agesText
+sheet-parts p =
+    ap (λ (t : List ℕ). headText (p .sex) ++ t)
+    (lines-append (bytesOf "a" ∷ bytesOf "theta" ∷ bytesOf "K" ∷ bytesOf "k" ∷ []) (forAges ageKeys ages)
+    (p .a ∷ p .theta ∷ p .period ∷ p .kappa ∷ []) (forAges (ageValues p) ages) refl)
+
+-- ---- lengths
+
+pub sheet-sum : (p : Params) → length (sheetText p) ≡ headBytes + length (seriesText p) + length (agesText p ages)
+sheet-sum p = rw (sheet-parts p) (simp (length-append, head-length) (omega arith))
+
+-- a key, `=`, a number and a line feed
+line-length : (key : List ℕ) (v : ℤ) → length (lineText key v) ≡ lineLength (length key) v
+unfolding lineText bytesOf
+line-length key v = simp length-append (omega arith)
+
+pub series-length : (p : Params)
+    → length (seriesText p)
+    ≡ lineLength 1 (p .a) + lineLength 5 (p .theta) + lineLength 1 (p .period) + lineLength 1 (p .kappa)
+unfolding seriesText linesText bytesOf
+series-length p = simp (length-append, line-length) (omega arith)
+
+pub age-length : (a : Age) (x : ℕ) → let d = length (unsignedText x) in
+    length (ageText a x)
+    ≡ lineLength (2 + d) (a .level) + lineLength (2 + d) (a .slope) + lineLength (3 + d) (a .alpha)
+    + lineLength (3 + d) (a .beta)
+unfolding ageText linesText ageKeys bytesOf
+age-length a x = simp (length-append, line-length) (omega arith)

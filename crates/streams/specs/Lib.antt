@@ -1,2 +1,0 @@
--- definitions
-pub mod Streams

@@ -1,4 +1,0 @@
--- definitions
-pub mod TableTests
--- laws
-pub mod TableLaws

@@ -1,0 +1,2 @@
+pub mod DigitWord
+pub mod Parts

@@ -1,0 +1,3 @@
+pub mod NumberLengths
+pub mod OverwrittenLaws
+pub mod PutLaws

@@ -1,0 +1,5 @@
+pub mod Text
+pub mod Number
+pub mod code
+pub mod laws
+pub mod examples

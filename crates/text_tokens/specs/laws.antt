@@ -1,0 +1,9 @@
+pub mod Steps
+pub mod TextLaws
+pub mod DigitLaws
+pub mod DecimalLaws
+pub mod NumberLaws
+pub mod ReadLaws
+pub mod RunLaws
+pub mod NumberTrip
+pub mod FixedLaws

@@ -1,2 +1,0 @@
-pub mod Claim
-pub mod ClaimLaws

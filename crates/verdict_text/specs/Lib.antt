@@ -1,4 +1,0 @@
--- definitions
-pub mod VerdictText
--- laws
-pub mod Lengths
