@@ -1,4 +1,4 @@
--- Laws of the refusals' numbers: only what is not refused has the number 0, and each number has one digit.
+-- Laws of the refusals' numbers: only what is not refused has the number 0, and each number has at most two digits.
 use mathlib.Core.Path.{_≡_, refl}
 use Prim.Native.Nat.{_<_}
 use native.Mathlib.Omega.{arith}
@@ -20,7 +20,7 @@ accepted BufferTooShort e = absurd (omega arith)
 accepted NoSuchRate e = absurd (omega arith)
 accepted MalformedColumn e = absurd (omega arith)
 
-pub number-small : (r : Refusal) → refusalNumber r < 10
+pub number-small : (r : Refusal) → refusalNumber r < 100
 unfolding refusalNumber
 number-small Accepted = omega arith
 number-small Malformed = omega arith
