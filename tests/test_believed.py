@@ -1,5 +1,6 @@
-"""What has to be believed, by tools/believed: the definitions that the public contracts reach stand apart from laws, README.md has
-their number, and the tool sees a law that a definition imports, a word of an inner contract, and a call that is not there."""
+"""What has to be believed, by tools/believed: the definitions that the public contracts reach stand apart from laws and nothing
+else stands with them, README.md has their number, and the tool sees a law that a definition imports, a word of an inner contract,
+and a call that is not there."""
 import pathlib
 import re
 import shutil
@@ -44,6 +45,11 @@ def main():
     hold("few enough to read", 0 < files <= MOST_FILES and 0 < count <= MOST_LINES)
     hold("README.md has the number", f"{files} files of {count:,} lines" in (ROOT / "README.md").read_text())
     hold("each file once, with its lines", sum(int(line.split()[0]) for line in lines[:-1]) == count and len(set(lines)) == files + 1)
+
+    reached = {line.split()[1] for line in lines[:-1]}
+    above = {str(path.relative_to(ROOT)) for path in (ROOT / "crates").glob("*/specs/*.antt")}
+    lists = {"Lib.antt", "code.antt", "laws.antt", "examples.antt"}
+    hold("no other file stands with the definitions", {path for path in above if pathlib.Path(path).name not in lists} == reached)
 
     law = "use Rattle.number_exponential.specs.laws.Soundness.{lower-sound}\n"
     word = "use Rattle.text_printing.specs.code.Put.{Put}\n"
