@@ -1,6 +1,7 @@
 /* The grid of paper 01, with the half steps of paper 02, E4, in plain C, for comparison of speed: same terms, same roundings,
    no proofs. The functions with long sums are not marked inline: gcc's code is slower by a tenth where it inlines them
-   everywhere. */
+   everywhere. Sums stop where their terms have run out, as the library's do: from a lower one of 0 and an upper one of at most
+   1 on, what is left is a count. */
 #ifndef GRID_H
 #define GRID_H
 #include "params.h"
@@ -27,30 +28,36 @@ static inline int64_t ceil_div(int64_t n, int64_t d) { return n > 0 ? 1 + (n - 1
 
 static uint64_t exp_lower(uint64_t z) {
     if (z >= 21 * UNIT) return 0;
-    uint64_t f = z % STEP, low = UNIT, high = UNIT, evens = UNIT, odds = 0;
-    for (uint64_t k = 1; k < 13; k += 2) {
+    uint64_t f = z % STEP, low = UNIT, high = UNIT, evens = UNIT, odds = 0, k = 1;
+    for (; k < 13; k += 2) {
         uint64_t odd = up(high * f, k * UNIT);
         low = low * f / (k * UNIT) * f / ((k + 1) * UNIT);
         high = up(odd * f, (k + 1) * UNIT);
         evens += low;
         odds += odd;
+        if (high < 2 && low == 0) break;
     }
-    odds += up(high * f, 13 * UNIT);
+    odds += k < 13 ? high * ((13 - k) / 2) : up(high * f, 13 * UNIT);
     return (evens - odds) * whole_parts[z / STEP] / UNIT;
 }
 
 static uint64_t exp_upper(uint64_t z) {
     if (z >= 21 * UNIT) return 1;
-    uint64_t f = z % STEP, n = z / STEP, low = UNIT, high = UNIT, evens = UNIT, odds = 0;
-    for (uint64_t k = 1; k < 11; k += 2) {
+    uint64_t f = z % STEP, n = z / STEP, low = UNIT, high = UNIT, evens = UNIT, odds = 0, k = 1;
+    for (; k < 11; k += 2) {
         uint64_t odd = low * f / (k * UNIT);
         low = odd * f / ((k + 1) * UNIT);
         high = up(up(high * f, k * UNIT) * f, (k + 1) * UNIT);
         evens += high;
         odds += odd;
+        if (high < 2 && low == 0) break;
     }
-    odds += low * f / (11 * UNIT);
-    evens += up(up(high * f, 11 * UNIT) * f, 12 * UNIT);
+    if (k < 11) {
+        evens += high * ((11 - k) / 2);
+    } else {
+        odds += low * f / (11 * UNIT);
+        evens += up(up(high * f, 11 * UNIT) * f, 12 * UNIT);
+    }
     uint64_t sum = evens - odds;
     if (sum > UNIT) sum = UNIT;
     return n == 0 ? sum : up(sum * (whole_parts[n] + 1), UNIT);
@@ -76,6 +83,10 @@ static ends log_between(ends u) {
         power.upper = up(u.upper * power.upper, UNIT);
         sum.lower += power.lower / k;
         sum.upper += up(power.upper, k);
+        if (power.upper < 2 && power.lower == 0) {
+            sum.upper += power.upper * (29 - k);
+            return sum;
+        }
     }
     sum.upper += up(2 * up(u.upper * power.upper, UNIT), 29);
     return sum;

@@ -1,5 +1,5 @@
 -- What the two loops have after k terms: the k-th power and the sum of k terms, each with the bound by which it fits.
-use mathlib.Core.Path.{_≡_, refl, ap, _∙_}
+use mathlib.Core.Path.{_≡_, refl, sym, ap, _∙_}
 use Prim.Native.Nat.{ℕ, suc, _+_, _-_, _*_, _/_, _≤_, _<_}
 use native.Mathlib.Nat.{mul-le-mul, le-refl, div-le-self}
 use native.Mathlib.Numerals.{add-one}
@@ -10,6 +10,7 @@ use Rattle.number_whole.specs.laws.DivisionLaws.{ceilℕ-least}
 use Rattle.number_exponential.specs.Billionths.{billionths}
 use Rattle.model_logarithm.specs.Logarithm.{powerLower, powerUpper, logTermsLower, logTermsUpper, logRest, logLower, logUpper}
 use Rattle.model_logarithm.specs.laws.Powers.{power-lower-bound, power-upper-bound}
+use Rattle.model_logarithm.specs.laws.RunOut.{lower-run, upper-run}
 
 -- the powers are those of `powers` and the sums those of `sums`
 pub record Steps (powers sums : ℕ → ℕ) (power sum k : ℕ) : Type 0 where
@@ -102,3 +103,17 @@ pub upper-done : {u power sum k : ℕ} → u ≤ billionths .unit → UpperSteps
     → sum + ceilDivℕ (2 * ceilDivℕ (u * power) (billionths .unit)) (suc (billionths .logTerms)) ≡ logUpper billionths u
 unfolding logUpper logRest
 upper-done {u} h p e = rw (upper-next h p .0, p .sum-is, e)
+
+-- after a term from which on the powers are 0, and at most 1
+pub lower-out : (u : ℕ) {power sum k : ℕ} → LowerSteps u power sum k → power ≡ 0 → sum ≡ logLower billionths u
+unfolding logLower
+lower-out u {k = k} p z =
+    let e : k + (billionths .logTerms - k) ≡ billionths .logTerms = omega (arith, p .counted) in
+    p .sum-is ∙ sym (lower-run billionths u k _ (sym (p .power-is) ∙ z)) ∙ ap (logTermsLower billionths u) e
+
+pub upper-out : (k : ℕ) {u power sum : ℕ} → u ≤ billionths .unit → UpperSteps u power sum (k + 1) → power ≤ 1
+    → sum + power * (suc (billionths .logTerms) - (k + 1)) ≡ logUpper billionths u
+upper-out k {u} {power} {sum} h p s =
+    let q = rw (add-one k) at p in
+    rw (add-one k) (ap (λ (n : ℕ). n + power * (suc (billionths .logTerms) - suc k)) (q .sum-is)
+    ∙ sym (upper-run billionths u h k s (sym (q .power-is)) (q .counted)))

@@ -9,3 +9,4 @@ pub mod Width
 pub mod Narrowing
 pub mod Force
 pub mod BillionthsFacts
+pub mod RunOut

@@ -9,8 +9,8 @@ use number_exponential::UNIT;
 // The number of terms.
 pub const TERMS: u64 = 28;
 
-// Both ends in one loop. The lower one: powers and quotients rounded down.
-// The upper one: powers and quotients rounded up, and twice the next power over its place.
+// Both ends in one loop. The lower one: powers and quotients rounded down. The upper one: powers and quotients rounded up, and
+// twice the next power over its place. From powers of 0 and of at most 1 on, what is left is a count.
 pub fn log_between(u: Ends) -> Ends
     requires { ⌜ (u .lower ≤ billionths .unit) × (u .upper ≤ billionths .unit) ⌝ }
     ensures { λ r. ⌜ (r .lower ≡ logLower billionths (u .lower)) × (r .upper ≡ logUpper billionths (u .upper)) ⌝ }
@@ -28,6 +28,14 @@ pub fn log_between(u: Ends) -> Ends
         least += down / (k + 1);
         most += (up + k) / (k + 1);
         k += 1;
+        if up < 2 {
+            if down == 0 {
+                return Ends {
+                    lower: least,
+                    upper: most + up * (TERMS + 1 - k),
+                };
+            }
+        }
     }
     let rest = 2 * ((high * up + (UNIT - 1)) / UNIT);
     Ends {

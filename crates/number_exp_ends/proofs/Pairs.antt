@@ -1,7 +1,7 @@
 -- What the two sums of terms have on the way: the ends of term 2i, the sum of the even terms to 2i and that of the odd
 -- terms below 2i, each with the bound by which it fits.
-use mathlib.Core.Path.{_≡_, refl, sym, ap₂, _∙_}
-use Prim.Native.Nat.{ℕ, suc, _+_, _-_, _*_, _≤_, min, pred}
+use mathlib.Core.Path.{_≡_, refl, sym, ap, ap₂, _∙_}
+use Prim.Native.Nat.{ℕ, suc, _+_, _-_, _*_, _≤_, _<_, min, pred}
 use native.Mathlib.Nat.{le-refl}
 use native.Mathlib.Numerals.{add-one}
 use native.Mathlib.Omega.{arith}
@@ -12,6 +12,7 @@ use Rattle.number_exponential.specs.Billionths.{billionths}
 use Rattle.number_exponential.specs.laws.Terms.{term-lower-bound, term-upper-bound}
 use Rattle.number_exponential.specs.laws.Sums.{evenTotal, oddTotal, evens-even, evens-odd, odds-even, odds-odd}
 use Rattle.number_exponential.specs.laws.NearSums.{lower-kept, upper-kept}
+use Rattle.number_exponential.specs.laws.RunOut.{term-lower-stays, term-upper-stays, even-run, odd-run}
 use Rattle.number_exponential.specs.laws.BillionthsFacts.{billionths-sound, billionths-narrow}
 
 -- t is a's term j, and no more than the unit
@@ -112,3 +113,59 @@ upper-sum f {low} {high} {E} {O} {x} {y} h p s t =
     let b : odds (termLower billionths f) (billionths .lastUpper) ≡ O + x =
     odds-even (termLower billionths f) 6 (billionths .lastUpper) refl ∙ sym (ap₂ _+_ (p .odds-are) (s .is)) in
     (omega (arith, upper-kept billionths billionths-sound billionths-narrow f h), rw (a, b))
+
+-- ---- where the terms have run out, after j + 1 pairs
+
+module _ {f low high E O : ℕ} {a b : ℕ → ℕ} (j : ℕ) (small : f ≤ billionths .unit) (p : Pairs f a b low high E O (j + 1))
+  where
+    -- each further term's ends
+    lower-left : low ≡ 0 → (m : ℕ) → termLower billionths f (double (suc j) + m) ≡ 0
+    lower-left z m =
+        let q = rw (add-one j) at p in
+        term-lower-stays billionths f (double (suc j)) m (sym (q .lower .is) ∙ z)
+
+    upper-left : high ≤ 1 → (m : ℕ) → termUpper billionths f (double (suc j) + m) ≡ high
+    unfolding double
+    upper-left h m =
+        let q = rw (add-one j) at p in
+        term-upper-stays billionths f small (suc (double j)) m h (sym (q .upper .is))
+
+    -- the sums of n pairs more
+    evens-left : (c n k : ℕ) → j + 1 + n ≡ k → ((m : ℕ) → a (double (suc j) + m) ≡ c) → evenTotal a k ≡ E + n * c
+    evens-left c n k e h =
+        let q = rw (add-one j) at p in
+        let d : k ≡ suc j + n = omega arith in
+        ap (evenTotal a) d ∙ even-run a c (suc j) n h ∙ ap (λ (s : ℕ). s + n * c) (sym (q .evens-are))
+
+    odds-left : (c n k : ℕ) → j + 1 + n ≡ k → ((m : ℕ) → b (double (suc j) + m) ≡ c) → oddTotal b k ≡ O + n * c
+    odds-left c n k e h =
+        let q = rw (add-one j) at p in
+        let d : k ≡ suc j + n = omega arith in
+        ap (oddTotal b) d ∙ odd-run b c (suc j) n h ∙ ap (λ (s : ℕ). s + n * c) (sym (q .odds-are))
+
+pub lower-out : (f j : ℕ) {low high E O : ℕ} → f ≤ billionths .unit → LowerPairs f low high E O (j + 1) → j < 6 → low ≡ 0
+    → high ≤ 1 → (O + high * (7 - (j + 1)) ≤ E) × (E - (O + high * (7 - (j + 1))) ≡ sumLower billionths f)
+unfolding sumLower double
+lower-out f j {low} {high} {E} {O} h p l z s =
+    let a : evens (termLower billionths f) (billionths .lastLower) ≡ E + (6 - (j + 1)) * 0 =
+    evens-odd (termLower billionths f) 6 (billionths .lastLower) refl ∙ evens-left j h p 0 (6 - (j + 1)) 6 (omega arith) (lower-left j h p z) in
+    let b : odds (termUpper billionths f) (billionths .lastLower) ≡ O + (7 - (j + 1)) * high =
+    odds-odd (termUpper billionths f) 6 (billionths .lastLower) refl ∙ odds-left j h p high (7 - (j + 1)) 7 (omega arith) (upper-left j h p s) in
+    let k = lower-kept billionths billionths-sound billionths-narrow f h in
+    let d : evens (termLower billionths f) (billionths .lastLower) ≡ E = omega (arith, a) in
+    let e : odds (termUpper billionths f) (billionths .lastLower) ≡ O + high * (7 - (j + 1)) = omega (arith, b) in
+    (omega (arith, k, d, e), rw (d, e))
+
+pub upper-out : (f j : ℕ) {low high E O : ℕ} → f ≤ billionths .unit → UpperPairs f low high E O (j + 1) → j < 5 → low ≡ 0
+    → high ≤ 1
+    → (O ≤ E + high * (6 - (j + 1))) × (min (billionths .unit) (E + high * (6 - (j + 1)) - O) ≡ sumUpper billionths f)
+unfolding sumUpper double
+upper-out f j {low} {high} {E} {O} h p l z s =
+    let a : evens (termUpper billionths f) (billionths .lastUpper) ≡ E + (6 - (j + 1)) * high =
+    evens-even (termUpper billionths f) 6 (billionths .lastUpper) refl ∙ evens-left j h p high (6 - (j + 1)) 6 (omega arith) (upper-left j h p s) in
+    let b : odds (termLower billionths f) (billionths .lastUpper) ≡ O + (6 - (j + 1)) * 0 =
+    odds-even (termLower billionths f) 6 (billionths .lastUpper) refl ∙ odds-left j h p 0 (6 - (j + 1)) 6 (omega arith) (lower-left j h p z) in
+    let k = upper-kept billionths billionths-sound billionths-narrow f h in
+    let d : evens (termUpper billionths f) (billionths .lastUpper) ≡ E + high * (6 - (j + 1)) = omega (arith, a) in
+    let e : odds (termLower billionths f) (billionths .lastUpper) ≡ O = omega (arith, b) in
+    (omega (arith, k, d, e), rw (d, e))

@@ -1,9 +1,10 @@
 // The exponential of −z on the grid of 10^-9, for any z in units: one function for the lower end, one for the upper end.
-// Each takes a sum of the exponential's terms for f up to 1, which works only the terms that it needs.
+// Each takes a sum of the exponential's terms for f up to 1, which works only the terms that it needs; from terms of 0 and of at
+// most 1 on, what is left of it is a count.
 ghost use mathlib.Core.Path.{_≡_};
 ghost use Rattle.number_exponential.specs.Billionths.{billionths};
 ghost use Rattle.number_exponential.specs.Exponential.{expLower, expUpper, expBetween, nextLower, nextUpper, sumLower, sumUpper};
-ghost use Prim.Native.Nat.{_≤_};
+ghost use Prim.Native.Nat.{_≤_, min};
 ghost use Rattle.number_exp_ends.specs.code.Code.{TermRange};
 use number_exponential::CUTOFF;
 use number_exponential::Ends;
@@ -91,8 +92,23 @@ pub fn sum_lower(f: u64) -> u64
         evens += low;
         odds += odd;
         i += 1;
+        if high < 2 {
+            if low == 0 {
+                return evens - (odds + high * (7 - i));
+            }
+        }
     }
     evens - (odds + next_upper(high, f, 13))
+}
+
+// A sum, and 1 where it is more.
+fn capped(sum: u64) -> u64
+    ensures { λ r. ⌜ r ≡ min (billionths .unit) sum ⌝ }
+{
+    if sum < UNIT {
+        return sum;
+    }
+    UNIT
 }
 
 // The even terms' upper ends less the odd terms' lower ends, to term 12, capped at 1.
@@ -113,14 +129,15 @@ pub fn sum_upper(f: u64) -> u64
         evens += high;
         odds += odd;
         i += 1;
+        if high < 2 {
+            if low == 0 {
+                return capped(evens + high * (6 - i) - odds);
+            }
+        }
     }
     odds += next_lower(low, f, 11);
     evens += next_upper(next_upper(high, f, 11), f, 12);
-    let sum = evens - odds;
-    if sum < UNIT {
-        return sum;
-    }
-    UNIT
+    capped(evens - odds)
 }
 
 // The lower end of the exponential of −z. Below the first step the constant is 1, and the sum is the answer.

@@ -11,3 +11,4 @@ pub mod Width
 pub mod AtMostOne
 pub mod BillionthsFacts
 pub mod OutwardLaws
+pub mod RunOut

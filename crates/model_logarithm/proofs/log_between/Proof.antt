@@ -4,8 +4,9 @@ use Prim.Native.Nat.{_-_}
 use native.Mathlib.Omega.{arith}
 use Rattle.number_whole.specs.Division.{ceilDivℕ}
 use Rattle.number_exponential.specs.Billionths.{billionths}
+use Rattle.number_exponential.specs.laws.RunOut.{count-fits, sum-fits}
 use Rattle.model_logarithm.proofs.Steps.{LowerSteps, UpperSteps, lower-none, upper-none, product-small}
-use Rattle.model_logarithm.proofs.Steps.{lower-more, upper-next, upper-more, lower-done, upper-done}
+use Rattle.model_logarithm.proofs.Steps.{lower-more, upper-next, upper-more, lower-done, upper-done, lower-out, upper-out}
 use Rattle.model_logarithm.proofs.log_between.Statement.{statement}
 use Rattle.model_logarithm.proofs.log_between.Tie as tie
 
@@ -38,12 +39,43 @@ add-most-3 : tie.Need-add-most-3 Inv-loop μ-loop
 unfolding ceilDivℕ
 add-most-3 c = omega (arith, upper-more (c .before .before .pre .1) (c .before .loop .inv .1) (omega arith) .sum-small)
 
+-- ---- where the powers have run out
+
+add-t18 : tie.Need-add-t18 Inv-loop μ-loop
+unfolding ceilDivℕ
+add-t18 c =
+    let b = c .before .before in
+    let s = upper-more (b .before .before .pre .1) (b .before .loop .inv .1) (omega arith) .sum-small in
+    sum-fits _ _ (omega arith) (omega arith) (omega (arith, c .before .if1 .taken))
+
+mul-t17 : tie.Need-mul-t17 Inv-loop μ-loop
+mul-t17 c = count-fits _ (omega arith) (omega (arith, c .before .if1 .taken))
+
+returns : tie.Need-returns Inv-loop μ-loop
+unfolding ceilDivℕ
+returns c =
+    let b = c .before .before in (
+      lower-out _ (lower-more (b .before .before .pre .0) (b .before .loop .inv .0) (omega arith)) (c .if2 .taken),
+      upper-out (b .before .loop .k) (b .before .before .pre .1) (upper-more (b .before .before .pre .1) (b .before .loop .inv .1) (omega arith)) (omega arith),
+    )
+
+-- ---- one term more
+
 loop-again : tie.Need-loop-again Inv-loop μ-loop
 unfolding ceilDivℕ
-loop-again c = (
-  lower-more (c .before .before .pre .0) (c .before .loop .inv .0) (omega arith),
-  upper-more (c .before .before .pre .1) (c .before .loop .inv .1) (omega arith),
-)
+loop-again c =
+    let b = c .before .before in (
+      lower-more (b .before .before .pre .0) (b .before .loop .inv .0) (omega arith),
+      upper-more (b .before .before .pre .1) (b .before .loop .inv .1) (omega arith),
+    )
+
+loop-again-2 : tie.Need-loop-again-2 Inv-loop μ-loop
+unfolding ceilDivℕ
+loop-again-2 c =
+    let b = c .before in (
+      lower-more (b .before .before .pre .0) (b .before .loop .inv .0) (omega arith),
+      upper-more (b .before .before .pre .1) (b .before .loop .inv .1) (omega arith),
+    )
 
 mul-rest : tie.Need-mul-rest Inv-loop μ-loop
 mul-rest c = omega (arith, product-small (c .before .before .pre .1) (c .before .loop .inv .1 .power-small))
@@ -55,17 +87,17 @@ mul-rest-2 : tie.Need-mul-rest-2 Inv-loop μ-loop
 unfolding ceilDivℕ
 mul-rest-2 c = omega (arith, upper-next (c .before .before .pre .1) (c .before .loop .inv .1) .1)
 
-add-t14 : tie.Need-add-t14 Inv-loop μ-loop
+add-t19 : tie.Need-add-t19 Inv-loop μ-loop
 unfolding ceilDivℕ
-add-t14 c = omega (arith, upper-next (c .before .before .pre .1) (c .before .loop .inv .1) .1)
+add-t19 c = omega (arith, upper-next (c .before .before .pre .1) (c .before .loop .inv .1) .1)
 
-add-t15 : tie.Need-add-t15 Inv-loop μ-loop
+add-t20 : tie.Need-add-t20 Inv-loop μ-loop
 unfolding ceilDivℕ
-add-t15 c = omega (arith, upper-next (c .before .before .pre .1) (c .before .loop .inv .1) .1)
+add-t20 c = omega (arith, upper-next (c .before .before .pre .1) (c .before .loop .inv .1) .1)
 
-returns : tie.Need-returns Inv-loop μ-loop
+returns-2 : tie.Need-returns-2 Inv-loop μ-loop
 unfolding ceilDivℕ
-returns c = (
+returns-2 c = (
   lower-done _ (c .before .loop .inv .0) (omega arith),
   upper-done (c .before .before .pre .1) (c .before .loop .inv .1) (omega arith),
 )
@@ -75,5 +107,6 @@ log-between-spec =
     tie.close
     (tie.spec Inv-loop μ-loop loop-holds mul-down mul-up (λ c. omega arith) add-up (λ c. omega arith) (λ c. omega arith)
     add-least-2 add-most (λ c. omega arith) (λ c. omega arith) add-most-3 (λ c. omega arith) (λ c. omega arith)
-    loop-again mul-rest (λ c. omega arith) add-rest mul-rest-2 add-t14 (λ c. omega arith) (λ c. omega arith) add-t15
-    returns)
+    (λ c. omega arith) mul-t17 add-t18 returns (λ c. omega arith) loop-again (λ c. omega arith) loop-again-2
+    mul-rest (λ c. omega arith) add-rest mul-rest-2 add-t19 (λ c. omega arith) (λ c. omega arith) add-t20
+    returns-2)

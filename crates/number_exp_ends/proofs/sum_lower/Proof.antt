@@ -1,13 +1,15 @@
 -- `sum_lower` meets its contract. The loop's invariant: i pairs of terms are summed, the even ones by their lower ends and
 -- the odd ones by their upper ends; the measure is the pairs left.
-use mathlib.Core.Path.{refl}
-use Prim.Native.Nat.{ℕ, suc, _-_, _≤_}
+use mathlib.Core.Path.{_≡_, refl}
+use Prim.Native.Nat.{ℕ, suc, _+_, _-_, _*_, _≤_}
 use native.Mathlib.Omega.{arith}
 use borrow.Author.Needs.{needs}
 use Rattle.number_taylor.specs.Alternating.{double}
-use Rattle.number_exponential.specs.Exponential.{termLower}
+use Rattle.number_exponential.specs.Exponential.{termLower, sumLower}
+use Rattle.number_exponential.specs.Billionths.{billionths}
 use Rattle.number_exponential.specs.laws.Sums.{double-two}
-use Rattle.number_exp_ends.proofs.Pairs.{Lower, Upper, LowerPairs, none, more, all, lower-next, upper-next, lower-sum}
+use Rattle.number_exponential.specs.laws.RunOut.{count-fits, sum-fits}
+use Rattle.number_exp_ends.proofs.Pairs.{Lower, Upper, LowerPairs, none, more, all, lower-next, upper-next, lower-sum, lower-out}
 use Rattle.number_exp_ends.proofs.sum_lower.Statement.{statement}
 use Rattle.number_exp_ends.proofs.sum_lower.Tie as tie
 
@@ -74,22 +76,49 @@ add-evens c = omega (arith, even-lower (c .before))
 add-odds : tie.Need-add-odds Inv-loop μ-loop
 add-odds c = omega (arith, odd-upper (c .before .before .before))
 
-loop-again : tie.Need-loop-again Inv-loop μ-loop
-loop-again c =
-    let l = even-lower (c .before) in (
-      more (c .before .before .before .before .before .loop .inv .0) l (even-upper c) l (odd-upper (c .before .before .before)),
-      omega arith,
-    )
+-- the pairs after a turn
+abbrev turned : (c : tie.After-next-upper2 Inv-loop μ-loop) → let l = c .before .before .before .before .before .loop in
+    LowerPairs (at (c .before .before .before .before)) (c .before .next-lower2 .result) (c .next-upper2 .result)
+    (l .evens + c .before .next-lower2 .result) (l .odds + c .before .before .before .next-upper .result) (l .i + 1)
+turned c =
+    let l = even-lower (c .before) in
+    more (c .before .before .before .before .before .loop .inv .0) l (even-upper c) l (odd-upper (c .before .before .before))
+
+-- ---- where the terms have run out
+
+left : (c : tie.Then2 Inv-loop μ-loop) → let u = c .before .before in let l = u .before .before .before .before .before .loop in
+    let o = l .odds + u .before .before .before .next-upper .result + u .next-upper2 .result * (7 - (l .i + 1)) in
+    let e = l .evens + u .before .next-lower2 .result in
+    (o ≤ e) × (e - o ≡ sumLower billionths (at (u .before .before .before .before)))
+left c =
+    let u = c .before .before in
+    let b = u .before .before .before .before .before in
+    lower-out _ (b .loop .i) (b .before .pre) (turned u) (omega arith) (c .if2 .taken) (omega (arith, c .before .if1 .taken))
+
+mul-result : tie.Need-mul-result Inv-loop μ-loop
+mul-result c = count-fits _ (omega arith) (omega (arith, c .before .if1 .taken))
 
 add-result : tie.Need-add-result Inv-loop μ-loop
-add-result c = omega (arith, last-upper c)
+add-result c =
+    let s = turned (c .before .before) .odds-small in sum-fits _ _ (omega arith) (omega arith) (omega (arith, c .before .if1 .taken))
 
-sub-result : tie.Need-sub-result Inv-loop μ-loop
-sub-result c =
+-- ---- one turn more, and after the last
+
+loop-again : tie.Need-loop-again Inv-loop μ-loop
+loop-again c = (turned (c .before .before), omega arith)
+
+loop-again-2 : tie.Need-loop-again-2 Inv-loop μ-loop
+loop-again-2 c = (turned (c .before), omega arith)
+
+add-result-2 : tie.Need-add-result-2 Inv-loop μ-loop
+add-result-2 c = omega (arith, last-upper c)
+
+sub-result-3 : tie.Need-sub-result-3 Inv-loop μ-loop
+sub-result-3 c =
     lower-sum _ (c .before .before .before .pre) (six (c .before)) (last-upper c) .0
 
-returns : tie.Need-returns Inv-loop μ-loop
-returns c =
+returns-2 : tie.Need-returns-2 Inv-loop μ-loop
+returns-2 c =
     lower-sum _ (c .before .before .before .pre) (six (c .before)) (last-upper c) .1
 
 pub sum-lower-spec : {M : Type 1} → statement M
@@ -97,4 +126,6 @@ sum-lower-spec =
     tie.close
     (tie.spec Inv-loop μ-loop loop-holds (λ c. omega arith) (λ c. omega arith) (λ c κs. search needs)
     (λ c κs. search needs) (λ c. omega arith) next-lower-requires-2 (λ c. omega arith) next-upper-requires-2 add-evens
-    add-odds (λ c. omega arith) (λ c. omega arith) loop-again (λ c κs. search needs) add-result sub-result returns)
+    add-odds (λ c. omega arith) (λ c. omega arith) mul-result add-result (λ c. left c .0) (λ c. left c .1)
+    (λ c. omega arith) loop-again (λ c. omega arith) loop-again-2 (λ c κs. search needs) add-result-2 sub-result-3
+    returns-2)

@@ -1,15 +1,15 @@
 -- `sum_upper` meets its contract. The loop's invariant: i pairs of terms are summed, the even ones by their upper ends and
 -- the odd ones by their lower ends; the measure is the pairs left.
-use mathlib.Core.Path.{_≡_, refl, sym, _∙_}
-use Prim.Native.Nat.{ℕ, suc, _+_, _-_, _≤_, min}
-use native.Mathlib.Nat.{min-eq-left, min-eq-right, le-of-lt}
+use mathlib.Core.Path.{_≡_, refl, _∙_}
+use Prim.Native.Nat.{ℕ, suc, _+_, _-_, _*_, _≤_, min}
 use native.Mathlib.Omega.{arith}
 use borrow.Author.Needs.{needs}
 use Rattle.number_taylor.specs.Alternating.{double}
 use Rattle.number_exponential.specs.Exponential.{termUpper, sumUpper}
 use Rattle.number_exponential.specs.Billionths.{billionths}
 use Rattle.number_exponential.specs.laws.Sums.{double-two}
-use Rattle.number_exp_ends.proofs.Pairs.{Lower, Upper, UpperPairs, none, more, all, lower-next, upper-next, upper-sum}
+use Rattle.number_exponential.specs.laws.RunOut.{count-fits, sum-fits}
+use Rattle.number_exp_ends.proofs.Pairs.{Lower, Upper, UpperPairs, none, more, all, lower-next, upper-next, upper-sum, upper-out}
 use Rattle.number_exp_ends.proofs.sum_upper.Statement.{statement}
 use Rattle.number_exp_ends.proofs.sum_upper.Tie as tie
 
@@ -100,13 +100,43 @@ add-evens c = omega (arith, even-upper c)
 add-odds : tie.Need-add-odds Inv-loop μ-loop
 add-odds c = omega (arith, odd-lower (c .before .before .before))
 
+-- the pairs after a turn
+abbrev turned : (c : tie.After-next-upper2 Inv-loop μ-loop) → let l = c .before .before .before .before .before .loop in
+    UpperPairs (at (c .before .before .before .before)) (c .before .before .next-lower2 .result) (c .next-upper2 .result)
+    (l .evens + c .next-upper2 .result) (l .odds + c .before .before .before .next-lower .result) (l .i + 1)
+turned c =
+    let h = even-upper c in
+    more (c .before .before .before .before .before .loop .inv .0) (even-lower (c .before .before)) h h
+    (odd-lower (c .before .before .before))
+
+-- ---- where the terms have run out
+
+left : (c : tie.Then2 Inv-loop μ-loop) → let u = c .before .before in let l = u .before .before .before .before .before .loop in
+    let o = l .odds + u .before .before .before .next-lower .result in
+    let e = l .evens + u .next-upper2 .result + u .next-upper2 .result * (6 - (l .i + 1)) in
+    (o ≤ e) × (min (billionths .unit) (e - o) ≡ sumUpper billionths (at (u .before .before .before .before)))
+left c =
+    let u = c .before .before in
+    let b = u .before .before .before .before .before in
+    upper-out _ (b .loop .i) (b .before .pre) (turned u) (omega arith) (c .if2 .taken) (omega (arith, c .before .if1 .taken))
+
+mul-capped : tie.Need-mul-capped Inv-loop μ-loop
+mul-capped c = count-fits _ (omega arith) (omega (arith, c .before .if1 .taken))
+
+add-capped : tie.Need-add-capped Inv-loop μ-loop
+add-capped c =
+    let s = turned (c .before .before) .evens-small in sum-fits _ _ (omega arith) (omega arith) (omega (arith, c .before .if1 .taken))
+
+returns : tie.Need-returns Inv-loop μ-loop
+returns c = c .capped .ensures ∙ left (c .before) .1
+
+-- ---- one turn more, and after the last
+
 loop-again : tie.Need-loop-again Inv-loop μ-loop
-loop-again c =
-    let h = even-upper c in (
-      more (c .before .before .before .before .before .loop .inv .0) (even-lower (c .before .before)) h h
-          (odd-lower (c .before .before .before)),
-      omega arith,
-    )
+loop-again c = (turned (c .before .before), omega arith)
+
+loop-again-2 : tie.Need-loop-again-2 Inv-loop μ-loop
+loop-again-2 c = (turned (c .before), omega arith)
 
 add-odds-2 : tie.Need-add-odds-2 Inv-loop μ-loop
 add-odds-2 c = omega (arith, last-lower c)
@@ -117,19 +147,14 @@ next-upper-requires-4 c κs = let t = upper-eleven c in search needs
 add-evens-2 : tie.Need-add-evens-2 Inv-loop μ-loop
 add-evens-2 c = omega (arith, last-upper c)
 
-sub-sum : tie.Need-sub-sum Inv-loop μ-loop
-sub-sum c = difference c .0
-
-returns : tie.Need-returns Inv-loop μ-loop
-returns c = sym (min-eq-right (le-of-lt (c .if1 .taken))) ∙ difference (c .before) .1
-
 returns-2 : tie.Need-returns-2 Inv-loop μ-loop
-returns-2 c = sym (min-eq-left (c .if1 .left)) ∙ difference (c .before) .1
+returns-2 c = c .capped2 .ensures ∙ difference (c .before) .1
 
 pub sum-upper-spec : {M : Type 1} → statement M
 sum-upper-spec =
     tie.close
     (tie.spec Inv-loop μ-loop loop-holds (λ c. omega arith) (λ c. omega arith) (λ c κs. search needs) (λ c. omega arith)
     next-lower-requires-2 (λ c κs. search needs) (λ c. omega arith) next-upper-requires-2 add-evens add-odds
-    (λ c. omega arith) (λ c. omega arith) loop-again (λ c κs. search needs) add-odds-2 (λ c κs. search needs)
-    next-upper-requires-4 add-evens-2 sub-sum returns returns-2)
+    (λ c. omega arith) (λ c. omega arith) mul-capped add-capped (λ c. left c .0) (λ c κs. search needs) returns
+    (λ c. omega arith) loop-again (λ c. omega arith) loop-again-2 (λ c κs. search needs) add-odds-2
+    (λ c κs. search needs) next-upper-requires-4 add-evens-2 (λ c. difference c .0) (λ c κs. search needs) returns-2)
