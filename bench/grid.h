@@ -35,7 +35,7 @@ static uint64_t exp_lower(uint64_t z) {
         high = up(odd * f, (k + 1) * UNIT);
         evens += low;
         odds += odd;
-        if (high < 2 && low == 0) break;
+        if (high + 2 * low < 2) break;
     }
     odds += k < 13 ? high * ((13 - k) / 2) : up(high * f, 13 * UNIT);
     return (evens - odds) * whole_parts[z / STEP] / UNIT;
@@ -50,7 +50,7 @@ static uint64_t exp_upper(uint64_t z) {
         high = up(up(high * f, k * UNIT) * f, (k + 1) * UNIT);
         evens += high;
         odds += odd;
-        if (high < 2 && low == 0) break;
+        if (high + 2 * low < 2) break;
     }
     if (k < 11) {
         evens += high * ((11 - k) / 2);
@@ -75,15 +75,18 @@ static inline pair log_force(const params *p, int x, int64_t period, pair kappa)
     return r;
 }
 
-/* -ln(1 - u), both ends in one loop. */
+/* A power over its place, both below 2^32, where a division takes less time. */
+static inline uint64_t over(uint64_t power, uint64_t place) { return (uint32_t)power / (uint32_t)place; }
+
+/* -ln(1 - u), both ends in one loop, from the first power on, which is u. */
 static ends log_between(ends u) {
-    ends power = {UNIT, UNIT}, sum = {0, 0};
-    for (uint64_t k = 1; k <= 28; k++) {
+    ends power = u, sum = u;
+    for (uint64_t k = 2; k <= 28; k++) {
         power.lower = u.lower * power.lower / UNIT;
         power.upper = up(u.upper * power.upper, UNIT);
-        sum.lower += power.lower / k;
-        sum.upper += up(power.upper, k);
-        if (power.upper < 2 && power.lower == 0) {
+        sum.lower += over(power.lower, k);
+        sum.upper += over(power.upper + (k - 1), k);
+        if (power.upper + 2 * power.lower < 2) {
             sum.upper += power.upper * (29 - k);
             return sum;
         }

@@ -1,12 +1,12 @@
 -- What the two loops have after k terms: the k-th power and the sum of k terms, each with the bound by which it fits.
 use mathlib.Core.Path.{_≡_, refl, sym, ap, _∙_}
 use Prim.Native.Nat.{ℕ, suc, _+_, _-_, _*_, _/_, _≤_, _<_}
-use native.Mathlib.Nat.{mul-le-mul, le-refl, div-le-self}
+use native.Mathlib.Nat.{mul-le-mul, le-refl, div-le-self, div-one, mul-div-cancel, add-zero, zero-add}
 use native.Mathlib.Numerals.{add-one}
 use native.Mathlib.Omega.{arith}
 use lib.Dec.{lit<}
 use Rattle.number_whole.specs.Division.{ceilDivℕ}
-use Rattle.number_whole.specs.laws.DivisionLaws.{ceilℕ-least}
+use Rattle.number_whole.specs.laws.DivisionLaws.{ceilℕ-least, ceilℕ-exact}
 use Rattle.number_exponential.specs.Billionths.{billionths}
 use Rattle.model_logarithm.specs.Logarithm.{powerLower, powerUpper, logTermsLower, logTermsUpper, logRest, logLower, logUpper}
 use Rattle.model_logarithm.specs.laws.Powers.{power-lower-bound, power-upper-bound}
@@ -27,12 +27,12 @@ abbrev pub UpperSteps : ℕ → ℕ → ℕ → ℕ → Type 0
 UpperSteps u = Steps (powerUpper billionths u) (logTermsUpper billionths u)
 
 -- before the first term
-pub lower-none : (u : ℕ) → LowerSteps u (billionths .unit) 0 0
+lower-none : (u : ℕ) → LowerSteps u (billionths .unit) 0 0
 unfolding powerLower logTermsLower
 lower-none u =
     record { power-is = refl; power-small = le-refl _; sum-is = refl; sum-small = omega arith; counted = omega arith }
 
-pub upper-none : (u : ℕ) → UpperSteps u (billionths .unit) 0 0
+upper-none : (u : ℕ) → UpperSteps u (billionths .unit) 0 0
 unfolding powerUpper logTermsUpper
 upper-none u =
     record { power-is = refl; power-small = le-refl _; sum-is = refl; sum-small = omega arith; counted = omega arith }
@@ -93,6 +93,19 @@ upper-more {u} {power} {sum} {k} h p l =
       sum-small = omega arith;
       counted = l;
     })
+
+-- the first power is u
+pub lower-first : {u : ℕ} → u ≤ billionths .unit → LowerSteps u u u 1
+lower-first {u} h =
+    let e : u * billionths .unit / billionths .unit ≡ u = mul-div-cancel u (lit< tt) in
+    let d : 0 + u / (0 + 1) ≡ u = zero-add _ ∙ div-one u in
+    rw d at (rw e at (lower-more h (lower-none u) (lit< tt)))
+
+pub upper-first : {u : ℕ} → u ≤ billionths .unit → UpperSteps u u u 1
+upper-first {u} h =
+    let e : ceilDivℕ (u * billionths .unit) (billionths .unit) ≡ u = ceilℕ-exact u (lit< tt) in
+    let d : 0 + (u + 0) / (0 + 1) ≡ u = rw (add-zero u) (zero-add _ ∙ div-one u) in
+    rw d at (rw e at (upper-more h (upper-none u) (lit< tt)))
 
 -- after the last term
 pub lower-done : (u : ℕ) {power sum k : ℕ} → LowerSteps u power sum k → k ≡ billionths .logTerms → sum ≡ logLower billionths u

@@ -1,6 +1,6 @@
 // −ln(1 − u) on the grid of 10^-9, u in units: the sum of u^k/k, k = 1 to 28, with two ends.
 ghost use mathlib.Core.Path.{_≡_};
-ghost use Prim.Native.Nat.{_≤_};
+ghost use Prim.Native.Nat.{_/_, _≤_, _<_};
 ghost use Rattle.number_exponential.specs.Billionths.{billionths};
 ghost use Rattle.model_logarithm.specs.Logarithm.{logLower, logUpper};
 use number_exponential::Ends;
@@ -9,7 +9,15 @@ use number_exponential::UNIT;
 // The number of terms.
 pub const TERMS: u64 = 28;
 
-// Both ends in one loop. The lower one: powers and quotients rounded down. The upper one: powers and quotients rounded up, and
+// A power over its place. Both are below 2^32, where a division takes less time.
+fn over(power: u64, place: u64) -> u64
+    requires { ⌜ (power < 4294967296) × (0 < place) × (place < 4294967296) ⌝ }
+    ensures { λ r. ⌜ r ≡ power / place ⌝ }
+{
+    ((power as u32) / (place as u32)) as u64
+}
+
+// Both ends in one loop, from the first power on, which is u. The lower one: powers and quotients rounded down. The upper one: powers and quotients rounded up, and
 // twice the next power over its place. From powers of 0 and of at most 1 on, what is left is a count.
 pub fn log_between(u: Ends) -> Ends
     requires { ⌜ (u .lower ≤ billionths .unit) × (u .upper ≤ billionths .unit) ⌝ }
@@ -17,24 +25,22 @@ pub fn log_between(u: Ends) -> Ends
 {
     let low = u.lower;
     let high = u.upper;
-    let mut down = UNIT;
-    let mut up = UNIT;
-    let mut least = 0;
-    let mut most = 0;
-    let mut k = 0;
+    let mut down = low;
+    let mut up = high;
+    let mut least = low;
+    let mut most = high;
+    let mut k = 1;
     while k < TERMS {
         down = low * down / UNIT;
         up = (high * up + (UNIT - 1)) / UNIT;
-        least += down / (k + 1);
-        most += (up + k) / (k + 1);
+        least += over(down, k + 1);
+        most += over(up + k, k + 1);
         k += 1;
-        if up < 2 {
-            if down == 0 {
-                return Ends {
-                    lower: least,
-                    upper: most + up * (TERMS + 1 - k),
-                };
-            }
+        if up + 2 * down < 2 {
+            return Ends {
+                lower: least,
+                upper: most + up * (TERMS + 1 - k),
+            };
         }
     }
     let rest = 2 * ((high * up + (UNIT - 1)) / UNIT);

@@ -3,7 +3,7 @@
 // most 1 on, what is left of it is a count.
 ghost use mathlib.Core.Path.{_≡_};
 ghost use Rattle.number_exponential.specs.Billionths.{billionths};
-ghost use Rattle.number_exponential.specs.Exponential.{expLower, expUpper, expBetween, nextLower, nextUpper, sumLower, sumUpper};
+ghost use Rattle.number_exponential.specs.Exponential.{constantLower, expLower, expUpper, expBetween, nextLower, nextUpper, sumLower, sumUpper};
 ghost use Prim.Native.Nat.{_≤_, min};
 ghost use Rattle.number_exp_ends.specs.code.Code.{TermRange};
 use number_exponential::CUTOFF;
@@ -12,51 +12,56 @@ use number_exponential::STEP;
 use number_exponential::UNIT;
 use number_whole::ceil_div_u;
 
-// The whole parts of 10^9·e^−(n/2).
-const WHOLE_PARTS: [u64; 42] = [
-    1000000000,
-    606530659,
-    367879441,
-    223130160,
-    135335283,
-    82084998,
-    49787068,
-    30197383,
-    18315638,
-    11108996,
-    6737946,
-    4086771,
-    2478752,
-    1503439,
-    911881,
-    553084,
-    335462,
-    203468,
-    123409,
-    74851,
-    45399,
-    27536,
-    16701,
-    10130,
-    6144,
-    3726,
-    2260,
-    1370,
-    831,
-    504,
-    305,
-    185,
-    112,
-    68,
-    41,
-    25,
-    15,
-    9,
-    5,
-    3,
-    2,
-    1,
-];
+// The whole part of 10^9·e^−(n/2). A constant array would be built anew at each call; of the cases the compiler makes a table.
+fn whole_part(n: u64) -> u64
+    ensures { λ r. ⌜ r ≡ constantLower billionths n ⌝ }
+{
+    match n {
+        0 => 1000000000,
+        1 => 606530659,
+        2 => 367879441,
+        3 => 223130160,
+        4 => 135335283,
+        5 => 82084998,
+        6 => 49787068,
+        7 => 30197383,
+        8 => 18315638,
+        9 => 11108996,
+        10 => 6737946,
+        11 => 4086771,
+        12 => 2478752,
+        13 => 1503439,
+        14 => 911881,
+        15 => 553084,
+        16 => 335462,
+        17 => 203468,
+        18 => 123409,
+        19 => 74851,
+        20 => 45399,
+        21 => 27536,
+        22 => 16701,
+        23 => 10130,
+        24 => 6144,
+        25 => 3726,
+        26 => 2260,
+        27 => 1370,
+        28 => 831,
+        29 => 504,
+        30 => 305,
+        31 => 185,
+        32 => 112,
+        33 => 68,
+        34 => 41,
+        35 => 25,
+        36 => 15,
+        37 => 9,
+        38 => 5,
+        39 => 3,
+        40 => 2,
+        41 => 1,
+        _ => 0,
+    }
+}
 
 // The next term, t·f/(k·10^9), rounded down.
 fn next_lower(t: u64, f: u64, k: u64) -> u64
@@ -92,10 +97,8 @@ pub fn sum_lower(f: u64) -> u64
         evens += low;
         odds += odd;
         i += 1;
-        if high < 2 {
-            if low == 0 {
-                return evens - (odds + high * (7 - i));
-            }
+        if high + 2 * low < 2 {
+            return evens - (odds + high * (7 - i));
         }
     }
     evens - (odds + next_upper(high, f, 13))
@@ -129,10 +132,8 @@ pub fn sum_upper(f: u64) -> u64
         evens += high;
         odds += odd;
         i += 1;
-        if high < 2 {
-            if low == 0 {
-                return capped(evens + high * (6 - i) - odds);
-            }
+        if high + 2 * low < 2 {
+            return capped(evens + high * (6 - i) - odds);
         }
     }
     odds += next_lower(low, f, 11);
@@ -150,7 +151,7 @@ pub fn exp_lower(z: u64) -> u64
         if n == 0 {
             return sum;
         }
-        return sum * WHOLE_PARTS[n as usize] / UNIT;
+        return sum * whole_part(n) / UNIT;
     }
     0
 }
@@ -165,7 +166,7 @@ pub fn exp_upper(z: u64) -> u64
         if n == 0 {
             return sum;
         }
-        return ceil_div_u(sum * (WHOLE_PARTS[n as usize] + 1), UNIT);
+        return ceil_div_u(sum * (whole_part(n) + 1), UNIT);
     }
     1
 }

@@ -1,13 +1,12 @@
 -- Powers that have run out: from one on whose lower end is 0, and whose upper end is 0 or 1, each further one has the same ends,
 -- and what is left of the logarithm's sum, with its rest, is a count.
 use mathlib.Core.Path.{_≡_, refl, sym, ap, _∙_}
-use mathlib.Core.Logic.{inl, inr}
 use Prim.Native.Nat.{ℕ, zero, suc, _+_, _-_, _*_, _/_, _≤_, _<_}
-use native.Mathlib.Nat.{add-zero, add-suc, zero-div, mul-comm, zero-lt-suc, eq-zero-or-pos}
+use native.Mathlib.Nat.{add-zero, add-suc, zero-div, mul-comm, zero-lt-suc}
 use native.Mathlib.Omega.{arith}
 use Rattle.number_whole.specs.Division.{ceilDivℕ}
 use Rattle.number_exponential.specs.Grid.{Grid}
-use Rattle.number_exponential.specs.laws.RunOut.{ceil-stays, ceil-none}
+use Rattle.number_exponential.specs.laws.RunOut.{ceil-stays, lower-stays, upper-stays}
 use Rattle.model_logarithm.specs.Logarithm.{powerLower, powerUpper, logTermsLower, logTermsUpper, logRest, logUpper}
 
 -- a quotient of c, and of twice c, rounded up, where c is 0 or 1
@@ -22,32 +21,20 @@ ceil-twice c d h p =
 module _ (g : Grid) (u : ℕ) where
   -- ---- the powers
 
-  pub power-lower-stays : (k n : ℕ) → powerLower g u k ≡ 0 → powerLower g u (k + n) ≡ 0
-  unfolding powerLower
-  power-lower-stays k zero e = rw (add-zero k) e
-  power-lower-stays k (suc n) e =
-      let z : u * 0 ≡ 0 = omega arith in
-      rw (add-suc k n) (ap (λ (x : ℕ). u * x / g .unit) (power-lower-stays k n e) ∙ rw z (zero-div (g .unit)))
+  unit : ℕ → ℕ
+  unit k = g .unit
 
-  -- an upper end of 1 is none of u = 0
-  some : (k : ℕ) → powerUpper g u (suc k) ≡ 1 → 0 < u
-  unfolding powerUpper
-  some k e =
-      let t = powerUpper g u k in
-      elim (eq-zero-or-pos u) [
-        | inl z ↦ absurd (omega (arith, sym e ∙ ap (λ (x : ℕ). ceilDivℕ x (g .unit)) (mul-comm u t ∙ ap (λ (x : ℕ). t * x) z) ∙ ceil-none t (g .unit) (g .positive)))
-        | inr p ↦ p
-      ]
+  pub power-lower-stays : (k n : ℕ) → powerLower g u k ≡ 0 → powerLower g u (k + n) ≡ 0
+  unfolding powerLower unit
+  power-lower-stays =
+      lower-stays (powerLower g u) unit u (λ m. ap (λ (x : ℕ). x / g .unit) (mul-comm u (powerLower g u m)))
 
   module _ (small : u ≤ g .unit) (k : ℕ) {c : ℕ} (h : c ≤ 1) (e : powerUpper g u (suc k) ≡ c) where
     pub power-upper-stays : (n : ℕ) → powerUpper g u (suc k + n) ≡ c
-    unfolding powerUpper
-    power-upper-stays zero = rw (add-zero (suc k)) e
-    power-upper-stays (suc n) =
-        rw (add-suc (suc k) n)
-        (ap (λ (x : ℕ). ceilDivℕ (u * x) (g .unit)) (power-upper-stays n)
-        ∙ ap (λ (x : ℕ). ceilDivℕ x (g .unit)) (mul-comm u c)
-        ∙ ceil-stays c u (g .unit) h (λ o. some k (e ∙ o)) small (g .positive))
+    unfolding powerUpper unit
+    power-upper-stays n =
+        upper-stays (powerUpper g u) unit u (λ m. ap (λ (x : ℕ). ceilDivℕ x (g .unit)) (mul-comm u (powerUpper g u m)))
+        (λ m. g .positive) (λ m. small) k n h e
 
     -- ---- the sums
 

@@ -6,8 +6,8 @@ use native.Mathlib.Omega.{arith}
 use lib.Dec.{lit<}
 use borrow.Author.Needs.{needs}
 use borrow.Author.Tests.{lt-ltb, le-ltb}
-use Rattle.number_exponential.specs.Exponential.{cutoffUnits, constantLower, expLower}
-use Rattle.number_exponential.specs.Billionths.{billionths, wholeParts}
+use Rattle.number_exponential.specs.Exponential.{cutoffUnits, expLower}
+use Rattle.number_exponential.specs.Billionths.{billionths}
 use Rattle.number_exponential.specs.laws.BillionthsFacts.{billionths-sound}
 use Rattle.number_exp_ends.proofs.Constants.{lower-product}
 use Rattle.number_exp_ends.proofs.exp_lower.Statement.{statement}
@@ -22,8 +22,9 @@ past c = omega arith
 -- ---- the value
 
 returns-2 : tie.Need-returns-2
-unfolding expLower constantLower wholeParts
-returns-2 c = rw (lt-ltb _ _ (below (c .before .before)), c .before .sum-lower .ensures)
+unfolding expLower
+returns-2 c =
+    let b = c .before .before in rw (lt-ltb _ _ (below (b .before)), b .sum-lower .ensures, c .whole-part .ensures)
 
 returns : tie.Need-returns
 unfolding expLower
@@ -42,11 +43,11 @@ returns-3 c = rw (le-ltb _ _ (past c))
 
 -- ---- what each step asks
 
-mul-result-2 : tie.Need-mul-result-2
-unfolding constantLower wholeParts
-mul-result-2 c = omega (arith, lower-product _ _ (below (c .before .before)) (c .before .sum-lower .ensures))
+mul-result : tie.Need-mul-result
+mul-result c =
+    let b = c .before .before in
+    rw (c .whole-part .ensures) (omega (arith, lower-product _ _ (below (b .before)) (b .sum-lower .ensures)))
 
 pub exp-lower-spec : {M : Type 1} → statement M
 exp-lower-spec =
-    tie.close
-    (tie.spec (λ c κs. search needs) returns (λ c. search needs) (λ c. search needs) mul-result-2 returns-2 returns-3)
+    tie.close (tie.spec (λ c κs. search needs) returns (λ c κs. search needs) mul-result returns-2 returns-3)

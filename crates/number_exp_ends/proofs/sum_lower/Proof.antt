@@ -86,29 +86,32 @@ turned c =
 
 -- ---- where the terms have run out
 
-left : (c : tie.Then2 Inv-loop μ-loop) → let u = c .before .before in let l = u .before .before .before .before .before .loop in
+twice : tie.Need-mul-if1 Inv-loop μ-loop
+twice c = omega (arith, turned c .lower)
+
+both : tie.Need-add-if1 Inv-loop μ-loop
+both c = omega (arith, turned c .lower, turned c .upper)
+
+left : (c : tie.Then1 Inv-loop μ-loop) → let u = c .before in let l = u .before .before .before .before .before .loop in
     let o = l .odds + u .before .before .before .next-upper .result + u .next-upper2 .result * (7 - (l .i + 1)) in
     let e = l .evens + u .before .next-lower2 .result in
     (o ≤ e) × (e - o ≡ sumLower billionths (at (u .before .before .before .before)))
 left c =
-    let u = c .before .before in
+    let u = c .before in
     let b = u .before .before .before .before .before in
-    lower-out _ (b .loop .i) (b .before .pre) (turned u) (omega arith) (c .if2 .taken) (omega (arith, c .before .if1 .taken))
+    lower-out _ (b .loop .i) (b .before .pre) (turned u) (omega arith) (omega (arith, c .if1 .taken)) (omega (arith, c .if1 .taken))
 
 mul-result : tie.Need-mul-result Inv-loop μ-loop
-mul-result c = count-fits _ (omega arith) (omega (arith, c .before .if1 .taken))
+mul-result c = count-fits _ (omega arith) (omega (arith, c .if1 .taken))
 
 add-result : tie.Need-add-result Inv-loop μ-loop
 add-result c =
-    let s = turned (c .before .before) .odds-small in sum-fits _ _ (omega arith) (omega arith) (omega (arith, c .before .if1 .taken))
+    let s = turned (c .before) .odds-small in sum-fits _ _ (omega arith) (omega arith) (omega (arith, c .if1 .taken))
 
 -- ---- one turn more, and after the last
 
 loop-again : tie.Need-loop-again Inv-loop μ-loop
-loop-again c = (turned (c .before .before), omega arith)
-
-loop-again-2 : tie.Need-loop-again-2 Inv-loop μ-loop
-loop-again-2 c = (turned (c .before), omega arith)
+loop-again c = (turned (c .before), omega arith)
 
 add-result-2 : tie.Need-add-result-2 Inv-loop μ-loop
 add-result-2 c = omega (arith, last-upper c)
@@ -126,6 +129,5 @@ sum-lower-spec =
     tie.close
     (tie.spec Inv-loop μ-loop loop-holds (λ c. omega arith) (λ c. omega arith) (λ c κs. search needs)
     (λ c κs. search needs) (λ c. omega arith) next-lower-requires-2 (λ c. omega arith) next-upper-requires-2 add-evens
-    add-odds (λ c. omega arith) (λ c. omega arith) mul-result add-result (λ c. left c .0) (λ c. left c .1)
-    (λ c. omega arith) loop-again (λ c. omega arith) loop-again-2 (λ c κs. search needs) add-result-2 sub-result-3
-    returns-2)
+    add-odds (λ c. omega arith) twice both (λ c. omega arith) mul-result add-result (λ c. left c .0) (λ c. left c .1)
+    (λ c. omega arith) loop-again (λ c κs. search needs) add-result-2 sub-result-3 returns-2)

@@ -111,21 +111,27 @@ turned c =
 
 -- ---- where the terms have run out
 
-left : (c : tie.Then2 Inv-loop μ-loop) → let u = c .before .before in let l = u .before .before .before .before .before .loop in
+twice : tie.Need-mul-if1 Inv-loop μ-loop
+twice c = omega (arith, turned c .lower)
+
+both : tie.Need-add-if1 Inv-loop μ-loop
+both c = omega (arith, turned c .lower, turned c .upper)
+
+left : (c : tie.Then1 Inv-loop μ-loop) → let u = c .before in let l = u .before .before .before .before .before .loop in
     let o = l .odds + u .before .before .before .next-lower .result in
     let e = l .evens + u .next-upper2 .result + u .next-upper2 .result * (6 - (l .i + 1)) in
     (o ≤ e) × (min (billionths .unit) (e - o) ≡ sumUpper billionths (at (u .before .before .before .before)))
 left c =
-    let u = c .before .before in
+    let u = c .before in
     let b = u .before .before .before .before .before in
-    upper-out _ (b .loop .i) (b .before .pre) (turned u) (omega arith) (c .if2 .taken) (omega (arith, c .before .if1 .taken))
+    upper-out _ (b .loop .i) (b .before .pre) (turned u) (omega arith) (omega (arith, c .if1 .taken)) (omega (arith, c .if1 .taken))
 
 mul-capped : tie.Need-mul-capped Inv-loop μ-loop
-mul-capped c = count-fits _ (omega arith) (omega (arith, c .before .if1 .taken))
+mul-capped c = count-fits _ (omega arith) (omega (arith, c .if1 .taken))
 
 add-capped : tie.Need-add-capped Inv-loop μ-loop
 add-capped c =
-    let s = turned (c .before .before) .evens-small in sum-fits _ _ (omega arith) (omega arith) (omega (arith, c .before .if1 .taken))
+    let s = turned (c .before) .evens-small in sum-fits _ _ (omega arith) (omega arith) (omega (arith, c .if1 .taken))
 
 returns : tie.Need-returns Inv-loop μ-loop
 returns c = c .capped .ensures ∙ left (c .before) .1
@@ -133,10 +139,7 @@ returns c = c .capped .ensures ∙ left (c .before) .1
 -- ---- one turn more, and after the last
 
 loop-again : tie.Need-loop-again Inv-loop μ-loop
-loop-again c = (turned (c .before .before), omega arith)
-
-loop-again-2 : tie.Need-loop-again-2 Inv-loop μ-loop
-loop-again-2 c = (turned (c .before), omega arith)
+loop-again c = (turned (c .before), omega arith)
 
 add-odds-2 : tie.Need-add-odds-2 Inv-loop μ-loop
 add-odds-2 c = omega (arith, last-lower c)
@@ -155,6 +158,6 @@ sum-upper-spec =
     tie.close
     (tie.spec Inv-loop μ-loop loop-holds (λ c. omega arith) (λ c. omega arith) (λ c κs. search needs) (λ c. omega arith)
     next-lower-requires-2 (λ c κs. search needs) (λ c. omega arith) next-upper-requires-2 add-evens add-odds
-    (λ c. omega arith) (λ c. omega arith) mul-capped add-capped (λ c. left c .0) (λ c κs. search needs) returns
-    (λ c. omega arith) loop-again (λ c. omega arith) loop-again-2 (λ c κs. search needs) add-odds-2
-    (λ c κs. search needs) next-upper-requires-4 add-evens-2 (λ c. difference c .0) (λ c κs. search needs) returns-2)
+    (λ c. omega arith) twice both (λ c. omega arith) mul-capped add-capped (λ c. left c .0) (λ c κs. search needs) returns
+    (λ c. omega arith) loop-again (λ c κs. search needs) add-odds-2 (λ c κs. search needs) next-upper-requires-4
+    add-evens-2 (λ c. difference c .0) (λ c κs. search needs) returns-2)

@@ -34,36 +34,48 @@ count-fits n {c} h k = omega (arith, mul-le-mul k h)
 pub sum-fits : (s n : ℕ) {c : ℕ} → s ≤ 10 ^ 12 → n ≤ 100 → c ≤ 2 → Fits w64 (s + c * n)
 sum-fits s n {c} l h k = omega (arith, mul-le-mul k h)
 
+-- ---- ends that stay
+
+-- s goes from place to place by s·f/d: rounded down, and rounded up where f is at most each d
+module _ (s d : ℕ → ℕ) (f : ℕ) where
+  pub lower-stays : ((m : ℕ) → s (suc m) ≡ s m * f / d m) → (k n : ℕ) → s k ≡ 0 → s (k + n) ≡ 0
+  lower-stays step k zero e = rw (add-zero k) e
+  lower-stays step k (suc n) e =
+      rw (add-suc k n)
+      (step (k + n) ∙ ap (λ (t : ℕ). t * f / d (k + n)) (lower-stays step k n e) ∙ rw (zero-mul f) (zero-div (d (k + n))))
+
+  module _ (step : (m : ℕ) → s (suc m) ≡ ceilDivℕ (s m * f) (d m)) (positive : (m : ℕ) → 0 < d m) (small : (m : ℕ) → f ≤ d m)
+    where
+      -- an end of 1 is none of f = 0
+      some : (k : ℕ) → s (suc k) ≡ 1 → 0 < f
+      some k e =
+          elim (eq-zero-or-pos f) [
+            | inl z ↦ absurd (omega (arith, sym e ∙ step k ∙ ap (λ (x : ℕ). ceilDivℕ (s k * x) (d k)) z ∙ ceil-none (s k) (d k) (positive k)))
+            | inr p ↦ p
+          ]
+
+      pub upper-stays : (k n : ℕ) {c : ℕ} → c ≤ 1 → s (suc k) ≡ c → s (suc k + n) ≡ c
+      upper-stays k zero h e = rw (add-zero (suc k)) e
+      upper-stays k (suc n) {c} h e =
+          let m = suc k + n in
+          rw (add-suc (suc k) n)
+          (step m ∙ ap (λ (t : ℕ). ceilDivℕ (t * f) (d m)) (upper-stays k n h e)
+          ∙ ceil-stays c f (d m) h (λ o. some k (e ∙ o)) (small m) (positive m))
+
 -- ---- the terms
 
 module _ (g : Grid) (f : ℕ) where
-  pub term-lower-stays : (k n : ℕ) → termLower g f k ≡ 0 → termLower g f (k + n) ≡ 0
-  unfolding termLower nextLower
-  term-lower-stays k zero e = rw (add-zero k) e
-  term-lower-stays k (suc n) e =
-      let d = suc (k + n) * g .unit in
-      rw (add-suc k n) (ap (λ (t : ℕ). t * f / d) (term-lower-stays k n e) ∙ rw (zero-mul f) (zero-div d))
+  divisor : ℕ → ℕ
+  divisor k = suc k * g .unit
 
-  -- an upper end of 1 is none of f = 0
-  some : (k : ℕ) → termUpper g f (suc k) ≡ 1 → 0 < f
-  unfolding termUpper nextUpper
-  some k e =
-      let t = termUpper g f k in
-      let d = suc k * g .unit in
-      elim (eq-zero-or-pos f) [
-        | inl z ↦ absurd (omega (arith, sym e ∙ ap (λ (x : ℕ). ceilDivℕ (t * x) d) z ∙ ceil-none t d (mul-pos (zero-lt-suc k) (g .positive))))
-        | inr p ↦ p
-      ]
+  pub term-lower-stays : (k n : ℕ) → termLower g f k ≡ 0 → termLower g f (k + n) ≡ 0
+  unfolding termLower nextLower divisor
+  term-lower-stays = lower-stays (termLower g f) divisor f (λ m. refl)
 
   pub term-upper-stays : f ≤ g .unit → (k n : ℕ) {c : ℕ} → c ≤ 1 → termUpper g f (suc k) ≡ c → termUpper g f (suc k + n) ≡ c
-  unfolding termUpper nextUpper
-  term-upper-stays small k zero h e = rw (add-zero (suc k)) e
-  term-upper-stays small k (suc n) {c} h e =
-      let m = suc k + n in
-      let d = suc m * g .unit in
-      rw (add-suc (suc k) n)
-      (ap (λ (t : ℕ). ceilDivℕ (t * f) d) (term-upper-stays small k n h e)
-      ∙ ceil-stays c f d h (λ o. some k (e ∙ o)) (omega (arith, small)) (mul-pos (zero-lt-suc m) (g .positive)))
+  unfolding termUpper nextUpper divisor
+  term-upper-stays small k n h e =
+      upper-stays (termUpper g f) divisor f (λ m. refl) (λ m. mul-pos (zero-lt-suc m) (g .positive)) (λ m. omega (arith, small)) k n h e
 
 -- ---- their sums
 
