@@ -119,7 +119,7 @@ int main(void) {
         printf("\n%-17s", all[i].name);
         for (int l = 0; l < LOADS; l++) printf(" %13.2f", 1e6 * took[l][i]);
     }
-    printf("\ncohort, mean: library / faster C %.2f (at most 1.20, goal 1.00); Arb / library %.2f (at least 4.00)\n",
+    printf("\ncohort, mean: library / faster C %.2f (at most 1.10, goal 1.00); Arb / library %.2f (at least 10.00)\n",
         took[MEAN][LIBRARY] / best_c[MEAN], took[MEAN][ARB] / took[MEAN][LIBRARY]);
     printf("at 65, library: period / cohort %.2f (below 0.20)\n", took[PERIOD_65][LIBRARY] / took[COHORT_65][LIBRARY]);
     printf("cohort, all %d factors past 120 / from 91 on: library %.2f, faster C %.2f\n", years_on(YEAR - START),

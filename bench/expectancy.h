@@ -1,4 +1,4 @@
-/* Life expectancies worked by C and by Arb, and annuities by C, at one age in year n, counted from 2013. */
+/* Life expectancies worked by C and by Arb, annuities and survival to a day by C, at one age in year n, counted from 2013. */
 #ifndef EXPECTANCY_H
 #define EXPECTANCY_H
 #include "compilers.h"
@@ -19,6 +19,10 @@ expectancy_in_c expectancy_by_gcc, expectancy_by_clang;
 /* The same of an annuity at a rate in units of 10^-6. */
 typedef int annuity_in_c(const params *p, enum kind kind, int age, unsigned n, unsigned rate, uint64_t *ends);
 annuity_in_c annuity_by_gcc, annuity_by_clang;
+
+/* The same of survival to a day along the cohort: whole years, and then days of a year that has so many. */
+typedef int day_in_c(const params *p, int age, unsigned n, int whole, unsigned days, unsigned of, uint64_t *ends);
+day_in_c day_by_gcc, day_by_clang;
 
 /* An expectancy by ball arithmetic at 64 bits: the middle, in years. */
 double expectancy_by_arb(const params *p, enum kind kind, int age, unsigned n);

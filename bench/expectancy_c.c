@@ -1,6 +1,6 @@
-/* An expectancy and an annuity on the grid in plain C: only the cells of the path, and the eleven H of a year where an age
-   above 90 needs them. A cohort steps K and kappa along; a period path works its closure once, and takes the forces from 80 to
-   90 from it. Past 120 the cell of age 120 serves: of a cohort in each year, of a period once. */
+/* An expectancy, an annuity and survival to a day on the grid in plain C: only the cells of the path, and the eleven H of a year
+   where an age above 90 needs them. A cohort steps K and kappa along; a period path works its closure once, and takes the forces
+   from 80 to 90 from it. Past 120 the cell of age 120 serves: of a cohort in each year, of a period once. */
 #include "expectancy.h"
 #include "grid.h"
 
@@ -35,28 +35,38 @@ static int begin(const params *p, enum kind kind, unsigned n, place *at) {
     return kind == COHORT || close_year(p, at->period, at->kappa, &at->c);
 }
 
-/* The factor at age x of the table. */
-static inline int work_factor(const params *p, enum kind kind, int x, place *at) {
-    ends force;
+/* The force at age x of the table. */
+static inline int work_force(const params *p, enum kind kind, int x, place *at, ends *force) {
     if (x >= AGES) {
         if (kind == COHORT && !close_year(p, at->period, at->kappa, &at->c)) return 0;
-        force = old_force(at->c.fitted, x);
+        *force = old_force(at->c.fitted, x);
     } else if (x >= FIRST_CLOSED && kind == PERIOD) {
-        force = at->c.force[x - FIRST_CLOSED];
+        *force = at->c.force[x - FIRST_CLOSED];
     } else {
         pair m = log_force(p, x, at->period, at->kappa);
         if (steep(m)) return 0;
-        force = young_force(m);
+        *force = young_force(m);
     }
+    return 1;
+}
+
+/* The factor at age x of the table. */
+static inline int work_factor(const params *p, enum kind kind, int x, place *at) {
+    ends force;
+    if (!work_force(p, kind, x, at, &force)) return 0;
     at->factor = exp_between(force);
     return 1;
+}
+
+static inline void take_factor(place *at) {
+    at->alive.lower = at->alive.lower * at->factor.lower / UNIT;
+    at->alive.upper = up(at->alive.upper * at->factor.upper, UNIT);
 }
 
 /* Survives the year at age x, to the next place. */
 static inline int survive(const params *p, enum kind kind, int x, place *at) {
     if ((kind == COHORT || x <= OLDEST) && !work_factor(p, kind, x < OLDEST ? x : OLDEST, at)) return 0;
-    at->alive.lower = at->alive.lower * at->factor.lower / UNIT;
-    at->alive.upper = up(at->alive.upper * at->factor.upper, UNIT);
+    take_factor(at);
     if (kind == COHORT) {
         at->period += p->theta;
         at->kappa = next_kappa(p, at->kappa);
@@ -89,5 +99,26 @@ int COMPILED(annuity)(const params *p, enum kind kind, int age, unsigned n, unsi
         out[0] += discount.lower * at.alive.lower / UNIT;
         out[1] += up(discount.upper * at.alive.upper, UNIT);
     }
+    return 1;
+}
+
+/* Survives some days of the year at age x, which has so many. */
+static inline int survive_part(const params *p, int x, unsigned days, unsigned of, place *at) {
+    ends force;
+    if (!work_force(p, COHORT, x, at, &force)) return 0;
+    ends part = {force.lower * days / of, up(force.upper * days, of)};
+    at->factor = exp_between(part);
+    take_factor(at);
+    return 1;
+}
+
+int COMPILED(day)(const params *p, int age, unsigned n, int whole, unsigned days, unsigned of, uint64_t *out) {
+    place at;
+    begin(p, COHORT, n, &at);
+    for (int x = age; x < age + whole; x++)
+        if (!survive(p, COHORT, x, &at)) return 0;
+    if (days > 0 && !survive_part(p, age + whole, days, of, &at)) return 0;
+    out[0] = at.alive.lower;
+    out[1] = at.alive.upper;
     return 1;
 }

@@ -1,12 +1,12 @@
 /* Kulfizan for C: the AG2014 table with the parameters of a sheet. A sheet read and written, a query of it answered, an
-   annuity of it priced, a published column checked by it, and the whole run of an input. `make lib` writes libkulfizan.a and
-   libkulfizan.so into target/lib.
+   annuity of it priced, survival to a day by it, a published column checked by it, and the whole run of an input. `make lib`
+   writes libkulfizan.a and libkulfizan.so into target/lib.
 
    A set is 369 numbers: the sex (0 for M, 1 for F), a, theta, K, k, and then for ages 0 to 90 A, B, alpha, beta, in
    the sheet's order and its units.
 
    A call gives 0, or the number of its refusal and then leaves everything that it is lent as it was. The lowest number
-   that applies is given, where 8 comes after 5 and before 6, and 9 after 2 and before 4.
+   that applies is given, where 8 comes after 5 and before 6, 9 after 2 and before 4, and 10 after 4 and before 5.
 
    The caller sees to it that no pointer is null, also where its length is 0; that each points to as many elements as its
    length says; and that nothing that is written overlaps anything else that is lent. Nothing else is asked: each call
@@ -39,11 +39,13 @@ enum kulfizan_refusal {
     KULFIZAN_OFF_SCALE = 2,    /* a parameter, or K + 171*theta, is past its size */
     KULFIZAN_NO_SUCH_AGE = 3,  /* the age is outside 0 to 120 */
     KULFIZAN_NO_SUCH_YEAR = 4, /* the year is outside the kind's range */
-    KULFIZAN_NO_SUCH_SPAN = 5, /* the span is outside 0 to 121 - age; for q, expectancies and annuities, not 0 */
+    KULFIZAN_NO_SUCH_SPAN = 5, /* the span is outside 0 to 121 - age; for q, expectancies and annuities, not 0; a date is
+                                  outside its term */
     KULFIZAN_STEEP = 6,        /* a needed cell's log force leaves its range */
     KULFIZAN_SHORT = 7,        /* what is lent has too little room */
     KULFIZAN_NO_SUCH_RATE = 8, /* the rate is outside 0 to 200,000 */
-    KULFIZAN_TORN_COLUMN = 9   /* the column breaks its form */
+    KULFIZAN_TORN_COLUMN = 9,  /* the column breaks its form */
+    KULFIZAN_NO_SUCH_DATE = 10 /* the date is no day YYYYMMDD by the Gregorian rule, from the year 1000 to 9999 */
 };
 
 /* The verdicts on a column. */
@@ -80,6 +82,13 @@ uint8_t kulfizan_quote(const uint8_t *sheet, size_t sheet_length, const uint8_t 
    the kind is, off scale, no such age, year, span or rate, steep, and short where there are fewer than four numbers. */
 uint8_t kulfizan_annuity(const uint8_t *sheet, size_t sheet_length, const uint8_t *kind, size_t kind_length, int64_t age,
                          int64_t year, int64_t span, int64_t rate, uint64_t *quote, size_t quote_length);
+
+/* Survival to a day of one life of a sheet, along the cohort, from 1 January of the year. The date is the number YYYYMMDD, from
+   that day to 31 December of the year in which age 120 is held. The quote is as above, in steps of 0.00001. Torn where the sheet
+   is, off scale, no such age or year, no such date, no such span where it is a day outside that term, steep, and short where
+   there are fewer than four numbers. */
+uint8_t kulfizan_day(const uint8_t *sheet, size_t sheet_length, int64_t age, int64_t year, int64_t date, uint64_t *quote,
+                     size_t quote_length);
 
 /* Checks a column of q for one year that somebody published: 121 lines `age=0 q=0.00312`, each ended by a line feed, in any order,
    each age from 0 to 120 once. The verdict is wrong where some age with a printed figure here has another entry; else open, where

@@ -10,6 +10,7 @@ where a number is past 64 bits, since out of the table is out of the table, howe
 import array
 import collections
 import ctypes
+import datetime
 import operator
 import os
 import pathlib
@@ -24,11 +25,12 @@ REFUSALS = {
     2: "off scale: a parameter, or K + 171*theta, is past its size",
     3: "no such age: the age is outside 0 to 120",
     4: "no such year: the year is outside the kind's range",
-    5: "no such span: the span is outside 0 to 121 - age; for q, expectancies and annuities, not 0",
+    5: "no such span: the span is outside 0 to 121 - age; for q, expectancies and annuities, not 0; a date is outside its term",
     6: "steep: a needed cell's log force leaves its range",
     7: "short: what is lent has too little room",
     8: "no such rate: the rate is outside 0 to 200,000",
     9: "torn column: the column breaks its form",
+    10: "no such date: the date is no day YYYYMMDD by the Gregorian rule, from the year 1000 to 9999",
 }
 
 VERDICTS = ("right", "wrong", "open")
@@ -65,9 +67,10 @@ def load(where):
     library.kulfizan_write.argtypes = [numbers, size, data, size, counts]
     library.kulfizan_quote.argtypes = [data, size, data, size, *[signed] * 3, counts, size]
     library.kulfizan_annuity.argtypes = [data, size, data, size, *[signed] * 4, counts, size]
+    library.kulfizan_day.argtypes = [data, size, *[signed] * 3, counts, size]
     library.kulfizan_verdict.argtypes = [data, size, signed, data, size, counts]
     library.kulfizan_run.argtypes = [data, size, ctypes.c_uint8, data, size, counts]
-    for name in ("read", "write", "quote", "annuity", "verdict", "run"):
+    for name in ("read", "write", "quote", "annuity", "day", "verdict", "run"):
         getattr(library, f"kulfizan_{name}").restype = ctypes.c_uint8
     return library
 
@@ -83,8 +86,8 @@ def accepted(number):
 
 def signed(values):
     """Numbers of 64 bits for a call, of at least one place, so that the pointer is never one to nothing. A number past 64 bits
-    goes in as the nearest that fits: both ends of 64 bits are outside every age, year, span and rate of the table and past
-    every parameter's size, so that the refusal is the same."""
+    goes in as the nearest that fits: both ends of 64 bits are outside every age, year, span and rate of the table, no date and
+    past every parameter's size, so that the refusal is the same."""
     checked = array.array("q", (max(LEAST, min(GREATEST, operator.index(value))) for value in values))
     return (ctypes.c_int64 * max(1, len(checked)))(*checked), len(checked)
 
@@ -110,16 +113,30 @@ def write(values):
     return written(LIBRARY.kulfizan_write, numbers, count, room=LONGEST_SHEET)
 
 
+def quoted(call, *given):
+    """The quote that a call writes."""
+    numbers = (ctypes.c_uint64 * QUOTE_LENGTH)()
+    accepted(call(*given, numbers, QUOTE_LENGTH))
+    lower, upper, printed, steps = numbers
+    return Quote(lower, upper, steps if printed else None)
+
+
 def quote(sheet, kind, age, year, span=0, rate=None):
     """The quote of a query of a sheet. The kind is "q", "coh", "per", "ecoh" or "eper" with no rate, or "acoh" or "aper" with
     one, in units of 10^-6; the other way round it is torn, as such a line is."""
     sheet, word = bytes(sheet), kind.encode()
     call, rates = (LIBRARY.kulfizan_quote, ()) if rate is None else (LIBRARY.kulfizan_annuity, (rate,))
     given, _ = signed((age, year, span, *rates))
-    numbers = (ctypes.c_uint64 * QUOTE_LENGTH)()
-    accepted(call(sheet, len(sheet), word, len(word), *given, numbers, QUOTE_LENGTH))
-    lower, upper, printed, steps = numbers
-    return Quote(lower, upper, steps if printed else None)
+    return quoted(call, sheet, len(sheet), word, len(word), *given)
+
+
+def day(sheet, age, year, date):
+    """Survival to a day, along the cohort, from 1 January of the year. The date is a number YYYYMMDD or a `datetime.date`."""
+    if isinstance(date, datetime.date):
+        date = 10_000 * date.year + 100 * date.month + date.day
+    sheet = bytes(sheet)
+    given, _ = signed((age, year, date))
+    return quoted(LIBRARY.kulfizan_day, sheet, len(sheet), *given)
 
 
 def verdict(sheet, year, column):

@@ -2,6 +2,7 @@
 are compared afterwards, with one more behind the last that is lent."""
 import array
 import ctypes
+import fcntl
 import os
 import pathlib
 import subprocess
@@ -15,9 +16,12 @@ SET_LENGTH, QUOTE_LENGTH = 369, 4
 
 
 def built():
-    """The module of python/kulfizan.py over the library as it is built from the sources, or None."""
-    make = ["make", "--no-print-directory", "lib", "examples"]
-    done = subprocess.run(make, cwd=ROOT, stdout=subprocess.PIPE, stderr=subprocess.STDOUT, check=False)
+    """The module of python/kulfizan.py over the library as it is built from the sources, by one test at a time, or None."""
+    make, folder = ["make", "--no-print-directory", "lib", "examples"], ROOT / "target" / "lib"
+    folder.mkdir(parents=True, exist_ok=True)
+    with open(folder / "lock", "w") as lock:
+        fcntl.flock(lock, fcntl.LOCK_EX)
+        done = subprocess.run(make, cwd=ROOT, stdout=subprocess.PIPE, stderr=subprocess.STDOUT, check=False)
     if done.returncode:
         print(done.stdout.decode(errors="replace"))
         return None
@@ -79,6 +83,13 @@ def quote(library, sheet, word, *numbers, before):
     """The number that a query of age, year and span gives, or an annuity's that has a rate too, and the numbers after it."""
     call, values = library.kulfizan_annuity if len(numbers) == 4 else library.kulfizan_quote, held("Q", before)
     number = call(sheet, len(sheet), word, len(word), *numbers, values, len(before))
+    return number, kept(values, before)
+
+
+def day(library, sheet, age, year, date, before):
+    """The number that survival to a date gives, and the numbers after it."""
+    values = held("Q", before)
+    number = library.kulfizan_day(sheet, len(sheet), age, year, date, values, len(before))
     return number, kept(values, before)
 
 

@@ -32,6 +32,10 @@ def old_force(x, fitted):
     return ONE / (ONE + (-g).exp())
 
 
+def part_of(force, days, of):
+    return force * days / of
+
+
 def survival(force):
     return (-force).exp()
 

@@ -133,6 +133,11 @@ def old_force(x, fitted):
     return logistic((down(sum(s[0] for s in sums), 110), up(sum(s[1] for s in sums), 110)))
 
 
+def part_of(force, days, of):
+    """The exponent of a part year, days of so many: each end of force·days/of rounded outward (paper 02, E6)."""
+    return down(force[0] * days, of), up(force[1] * days, of)
+
+
 def death(force):
     p = exp_between(force)
     return UNIT - p[1], UNIT - p[0]

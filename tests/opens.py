@@ -1,5 +1,6 @@
 """Counts the open figures of each kind, with the mean width of their ends and the widest ends of q, by the built program
-`ends`: the example sheets, at every age and in every quote year, survivals over 1, 10 and 20 years and prices at 3%.
+`ends`: the example sheets, at every age and in every quote year, survivals over 1, 10 and 20 years, to a day 10 years on, and
+prices at 3%.
 
 It compares nothing, so it is no test: it tells what a grid leaves open. KULFIZAN_BIN names another folder of programs.
 """
@@ -7,11 +8,12 @@ import pathlib
 import sys
 
 import programs
-from quotes import ANNUITIES, FIRST_YEAR, KINDS, LAST_FITTED, LAST_YEAR, OLDEST, SURVIVALS
+from quotes import ANNUITIES, DAY, FIRST_YEAR, KINDS, LAST_FITTED, LAST_YEAR, OLDEST, SURVIVALS, UNRATED
 
 EXAMPLES = pathlib.Path(__file__).resolve().parent.parent / "examples"
 SHEETS = ("men", "women", "women-b")
 SPANS = (1, 10, 20)
+YEARS_ON, MIDYEAR = 10, 701
 PARTS = ("ages 0 to 90", "ages 91 to 120")
 RATE = 30_000
 MOST_INPUT = 65_536
@@ -20,11 +22,13 @@ MOST_INPUT = 65_536
 def queries():
     for year in range(FIRST_YEAR, LAST_YEAR + 1):
         for age in range(OLDEST + 1):
-            for kind in KINDS:
+            for kind in UNRATED + ANNUITIES:
                 for span in SPANS if kind in SURVIVALS else (0,):
                     if span <= OLDEST + 1 - age:
                         rate = f" rate={RATE}" if kind in ANNUITIES else ""
                         yield f"kind={kind} age={age} year={year} span={span}{rate}\n".encode()
+            if age + YEARS_ON <= OLDEST:
+                yield f"kind={DAY} age={age} year={year} date={(year + YEARS_ON) * 10**4 + MIDYEAR}\n".encode()
 
 
 def runs(sheet):

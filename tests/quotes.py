@@ -1,6 +1,8 @@
-"""Quotes of all seven kinds, written from paper 01 and, for annuities and lives past 120, paper 02: their refusals, their ends
-on the grid, their figures, and their exact values to many digits. A query is a kind, an age, a year and a span, and for an
-annuity a rate."""
+"""Quotes of all eight kinds, written from paper 01 and, for annuities, lives past 120 and survival to a day, paper 02: their
+refusals, their ends on the grid, their figures, and their exact values to many digits. A query is a kind, an age, a year and a
+span, and for an annuity a rate; survival to a day has a date, a number YYYYMMDD, in the span's place. The calendar is that of
+Python's datetime."""
+import datetime
 from decimal import Decimal
 from functools import cache
 
@@ -10,14 +12,17 @@ from grid import START, UNIT, down, up
 from reader import in_limits, numbers_of
 
 SURVIVALS, EXPECTANCIES, ANNUITIES = ("coh", "per"), ("ecoh", "eper"), ("acoh", "aper")
+DAY = "day"
 TENTHS = EXPECTANCIES + ANNUITIES
-COHORT = ("coh", "ecoh", "acoh")
+CHANCES = SURVIVALS + (DAY,)
+COHORT = ("coh", "ecoh", "acoh", DAY)
 UNRATED = ("q",) + SURVIVALS + EXPECTANCIES
-KINDS = UNRATED + ANNUITIES
-OFF_SCALE, NO_AGE, NO_YEAR, NO_SPAN, STEEP, NO_RATE = 2, 3, 4, 5, 6, 8
+KINDS = UNRATED + ANNUITIES + (DAY,)
+OFF_SCALE, NO_AGE, NO_YEAR, NO_SPAN, STEEP, NO_RATE, NO_DATE = 2, 3, 4, 5, 6, 8, 10
 OLDEST, LAST_FITTED, CLOSURE = 120, 90, range(80, 91)
 FIRST_YEAR, LAST_YEAR, LAST_CELL = 2014, 2064, 2184
 RATE_UNIT, MOST_RATE = 10**6, 200_000
+FIRST_DATED, LAST_DATED = 1000, 9999
 OPEN = "open"
 
 
@@ -26,11 +31,40 @@ def step(kind):
     return UNIT // 10 if kind in TENTHS else UNIT // 10**5
 
 
-def width(kind, age):
-    """How far apart the ends may be."""
+def day_of(date):
+    """The day of a number YYYYMMDD, or None where it is none."""
+    year, (month, day) = date // 10**4, divmod(date % 10**4, 100)
+    if not FIRST_DATED <= year <= LAST_DATED:
+        return None
+    try:
+        return datetime.date(year, month, day)
+    except ValueError:
+        return None
+
+
+def number_of(day):
+    """The number YYYYMMDD of a day."""
+    return day.year * 10**4 + day.month * 100 + day.day
+
+
+def part_year(day):
+    """The days since 1 January, and how many the day's year has."""
+    new_year, last = datetime.date(day.year, 1, 1), datetime.date(day.year, 12, 31)
+    return (day - new_year).days, (last - new_year).days + 1
+
+
+def term(age, year):
+    """The first and the last day to which survival is asked: the last is in the year in which age 120 is held."""
+    return datetime.date(year, 1, 1), datetime.date(year + OLDEST - age, 12, 31)
+
+
+def width(kind, age, year, span, *_):
+    """How far apart the ends may be; those of survival to a day by the age held on it."""
+    held = age + day_of(span).year - year if kind == DAY else age
+    last = 100 if held <= LAST_FITTED else 600
     if kind == "q":
-        return 100 if age <= LAST_FITTED else 600
-    return 10_000_000 if kind in TENTHS else 30_000
+        return last
+    return 10_000_000 if kind in TENTHS else 30_000 + last if kind == DAY else 30_000
 
 
 def factors_from(year):
@@ -38,9 +72,20 @@ def factors_from(year):
     return LAST_CELL + 1 - year
 
 
+def path_to(age, year, day):
+    """The cells of survival to a day: a cohort's of the whole years, and of the last, where days of it have passed, with these
+    and how many it has."""
+    whole, (days, of) = day.year - year, part_year(day)
+    last = [(age + whole, year + whole, days, of)] if days else []
+    return [(age + s, year + s) for s in range(whole)] + last
+
+
 def path(kind, age, year, span):
-    """The cells, (age, year), whose p or q an accepted quote is made of. The probability of age 120, in the year reached,
-    serves all older ages; expectancies and annuities have a factor for each year to 2184, period ones as many."""
+    """The cells, (age, year), whose p or q an accepted quote is made of, and for a part year its days and how many the year
+    has. The probability of age 120, in the year reached, serves all older ages; expectancies and annuities have a factor for
+    each year to 2184, period ones as many."""
+    if kind == DAY:
+        return path_to(age, year, day_of(span))
     count = span if kind in SURVIVALS else 1 if kind == "q" else factors_from(year)
     on = 1 if kind in COHORT else 0
     return [(min(age + s, OLDEST), year + on * s) for s in range(count)]
@@ -80,7 +125,7 @@ def grid_ends(kind, factors, rate=None):
     for lower, upper in factors:
         alive = down(alive[0] * lower, UNIT), up(alive[1] * upper, UNIT)
         total = total[0] + alive[0], total[1] + alive[1]
-    return alive if kind in SURVIVALS else total
+    return alive if kind in CHANCES else total
 
 
 def exact_price(factors, rate):
@@ -92,8 +137,8 @@ def exact_price(factors, rate):
 
 
 class Cells:
-    """The p of a set's cells in some arithmetic, each worked once: kappa once a year, the closure's fit once a year, and only
-    the cells that are asked for."""
+    """The p of a set's cells, of a year or a part of one, in some arithmetic, each worked once: kappa once a year, the closure's
+    fit once a year, and only the cells that are asked for."""
 
     def __init__(self, params):
         self.params = params
@@ -103,6 +148,11 @@ class Cells:
         if age <= LAST_FITTED:
             return self.arithmetic.young_force(self.m(age, year))
         return self.arithmetic.old_force(age, self.fitted(year))
+
+    def passed(self, age, year, part):
+        """The exponent of a year, or of a part of one."""
+        force = self.force(age, year)
+        return self.arithmetic.part_of(force, *part) if part else force
 
     def fitted(self, year):
         return [self.arithmetic.inverse_logistic(self.m(y, year), self.force(y, year)) for y in CLOSURE]
@@ -119,10 +169,10 @@ class GridCells(Cells):
         period = self.params["K"] + (year - START) * self.params["theta"]
         return grid.log_force(self.params, age, period, self.kappas[year - START])
 
-    def p(self, age, year):
-        return grid.exp_between(self.force(age, year))
+    def p(self, age, year, *part):
+        return grid.exp_between(self.passed(age, year, part))
 
-    def steep(self, age, year):
+    def steep(self, age, year, *_):
         return not all(grid.in_range(self.m(y, year)) for y in (CLOSURE if age > LAST_FITTED else [age]))
 
 
@@ -136,8 +186,8 @@ class ExactCells(Cells):
     def m(self, age, year):
         return exact.log_force(self.params, age, year, self.kappa(year))
 
-    def p(self, age, year):
-        return exact.survival(self.force(age, year))
+    def p(self, age, year, *part):
+        return exact.survival(self.passed(age, year, part))
 
 
 class Quotes:
@@ -149,14 +199,21 @@ class Quotes:
             self.grid, self.exact = GridCells(params), ExactCells(params)
 
     def refusal(self, kind, age, year, span, rate=None):
-        """The lowest number of the paper's table that applies, where 8 comes after 5 and before 6, or 0."""
+        """The lowest number of the paper's table that applies, where 8 comes after 5 and before 6, and 10 after 4 and before
+        5, or 0."""
         if not self.in_limits:
             return OFF_SCALE
         if not 0 <= age <= OLDEST:
             return NO_AGE
         if not FIRST_YEAR <= year <= (LAST_CELL if kind == "q" else LAST_YEAR):
             return NO_YEAR
-        if not 0 <= span <= (OLDEST + 1 - age if kind in SURVIVALS else 0):
+        if kind == DAY:
+            day, (first, last) = day_of(span), term(age, year)
+            if day is None:
+                return NO_DATE
+            if not first <= day <= last:
+                return NO_SPAN
+        elif not 0 <= span <= (OLDEST + 1 - age if kind in SURVIVALS else 0):
             return NO_SPAN
         if kind in ANNUITIES and not 0 <= rate <= MOST_RATE:
             return NO_RATE
@@ -177,4 +234,4 @@ class Quotes:
         for p in factors:
             alive *= p
             total += alive
-        return (alive if kind in SURVIVALS else total) * UNIT
+        return (alive if kind in CHANCES else total) * UNIT

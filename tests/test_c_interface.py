@@ -1,10 +1,12 @@
-"""The library's calls from other languages: every answer to a query of a sheet, with a rate or without, against a second
+"""The library's calls from other languages: every answer to a query of a sheet, with a rate, a date or neither, against a second
 implementation, the refusal, both ends and the figure, with every number that was lent; the whole run of an input, with every
 byte that was lent; the Python module's own functions; and the example in C.
 
-Sheets, sets and the two calls between them are tests/test_sheets.py. An argument is taken as the seed.
+Sheets, sets and the two calls between them are tests/test_sheets.py, and which numbers are dates is tests/test_dates.py. An
+argument is taken as the seed.
 """
 import collections
+import datetime
 import itertools
 import os
 import pathlib
@@ -20,7 +22,7 @@ import sheets
 import test_quotes
 from c_interface import GREATEST, LEAST, QUOTE_LENGTH, ROOT
 from grid import flat
-from quotes import ANNUITIES, KINDS, OPEN, UNRATED, Quotes, figure
+from quotes import ANNUITIES, DAY, KINDS, OPEN, UNRATED, Quotes, figure
 from reader import KEYS, LIMITS, LONGEST, SHORT, SIZES, TORN, numbers_of, params_of, read
 
 SEED = 20142065
@@ -32,6 +34,8 @@ PLACES = (QUOTE_LENGTH, QUOTE_LENGTH, QUOTE_LENGTH, QUOTE_LENGTH + 1, 9, QUOTE_L
 AGES = (LEAST, LEAST + 1, -(2**32) + 65, -1, 0, 65, 120, 121, 2**32 + 65, GREATEST)
 YEARS = (LEAST, 2013, 2014, 2064, 2065, 2184, 2185, 2**32 + 2020, GREATEST)
 SPANS = (LEAST, -1, 0, 1, 2**32, 2**32 + 1, GREATEST)
+DATES = (LEAST, -20200315, -1, 0, 20191231, 20200101, 20200229, 20210229, 21000229, 21041231, 99991231, 100000101)
+DATES += (2**32 + 20200315, 2**63 - 2**32 + 20200315, GREATEST)
 RATES = (LEAST, -(2**32) + 30_000, -1, 0, 1, 30_000, 199_999, 200_000, 200_001, 2**32, 2**32 + 30_000, GREATEST)
 
 
@@ -44,6 +48,7 @@ def at_ends(draw):
     """Numbers at and past the limits of the table and at both ends of 64 bits, in all combinations, and any others; all rates
     where nothing else is refused, else some."""
     yield from itertools.product(UNRATED, AGES, YEARS, SPANS)
+    yield from itertools.product((DAY,), AGES, YEARS, DATES)
     for query in itertools.product(ANNUITIES, AGES, YEARS, SPANS):
         yield from ((*query, rate) for rate in (RATES if query[1:] == (65, 2014, 0) else draw.sample(RATES, 2)))
     for _ in range(300):
@@ -51,6 +56,7 @@ def at_ends(draw):
         numbers = 4 if kind in ANNUITIES else 3
         yield (kind, *(draw.choice((65, 2020, 0, any_number(draw))) for _ in range(numbers)))
         yield (draw.choice(ANNUITIES), 65, 2020, 0, any_number(draw))
+        yield DAY, 65, 2020, any_number(draw)
 
 
 def cases(draw):
@@ -102,7 +108,10 @@ def compare_queries(count, counts, draw, library, one):
             before = lent(draw, places)
             wanted = after(refused, quoted, before)
             counts["short"] += wanted[0] == SHORT
-            got = c_interface.quote(library, one.data, kind.encode(), *numbers, before=before)
+            if kind == DAY:
+                got = c_interface.day(library, one.data, *numbers, before=before)
+            else:
+                got = c_interface.quote(library, one.data, kind.encode(), *numbers, before=before)
             count.take(got == wanted, f"{one.name}, {query}, {places} places: {got} and not {wanted}")
 
 
@@ -130,11 +139,11 @@ def words(draw):
 
 
 def compare_words(count, draw, library):
-    """Such a word is torn whatever the sheet, the age and the places are; and so are the words of a rate without one, and the
-    other way round."""
+    """Such a word is torn whatever the sheet, the age and the places are; so are the words of a rate without one, and the
+    other way round, and `day` with either."""
     good = sheets.text(flat())
     off_scale = sheets.text(dict(flat(), a=SIZES["a"] + 1))
-    for word in words(draw):
+    for word in [DAY.encode()] * 20 + list(words(draw)):
         for kinds, rates in ((UNRATED, ()), (ANNUITIES, (0, 30_000, 200_001))):
             if word.decode("latin-1") in kinds:
                 continue
@@ -151,6 +160,7 @@ def inputs(draw):
     sheet = sheets.text(flat())
     queries = [("ecoh", 65, 2020, 0), ("q", 65, 2020, 0), ("coh", 119, 2020, 2), ("q", 121, 1, -1), ("per", 0, 2064, 122)]
     queries += [("acoh", 65, 2020, 0, 30_000), ("aper", 0, 2064, 0, 0), ("aper", 120, 2014, 0, 200_001)]
+    queries += [(DAY, 65, 2020, 20410315), (DAY, 65, 2020, 21000229), (DAY, 119, 2020, 20220101)]
     lines = [test_quotes.line_of(query) for query in queries]
     good = lines[0]
     lines += [b"\n", b"kind=q\n", good[:-1] + b" \n", good[:-1] + b" rate=0\n", good.upper(), draw.randbytes(50) + b"\n"]
@@ -199,10 +209,25 @@ def far_refusals(module, sheet, values):
         yield 5, module.quote, sheet, "ecoh", 65, 2020, far
         yield 8, module.quote, sheet, "acoh", 65, 2020, 0, far
         yield 3, module.quote, sheet, "aper", far, far, far, far
+        yield 3, module.day, sheet, far, far, far
+        yield 4, module.day, sheet, 65, far, far
+        yield 10, module.day, sheet, 65, 2020, far
+        yield 10, module.day, sheet, 65, 2020, far + 20200101
         yield TORN, module.quote, sheet, "ecoh", 65, 2020, 0, far
         yield TORN, module.write, [far] + values[1:]
         yield TORN, module.write, values + [far]
         yield from ((2, module.write, values[:i] + [far] + values[i + 1 :]) for i in (1, 2, 3, 4, 5, 6, 7, 8, 368))
+
+
+def compare_days(count, module, sheet, given):
+    """Survival to a date, which is a number or a day."""
+    for year, month, day in ((2020, 1, 1), (2041, 3, 15), (2060, 12, 31), (2020, 2, 29), (2075, 12, 31), (2076, 1, 1)):
+        date = year * 10**4 + month * 100 + day
+        no, numbers = answer(given, 0, (DAY, 65, 2020, date))
+        wanted = no or (*numbers[:2], numbers[3] if numbers[2] else None)
+        for asked in (date, datetime.date(year, month, day)):
+            got = raised(module.day, sheet, 65, 2020, asked) or tuple(module.day(sheet, 65, 2020, asked))
+            count.take(got == wanted, f"day to {asked} gives {got} and not {wanted}")
 
 
 def compare_module(count, draw, module):
@@ -220,6 +245,7 @@ def compare_module(count, draw, module):
         wanted = None if no else (*numbers[:2], numbers[3] if numbers[2] else None)
         got = raised(module.quote, sheet, *query) or tuple(module.quote(sheet, *query))
         count.take(got == (no or wanted), f"quote gives {got} and not {no or wanted}")
+    compare_days(count, module, sheet, given)
     lower, upper, steps = module.quote(sheets.text(flat()), "ecoh", 120, 2064)
     wanted = lower + 5 * 10**8, upper + 5 * 10**8, steps + 5
     count.take(steps == 27, "the flat sheet's expectancy at 120 is not 2.7")
@@ -238,12 +264,20 @@ def compare_module(count, draw, module):
         (8, module.quote, steep, "aper", 65, 2020, 0, 200_001), (6, module.quote, steep, "aper", 65, 2020, 0, 200_000),
         ("TypeError", module.quote, sheet, "acoh", 65, 2020, 0, 0.03), ("TypeError", module.quote, sheet, "q", 65.5, 2020),
         ("TypeError", module.quote, sheet, "q", 1e30, 2020), ("TypeError", module.quote, sheet, "q", "65", 2020),
+        (TORN, module.quote, sheet, DAY, 65, 2020, 20410315), (TORN, module.quote, sheet, DAY, 65, 2020, 0, 0),
+        (TORN, module.day, b"", 121, 2065, 0), (2, module.day, off_scale, 121, 2065, 0), (3, module.day, sheet, 121, 2065, 0),
+        (4, module.day, sheet, 65, 2065, 0), (10, module.day, sheet, 65, 2020, 21000229), (10, module.day, steep, 65, 2020, -1),
+        (5, module.day, steep, 65, 2020, 20760101), (5, module.day, sheet, 65, 2020, datetime.date(2019, 12, 31)),
+        (5, module.day, steep, 65, 2020, datetime.date(1000, 1, 1)), (10, module.day, steep, 65, 2020, datetime.date(999, 12, 31)),
+        (6, module.day, steep, 65, 2020, 20200102), (6, module.day, steep, 65, 2020, datetime.date(2020, 1, 2)),
+        ("TypeError", module.day, sheet, 65, 2020, 20410315.0), ("TypeError", module.day, sheet, 65, 2020, "20410315"),
+        ("TypeError", module.day, sheet, 65, 2020, None),
         *far_refusals(module, sheet, values),
     ]
     for wanted, call, *rest in refusals:
         got = raised(call, *rest)
         count.take(got == wanted, f"{call.__name__} {str(rest[-3:])[:60]}: {got} and not {wanted}")
-    for no, word in ((1, "torn"), (8, "rate")):
+    for no, word in ((1, "torn"), (8, "rate"), (10, "date")):
         count.take(word in str(module.Refused(no)), f"refusal {no} has no words")
 
 

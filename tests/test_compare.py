@@ -18,11 +18,12 @@ import whole_run
 import programs
 import sheets
 from grid import HIGHEST, flat
-from quotes import COHORT, FIRST_YEAR, KINDS, LAST_YEAR, OLDEST, OPEN, SURVIVALS, TENTHS, Quotes, rounded
+from quotes import COHORT, FIRST_YEAR, KINDS, LAST_YEAR, OPEN, TENTHS, Quotes, rounded
 from reader import KEYS, LONGEST, SIZES
-from test_runs import EXAMPLES, FIXED, FLAT, LINE_ENDS, RATED, Input, closes_early, compared, complaint, damaged, endless
-from test_runs import from_file, full_device, off_scale, one_of_each, padded, piecewise, pool, some, torn_lines, with_value
-from test_quotes import any_rate, at_limits, line_of, mild, moved, moving, searched, usual
+from test_runs import DATED, EXAMPLES, FIXED, FLAT, LINE_ENDS, RATED, TORN_DATES, TORN_RATES, Input, closes_early, compared
+from test_runs import complaint, damaged, endless, from_file, full_device, off_scale, one_of_each, padded, piecewise, pool, some
+from test_runs import torn_lines, with_value
+from test_quotes import any_rate, at_limits, lasting, line_of, mild, moved, moving, searched, usual
 
 SEED = 20142015
 LEAST_INPUTS, LEAST_PAIRS, LEAST_TOLD = 500, 48, 400
@@ -41,6 +42,8 @@ APART = {
     b"kind=aper age=119 year=2064 span=0 rate=0": (b" fig=3.2", b" fig=7.9", b"below", b" least=4651457992 most=4651462682"),
     b"kind=eper age=120 year=2014 span=0": (b" fig=2.7", b" fig=7.4", b"below", b" least=4651458255 most=4651463471"),
     b"kind=acoh age=120 year=2014 span=0 rate=0": (b" fig=3.2", b" fig=7.9", b"below", b" least=4651458255 most=4651463471"),
+    b"kind=day age=65 year=2020 date=20210701": (b" fig=0.57677", b" fig=0.81673", b"below", b" least=239957422 most=239957466"),
+    b"kind=day age=119 year=2020 date=20211231": (b" fig=0.47962", b" fig=0.76315", b"below", b" least=283525720 most=283525887"),
 }
 EXCHANGED = {b"below": b"above", b"above": b"below"}
 
@@ -55,7 +58,7 @@ def text_of(pair):
 # ---- two sheets that are read
 
 def fixed_rows():
-    """Two sheets, and what is printed after each query, whatever the second implementation says."""
+    """Two sheets, and what is printed after each query, whatever the second implementation says; nothing after a torn one."""
     same = {query: end for query, end in FIXED.items() if end.startswith(b" no=")}
     ones = [query for query, end in FIXED.items() if end == b" fig=1.00000"]
     same |= {query: FIXED[query] * 2 + b" values=near most=0" for query in ones}
@@ -66,8 +69,11 @@ def fixed_rows():
         exchanged[query] = other + one + b" values=" + EXCHANGED[word] + by
     yield "flat, lower", FLAT + LOWER, apart
     yield "lower, flat", LOWER + FLAT, exchanged
+    yield "flat, lower, torn", FLAT + LOWER, dict.fromkeys(TORN_RATES + TORN_DATES, b"")
     steep = dict.fromkeys(APART, b" no=6") | {b"kind=q age=121 year=2020 span=0": b" no=3"}
     steep |= {RATED + b" rate=200001": b" no=8", b"kind=aper age=65 year=2020 span=1 rate=-1": b" no=5"}
+    steep |= {DATED + b" date=21000229": b" no=10", DATED + b" date=20760101": b" no=5"}
+    steep[DATED + b" date=20200101"] = b" fig=1.00000 fig=1.00000 values=near most=0"
     steep[b"kind=per age=120 year=2014 span=0"] = b" fig=1.00000 fig=1.00000 values=near most=0"
     for name, data in (("flat, steep", FLAT + STEEP), ("steep, flat", STEEP + FLAT), ("steep twice", STEEP * 2)):
         yield name, data, steep
@@ -77,7 +83,7 @@ def fixed_runs():
     """Those rows as inputs, each with the output that it must give."""
     for name, data, rows in fixed_rows():
         body = b"".join(query + b"\n" for query in rows)
-        yield Input(name, data + body), b"".join(query + end + b"\n" for query, end in rows.items())
+        yield Input(name, data + body), b"".join((query + end if end else b"no=1") + b"\n" for query, end in rows.items())
 
 
 def valid(draw, ready, torn, count):
@@ -260,7 +266,8 @@ def example_pairs(draw):
     """The examples, each with each."""
     every = sorted(EXAMPLES.glob("*.sheet"))
     for one, other in itertools.product(every, every):
-        queries = [("ecoh", 65, 2015, 0), ("acoh", 65, 2015, 0, 30_000)] + asked(draw, draw.randint(FIRST_YEAR, LAST_YEAR), 1)
+        queries = [("ecoh", 65, 2015, 0), ("acoh", 65, 2015, 0, 30_000), ("day", 65, 2020, 20410315)]
+        queries += asked(draw, draw.randint(FIRST_YEAR, LAST_YEAR), 1)
         yield Pair(f"{one.name}, {other.name}", one.read_bytes(), other.read_bytes(), queries, None)
 
 
@@ -287,8 +294,8 @@ def met_pairs(job):
     while not out.keys() >= {0, 1}:
         params = mild(draw)
         age = draw.randint(60, 79 if kind in TENTHS and kind in COHORT else 88)
-        span = draw.randint(1, OLDEST + 1 - age) if kind in SURVIVALS else 0
-        query = (kind, age, draw.randint(FIRST_YEAR, LAST_YEAR), span, *any_rate(draw, kind))
+        year = draw.randint(FIRST_YEAR, LAST_YEAR)
+        query = (kind, age, year, lasting(draw, kind, age, year), *any_rate(draw, kind))
         ends_at, kept = moving(params, "A", query), {}
         top = ends_at(0)[1]
 
@@ -385,7 +392,7 @@ def tally(pair, want, counts):
 
 MET = {0: "touching", 1: "a unit apart"}
 TOLD = ("below", "above", "near", "equal", "touching", "a unit apart", "open first", "open second", "open both")
-REFUSALS = (1, 3, 4, 5, 8, 6)
+REFUSALS = (1, 3, 4, 10, 5, 8, 6)
 
 
 def wanted_counts():

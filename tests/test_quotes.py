@@ -3,13 +3,15 @@ exact value to many digits, which must lie between the ends and round to the pri
 
 It hands sheets and query lines to the program `ends`: the flat sheet, realistic and extreme ones, steep ones, refused ones,
 and some that are searched for an end at a half step. Annuities are asked at each end of the rates and past it, and at rate 0
-held against the expectancy of the same age. Expectancies and annuities are asked at 120 in each year; where all ages have one
+held against the expectancy of the same age. Survival to a day is asked at and past both ends of its term and of numbers that are
+no day; its own dates are tests/test_day.py. Expectancies and annuities are asked at 120 in each year; where all ages have one
 force they are held against a plain sum over the years to 2184; and some sheets have a steep cell in one year alone, which a
 life may reach past 120. A line has no number of more than 15 digits, so the least and greatest numbers are those of 15 digits.
 An argument is taken as the seed.
 """
 import collections
 import concurrent.futures
+import datetime
 import itertools
 import random
 import re
@@ -20,21 +22,21 @@ import programs
 import sheets
 from whole_run import figure_text
 from grid import HIGHEST, LOWEST, RATE, START, UNIT, down, flat, kappas, log_force, up
-from quotes import ANNUITIES, CLOSURE, COHORT, EXPECTANCIES, FIRST_YEAR, KINDS, LAST_CELL, LAST_FITTED, LAST_YEAR, MOST_RATE
-from quotes import OLDEST, OPEN, RATE_UNIT, STEEP, SURVIVALS, TENTHS, UNRATED, GridCells, Quotes, figure, grid_ends, path
-from quotes import rounded, step, width
+from quotes import ANNUITIES, CLOSURE, COHORT, DAY, EXPECTANCIES, FIRST_YEAR, KINDS, LAST_CELL, LAST_FITTED, LAST_YEAR
+from quotes import MOST_RATE, OLDEST, OPEN, RATE_UNIT, STEEP, SURVIVALS, TENTHS, UNRATED, GridCells, Quotes, day_of, figure
+from quotes import grid_ends, number_of, part_year, path, rounded, step, term, width
 from reader import LONGEST, SIZES, params_of, read
 
 SEED = 20142064
 LEAST, GREATEST = 1 - 10**15, 10**15 - 1
 NEAR = 5
-REFUSALS = (1, 2, 3, 4, 5, 8, 6)
+REFUSALS = (1, 2, 3, 4, 10, 5, 8, 6)
 SORTS = ("flat", "realistic", "extreme")
 LEAST_ANNUITIES, LEAST_TENTHS = 3000, 3000
 ANSWER = re.compile(r"lo=([0-9]+) hi=([0-9]+) fig=([0-9.]+|open)")
 
-# A sheet, its queries (kind, age, year, span, and the rate of an annuity), and what some of the lines must end in, whatever
-# the second implementation says.
+# A sheet, its queries (kind, age, year, span, and the rate of an annuity; the date of a day in the span's place), and what some
+# of the lines must end in, whatever the second implementation says.
 Case = collections.namedtuple("Case", "name data queries fixed")
 
 
@@ -43,7 +45,7 @@ def case(name, params, queries, fixed=None):
 
 
 def line_of(query):
-    keys = ("age", "year", "span", "rate")
+    keys = ("age", "year", "date") if query[0] == DAY else ("age", "year", "span", "rate")
     return "".join([f"kind={query[0]}", *(f" {key}={value}" for key, value in zip(keys, query[1:])), "\n"]).encode()
 
 
@@ -52,17 +54,40 @@ def line_of(query):
 AGES = (LEAST, -1, 0, 1, 90, 91, 119, 120, 121, GREATEST)
 YEARS = (LEAST, 2013, 2014, 2064, 2065, 2184, 2185, GREATEST)
 RATES = (LEAST, -1, 0, 1, 30_000, MOST_RATE - 1, MOST_RATE, MOST_RATE + 1, GREATEST)
+# Numbers that are no day, among them 29 February of years that are not leap years, and 1 January of years past four digits.
+NO_DAYS = (
+    LEAST, -20200101, -1, 0, 1, 2020, 202001, 9990101, 9991231, 10000100, 20200000, 20200001, 20200100, 20200132, 20200230,
+    20200431, 20201301, 20209999, 20210229, 21000229, 99991232, 100000101, 202001011, 2**32 + 20200101, GREATEST,
+)
+ONE_DAY = datetime.timedelta(1)
+
+
+def dates_near(age, year):
+    """The dates at and past both ends of a term, and the first and last days that there are; those of the nearest age and year
+    where these are outside the table."""
+    first, last = term(max(0, min(OLDEST, age)), max(FIRST_YEAR, min(LAST_YEAR, year)))
+    days = [first - ONE_DAY, first, first + ONE_DAY, last - ONE_DAY, last, last + ONE_DAY]
+    return [*map(number_of, days), 10000101, 99991231]
 
 
 def at_limits():
-    """Ages, years, spans and rates at and past every limit, and the least and greatest numbers, in all combinations, of which
-    annuities have those nearest to the limits."""
+    """Ages, years, spans, rates and dates at and past every limit, and the least and greatest numbers, in all combinations, of
+    which annuities and days have those nearest to the limits."""
     out = []
     for age in AGES:
         spans = (LEAST, -1, 0, 1, 120 - age, 121 - age, 122 - age, GREATEST)
         spans = sorted({span for span in spans if LEAST <= span <= GREATEST})
         out += itertools.product(UNRATED, [age], YEARS, spans)
+    for age, year in itertools.product((LEAST, -1, 0, 90, 119, 120, 121), (2013, 2014, 2064, 2065, GREATEST)):
+        out += [(DAY, age, year, date) for date in (*NO_DAYS, *dates_near(age, year))]
     return out + list(itertools.product(ANNUITIES, (-1, 0, 119, 120, 121), (2013, 2014, 2064, 2065), (-1, 0, 1), RATES))
+
+
+def any_date(draw, age, year):
+    """A date of a term."""
+    first, last = term(age, year)
+    day = first + draw.randint(0, (last - first).days) * ONE_DAY
+    return number_of(draw.choice((first, last, day, day, day, day.replace(month=1, day=1), day.replace(month=12, day=31))))
 
 
 def any_span(draw, age):
@@ -76,6 +101,8 @@ def any_rate(draw, kind):
 
 def any_query(draw, kind, age, year):
     """A query that breaks no limit."""
+    if kind == DAY:
+        return kind, age, year, any_date(draw, age, year)
     return kind, age, year, any_span(draw, age) if kind in SURVIVALS else 0, *any_rate(draw, kind)
 
 
@@ -98,7 +125,8 @@ def usual(draw, years, each):
             out.append(("q", age, draw.choice((year, draw.randint(FIRST_YEAR, LAST_CELL))), 0))
             out += [any_query(draw, kind, age, year) for kind in ("per", "eper", "aper")]
             start, begun = youngest + later, min(LAST_YEAR, year + later)
-            out += [any_query(draw, kind, start, begun) for kind in ("coh", "ecoh", "acoh")]
+            out += [any_query(draw, kind, start, begun) for kind in COHORT]
+        out += [any_query(draw, DAY, 0, year), any_query(draw, DAY, OLDEST, year)]
         out += [("ecoh", 0, year, 0), ("coh", 0, year, draw.randint(1, OLDEST + 1)), any_query(draw, "acoh", 0, year)]
         out += [any_query(draw, kind, OLDEST, year) for kind in TENTHS]
     return sorted(set(out))
@@ -118,14 +146,20 @@ def fixed_cases():
         ("eper", 121, 2065, 1): "no=3", ("eper", 120, 2065, 1): "no=4",
         ("ecoh", 120, 2014, 0): "fig=2.7", ("eper", 120, 2014, 0): "fig=2.7", ("acoh", 120, 2064, 0, 0): "fig=3.2",
         ("aper", 120, 2064, 0, 0): "fig=3.2", ("acoh", 120, 2014, 0, MOST_RATE): "fig=2.4",
+        (DAY, 65, 2020, 20200101): "fig=1.00000", (DAY, 119, 2020, 20210101): "fig=0.69220",
+        (DAY, 119, 2020, 20211231): "fig=0.47962", (DAY, 119, 2020, 20220101): "no=5", (DAY, 0, 2064, 21850101): "no=5",
+        (DAY, 0, 2064, 21841231): "fig=0.00000", (DAY, 65, 2020, 20191231): "no=5", (DAY, 65, 2020, 21000229): "no=10",
+        (DAY, 65, 2065, 21000229): "no=4", (DAY, 121, 2065, 21000229): "no=3",
     }
     yield case("flat, the paper's rows", flat(), list(rows), rows)
     needy = [("q", 90, 2014, 0), ("q", 91, 2184, 0), ("coh", 0, 2064, 121), ("per", 30, 2020, 1)]
     needy += [("ecoh", 0, 2014, 0), ("eper", 91, 2014, 0), ("acoh", 119, 2064, 0, 0), ("aper", 0, 2014, 0, MOST_RATE)]
     needy += [("ecoh", 120, 2064, 0), ("eper", 120, 2014, 0), ("acoh", 120, 2064, 0, 0), ("aper", 120, 2014, 0, 30_000)]
-    free = {("coh", 7, 2020, 0): "fig=1.00000", ("per", 120, 2064, 0): "fig=1.00000"}
+    needy += [(DAY, 0, 2014, 20140102), (DAY, 120, 2064, 20641231), (DAY, 90, 2020, 20210101)]
+    free = {("coh", 7, 2020, 0): "fig=1.00000", ("per", 120, 2064, 0): "fig=1.00000", (DAY, 7, 2020, 20200101): "fig=1.00000"}
     for a, end in ((HIGHEST, ""), (HIGHEST + 1, "no=6"), (LOWEST, ""), (LOWEST - 1, "no=6")):
         rows = dict.fromkeys(needy, end) | free | {query: "no=8" for query in refused_rates()}
+        rows |= {(DAY, 0, FIRST_YEAR, date): "no=10" for date in NO_DAYS}
         yield case(f"every A {a}", dict(flat(), A=[a] * 91), list(rows), rows)
 
 
@@ -136,11 +170,15 @@ def refused_rates():
 
 
 def refused_in_order():
-    """The order of an annuity's refusals, at any rate."""
+    """The order of an annuity's refusals, at any rate, and of a day's, at any date."""
     rows = {query: "no=8" for query in refused_rates()}
     for kind, rate in itertools.product(ANNUITIES, RATES):
         for age, year, no in ((-1, 2013, 3), (121, 2065, 3), (120, 2065, 4), (0, 2013, 4), (120, 2064, 5), (0, 2014, 5)):
             rows |= {(kind, age, year, span, rate): f"no={no}" for span in (LEAST, -1, 1, 121 - age)}
+    for age, year, no in ((-1, 2013, 3), (121, 2065, 3), (120, 2065, 4), (0, 2013, 4), (120, 2064, 10), (0, 2014, 10)):
+        rows |= {(DAY, age, year, date): f"no={no}" for date in NO_DAYS}
+        others = dates_near(age, year)
+        rows |= {(DAY, age, year, date): f"no={5 if no == 10 else no}" for date in (others[0], *others[5:])}
     yield case("flat, refusals in order", flat(), list(rows), rows)
 
 
@@ -196,6 +234,8 @@ def limit_cases(draw):
         kind = draw.choice(KINDS)
         queries.append((kind, *(draw.randint(LEAST, GREATEST) for _ in range(4 if kind in ANNUITIES else 3))))
         queries.append(("acoh", 65, 2020, 0, draw.randint(LEAST, GREATEST) // 10 ** draw.randrange(15)))
+        queries.append((DAY, 65, 2020, draw.randint(LEAST, GREATEST) // 10 ** draw.randrange(15)))
+        queries.append((DAY, 65, 2020, draw.randint(2000, 2100) * 10**4 + draw.randint(0, 1331)))
     yield case("numbers of any size", flat(), queries)
 
 
@@ -203,7 +243,7 @@ def refused_cases(draw):
     """Torn and off-scale sheets, and those at the very limit."""
     sheet = sheets.text(sheets.realistic(draw))
     queries = draw.sample(at_limits(), 12) + [("q", 65, 2020, 0), ("ecoh", 121, 2065, 1), ("coh", 0, 2014, 0)]
-    queries += [("aper", 120, 2020, 0, 0), ("acoh", 65, 2020, 0, MOST_RATE + 1)]
+    queries += [("aper", 120, 2020, 0, 0), ("acoh", 65, 2020, 0, MOST_RATE + 1), (DAY, 65, 2020, 20410315), (DAY, 65, 2020, 0)]
     torn = [b"", sheet[:-1], b"\n" + sheet, sheet[: len(sheet) // 2], sheet.replace(b"sex", b"Sex")]
     torn.append(sheet.ljust(LONGEST, b"\n"))
     for i, data in enumerate(torn):
@@ -263,9 +303,12 @@ def around(draw, age, year):
                 first = begun + (start - age + back) * (kind == "coh")
                 out += [any_query(draw, "e" + kind, start, first), any_query(draw, "a" + kind, start, first)]
                 out.append(("a" + kind, start, first, 0, draw.choice((-1, MOST_RATE + 1))))
+        ends = [year * 10**4 + date for date in (101, 102, 1231)] + [(year + 1) * 10**4 + 101, year * 10**4 + 1301]
+        out += [(DAY, age - back, year - back, date) for date in ends]
     out += [("q", x, y, 0) for x in {age, age + 1, 79, 80, 90, 91, 120} for y in (year, year + 1)]
     for x, span in ((91, 0), (91, 1), (120, 0), (79, 1), (79, 2)):
         out += [(kind, x, year, span) for kind in SURVIVALS]
+        out += [(DAY, x, year, (year + span) * 10**4 + date) for date in (101, 102)]
     for x in {*range(117, 121), OLDEST - draw.randint(0, year - FIRST_YEAR)}:
         out += [any_query(draw, kind, x, year - OLDEST + x) for kind in ("acoh", "ecoh")] + [any_query(draw, "aper", x, year)]
     return sorted({query for query in out if query[1] >= 0})
@@ -313,12 +356,15 @@ def needs(query, fitted, when):
     if kind not in COHORT:
         return year == when and (kind in TENTHS or span == OLDEST + 1 - age)
     held = age + when - year
+    if kind == DAY:
+        day = day_of(span)
+        span = day.year - year + (part_year(day)[0] > 0)
     return held >= age and (held == fitted or held > LAST_FITTED) and (kind in TENTHS or held < age + span)
 
 
 def steep_once_cases(draw):
     """A closure that is steep in one year alone. A life of the age `before` reaches 120 in that year, and an older one is past
-    it; full spans end there."""
+    it; full spans end there, and so do some days."""
     late = (LAST_YEAR + 1, 2100, 2121, draw.randint(2070, LAST_CELL), LAST_CELL - 1, LAST_CELL)
     for when in (FIRST_YEAR, draw.randint(FIRST_YEAR, LAST_YEAR), LAST_YEAR, *late):
         params, fitted = steep_once(draw, when)
@@ -331,6 +377,9 @@ def steep_once_cases(draw):
             for age in sorted(x for x in ages if 0 <= x <= OLDEST):
                 queries += [any_query(draw, kind, age, year) for kind in TENTHS]
                 queries += [(kind, age, year, OLDEST + 1 - age) for kind in SURVIVALS]
+                first, last = term(age, year)
+                days = [datetime.date(when, 1, 1) + by * ONE_DAY for by in (-1, 0, 1)] + [datetime.date(when, 12, 31), last]
+                queries += [(DAY, age, year, number_of(day)) for day in days if first <= day <= last]
         fixed = {query: "no=6" for query in queries if needs(query, fitted, when)}
         yield case(f"steep at {fitted} in {when} alone", params, queries, fixed)
 
@@ -350,9 +399,17 @@ def moving(params, key, query):
     kind, age, year, span, *rate = query
     if key == "K" or age in CLOSURE:
         return lambda by: Quotes(moved(params, key, age, by)).ends(*query)
-    cells = GridCells(params)
-    later = [cells.p(*cell) for cell in path(kind, age, year, span)[1:]]
-    return lambda by: grid_ends(kind, [GridCells(moved(params, key, age, by)).p(age, year), *later], *rate)
+    cells, (first, *others) = GridCells(params), path(kind, age, year, span)
+    later = [cells.p(*cell) for cell in others]
+    return lambda by: grid_ends(kind, [GridCells(moved(params, key, age, by)).p(*first), *later], *rate)
+
+
+def lasting(draw, kind, age, year):
+    """The span or the date of a quote that needs a cell."""
+    if kind == DAY:
+        first, last = term(age, year)
+        return number_of(first + draw.randint(1, (last - first).days) * ONE_DAY)
+    return draw.randint(1, OLDEST + 1 - age) if kind in SURVIVALS else 0
 
 
 def searched(job):
@@ -364,8 +421,7 @@ def searched(job):
     while not out:
         params, long = mild(draw), kind in TENTHS and kind in COHORT
         age, year = draw.randint(40, 79 if long else 105), draw.randint(FIRST_YEAR, LAST_YEAR)
-        span = draw.randint(1, OLDEST + 1 - age) if kind in SURVIVALS else 0
-        query = (kind, age, year, span, *any_rate(draw, kind))
+        query = (kind, age, year, lasting(draw, kind, age, year), *any_rate(draw, kind))
         key = "A" if long or age <= 79 and kind not in TENTHS and draw.randrange(2) else "K"
         ends_at, kept = moving(params, key, query), {}
 
@@ -437,7 +493,7 @@ def complaints(given, no, query, line, counts):
         yield f"the exact value {value:.20f} is not between the ends"
     if got[3] != OPEN and got[3] != figure_text(rounded(value, kind), kind):
         yield f"the exact value {value:.20f} rounds to {figure_text(rounded(value, kind), kind)}"
-    if upper - lower > width(kind, age):
+    if upper - lower > width(*query):
         yield f"{upper - lower} units apart"
 
 

@@ -21,7 +21,7 @@ import whole_run
 import programs
 import sheets
 from grid import HIGHEST, flat
-from quotes import ANNUITIES, FIRST_YEAR, KINDS, LAST_CELL, OLDEST, UNRATED
+from quotes import ANNUITIES, DAY, FIRST_YEAR, KINDS, LAST_CELL, OLDEST, UNRATED
 from reader import KEYS, LONGEST, SIZES
 from test_quotes import at_limits, line_of, mild, searched, usual
 
@@ -69,6 +69,24 @@ FIXED = {
     b"kind=acoh age=65 year=2020 span=1 rate=200001": b" no=5",
     b"kind=aper age=65 year=2065 span=1 rate=-1": b" no=4",
     b"kind=acoh age=-1 year=2065 span=1 rate=-1": b" no=3",
+    b"kind=day age=65 year=2020 date=20200101": b" fig=1.00000",
+    b"kind=day age=65 year=2020 date=20210101": b" fig=0.69220",
+    b"kind=day age=119 year=2020 date=20211231": b" fig=0.47962",
+    b"kind=day age=120 year=2021 date=20211231": b" fig=0.69290",
+    b"kind=day age=119 year=2020 date=20220101": b" no=5",
+    b"kind=day age=65 year=2020 date=20191231": b" no=5",
+    b"kind=day age=65 year=2020 date=10000101": b" no=5",
+    b"kind=day age=65 year=2020 date=99991231": b" no=5",
+    b"kind=day age=65 year=2020 date=9991231": b" no=10",
+    b"kind=day age=65 year=2020 date=100000101": b" no=10",
+    b"kind=day age=65 year=2020 date=21000229": b" no=10",
+    b"kind=day age=65 year=2020 date=20210229": b" no=10",
+    b"kind=day age=65 year=2020 date=20201301": b" no=10",
+    b"kind=day age=65 year=2020 date=0": b" no=10",
+    b"kind=day age=65 year=2020 date=-20410315": b" no=10",
+    b"kind=day age=65 year=2020 date=999999999999999": b" no=10",
+    b"kind=day age=65 year=2065 date=0": b" no=4",
+    b"kind=day age=121 year=2065 date=0": b" no=3",
 }
 # Lines that are torn by their rate, or for want of it.
 RATED = b"kind=acoh age=65 year=2020 span=0"
@@ -81,6 +99,23 @@ TORN_RATES = (
     RATED + b" rate=-1" + b"0" * 15, b"kind=acoh age=65 year=2020 rate=0 span=0", b"kind=acoh age=65 rate=0 year=2020 span=0",
     b"kind=acoh rate=0 age=65 year=2020 span=0", b"rate=0 " + RATED, b"kind=acoh age=65 year=2020 rate=0",
     *(b"kind=%b age=65 year=2020 span=0 rate=%d" % (kind.encode(), rate) for kind in UNRATED for rate in (0, 200_001)),
+)
+# Lines that are torn by their date, or for want of it.
+DATED = b"kind=day age=65 year=2020"
+TORN_DATES = (
+    DATED, DATED + b" ", DATED + b" date", DATED + b" date=", DATED + b" date= ", DATED + b" 20410315", DATED + b" span=21",
+    DATED + b" span=0", DATED + b" date=20410315 span=0", DATED + b" span=0 date=20410315", DATED + b" date=20410315 rate=0",
+    DATED + b" date=20410315 rate=30000", DATED + b" rate=0", DATED + b" rate=0 date=20410315", DATED + b" span=0 rate=0",
+    DATED + b" date=20410315 date=20410315", DATED + b" date=20410315 ", DATED + b"  date=20410315", DATED + b"date=20410315",
+    DATED + b" date=020410315", DATED + b" date=+20410315", DATED + b" date=-0", DATED + b" date=2041-03-15",
+    DATED + b" date=2041.0315", DATED + b" date=20410315.0", DATED + b" Date=20410315", DATED + b" dates=20410315",
+    DATED + b" date=1" + b"0" * 15, DATED + b" date=-1" + b"0" * 15, b"kind=day age=65 date=20410315 year=2020",
+    b"kind=day date=20410315 age=65 year=2020", b"date=20410315 " + DATED, b"kind=days age=65 year=2020 date=20410315",
+    b"kind=DAY age=65 year=2020 date=20410315", b"kind=da age=65 year=2020 date=20410315",
+    *(b"kind=%b age=65 year=2020 date=20410315" % kind.encode() for kind in UNRATED + ANNUITIES),
+    *(b"kind=%b age=65 year=2020 span=0 date=20410315" % kind.encode() for kind in UNRATED + ANNUITIES),
+    *(b"kind=%b age=65 year=2020 date=20410315 rate=0" % kind.encode() for kind in ANNUITIES),
+    *(b"kind=%b age=65 year=2020 span=0 rate=0 date=20410315" % kind.encode() for kind in ANNUITIES),
 )
 
 
@@ -123,6 +158,7 @@ def fixed_runs():
     """Those lines as inputs, each with the output of `quotes`."""
     lines = {"the paper's lines": {query: query + end for query, end in FIXED.items()}}
     lines["torn rates"] = dict.fromkeys(TORN_RATES, b"no=1")
+    lines["torn dates"] = dict.fromkeys(TORN_DATES, b"no=1")
     for name, rows in lines.items():
         yield Input(name, FLAT + b"".join(row + b"\n" for row in rows)), b"".join(row + b"\n" for row in rows.values())
 
@@ -144,15 +180,15 @@ NUMBERS = (
 )
 NAMES = (
     b"", b"Q", b"q ", b" q", b"qq", b"q\0", b"\0", b"c", b"co", b"cohh", b"COH", b"pe", b"perr", b"e", b"ec", b"eco", b"ecohh",
-    b"ep", b"epe", b"eperr", b"eq", b"a", b"ac", b"aco", b"acohh", b"ap", b"ape", b"aperr", b"aecoh", b"day", b"per,coh", b"0",
-    b"\xe9", b"q=", b"=q", b"q" * 300,
+    b"ep", b"epe", b"eperr", b"eq", b"a", b"ac", b"aco", b"acohh", b"ap", b"ape", b"aperr", b"aecoh", b"d", b"da", b"dayy", b"Day",
+    b"per,coh", b"0", b"\xe9", b"q=", b"=q", b"q" * 300,
     *[kind.encode() for kind in KINDS],
 )
 WHOLE = (
     b"%b ", b" %b", b"%b\r", b"%b\t", b"%b\0", b"\0%b", b"%b fig=0.30780", b"%b span=0", b"%b x", b"kind=%b", b"#%b",
-    b"\xef\xbb\xbf%b", b"%b rate=0", b"%b rate=", b"%b rate=-1 rate=0",
+    b"\xef\xbb\xbf%b", b"%b rate=0", b"%b rate=", b"%b rate=-1 rate=0", b"%b date=20410315", b"%b date=",
 )
-KEYS_OF_QUERY = (b"kind", b"age", b"year", b"span", b"rate")
+KEYS_OF_QUERY = (b"kind", b"age", b"year", b"span", b"rate", b"date")
 
 
 def joined(fields, between=b" ", equals=b"="):
@@ -429,8 +465,13 @@ def tally(one, want, counts):
 SAID = ("printed", "open", "no=3", "no=4", "no=5", "no=6")
 
 
+def said_of(kind):
+    """What is said of a kind's lines."""
+    return SAID + (("no=8",) if kind in ANNUITIES else ("no=10",) if kind == DAY else ())
+
+
 def wanted_counts():
-    out = [f"kind={kind} {what}" for kind in KINDS for what in SAID] + [f"kind={kind} no=8" for kind in ANNUITIES]
+    out = [f"kind={kind} {what}" for kind in KINDS for what in said_of(kind)]
     return out + ["no=1 no=1", "run refused no=1", "run refused no=2"]
 
 
@@ -563,7 +604,7 @@ def other_ends(everything):
 # ---- all of it
 
 def fixed_lines():
-    """What the second implementation says of the paper's own lines, and of torn rates, against the lines themselves."""
+    """What the second implementation says of the paper's own lines, and of torn rates and dates, against the lines themselves."""
     for one, want in fixed_runs():
         yield complaint(one.name, "whole_run.py", want, 0, whole_run.quotes(one.data))
 
@@ -574,8 +615,7 @@ def report(counts, everything):
     print("runs refused:", *(f"no={no} {counts[f'run refused no={no}']}" for no in (1, 2)))
     print(f"torn lines: {counts['no=1 no=1']}")
     for kind in KINDS:
-        what = SAID + (("no=8",) if kind in ANNUITIES else ())
-        print(f"{kind}:", *(f"{name} {counts[f'kind={kind} {name}']}" for name in what))
+        print(f"{kind}:", *(f"{name} {counts[f'kind={kind} {name}']}" for name in said_of(kind)))
 
 
 def main():

@@ -28,6 +28,7 @@ READ, WRITE = "reading standard input failed", "writing standard output failed"
 QUERIES = (
     b"kind=q age=65 year=2020 span=0\n", b"kind=coh age=119 year=2020 span=2\n", b"kind=q age=121 year=2020 span=0\n",
     b"kind=ecoh age=120 year=2064 span=0\n", b"kind=acoh age=120 year=2064 span=0 rate=0\n",
+    b"kind=day age=119 year=2020 date=20211231\n", b"kind=day age=65 year=2020 date=21000229\n",
 )
 
 

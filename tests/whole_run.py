@@ -1,5 +1,5 @@
 """The whole run of the rate sheet's programs, from input bytes to output bytes, written from paper 01, "The quote program",
-and for annuities and for `verdict` from paper 02.
+and for annuities, survival to a day and `verdict` from paper 02.
 
 `quotes` echoes a query with its figure, `ends` with its two ends ahead of the figure. `compare` reads two sheets and echoes a
 query with the figure of each and what the two pairs of ends tell of the two values. `verdict` reads a sheet, a year and a
@@ -9,7 +9,7 @@ import functools
 import re
 
 from columns import columns_of
-from quotes import ANNUITIES, OPEN, TENTHS, UNRATED, Quotes, figure
+from quotes import ANNUITIES, DAY, OPEN, TENTHS, UNRATED, Quotes, figure
 from reader import LONGEST, NUMBER, TORN, params_of, read
 
 SHEET_LINES = 370
@@ -21,7 +21,10 @@ def form(kinds, *keys):
     return re.compile(b"kind=(%b)%b\n" % ("|".join(kinds).encode(), numbers))
 
 
-FORMS = form(UNRATED, b"age", b"year", b"span"), form(ANNUITIES, b"age", b"year", b"span", b"rate")
+FORMS = (
+    form(UNRATED, b"age", b"year", b"span"), form(ANNUITIES, b"age", b"year", b"span", b"rate"),
+    form((DAY,), b"age", b"year", b"date"),
+)
 
 
 def lines_in(data):
@@ -30,7 +33,8 @@ def lines_in(data):
 
 
 def query_of(line):
-    """The kind, age, year and span of a query line, and an annuity's rate, or None where it is torn."""
+    """The kind, age, year and span of a query line, or the date in the span's place, and an annuity's rate; None where it is
+    torn."""
     got = next(filter(None, (one.fullmatch(line) for one in FORMS)), None)
     return (got[1].decode(), *map(int, got.groups()[1:])) if got else None
 

@@ -1,7 +1,8 @@
 -- A query of a sheet's bytes by the C interface: what a call is given, what its contract says that it gives, and the exact value
 -- that it asks for.
 use mathlib.Core.Path.{_≡_}
-use mathlib.Core.List.{List}
+use mathlib.Core.Bool.{Bool, true, false}
+use mathlib.Core.List.{List, []}
 use Prim.Native.Nat.{ℕ}
 use lib.IntN.{ℤ}
 use lib.ListN.{length, getD}
@@ -16,33 +17,41 @@ use Rattle.quote_along.specs.declared.Answer.{Answer}
 use Rattle.quote.specs.Quote.{exactQuery}
 use Rattle.quote.specs.Demand.{step}
 use Rattle.c_sheet_quote.specs.SheetQuote.{kindOf, ratedKindOf, sheetAnswer, quoteNo, quoteAfter}
-use Rattle.c_bytes_to_digits.specs.declared.Rate.{Rate}
-use Rattle.c_bytes_to_digits.specs.declared.Rate.the-variants.{Absent, Of}
+use Rattle.c_bytes_to_digits.specs.declared.Call.{Call}
+use Rattle.c_bytes_to_digits.specs.declared.Call.the-variants.{Quote, Annuity, Day}
 
--- what a call is given beside a kind's word
+-- what a call is given: `kulfizan_day` takes no word
 pub record Asked : Type 0 where
   pub sheet : List ℕ
+  pub word : List ℕ
   pub age : ℤ
   pub year : ℤ
-  pub span : ℤ
-  pub rate : Rate
+  pub term : ℤ
+  pub call : Call
 
-abbrev pub asked : List ℕ → ℤ → ℤ → ℤ → Rate → Asked
-asked sheet age year span rate = record { sheet = sheet; age = age; year = year; span = span; rate = rate }
+abbrev pub asked : List ℕ → List ℕ → ℤ → ℤ → ℤ → Call → Asked
+asked sheet word age year term call =
+    record { sheet = sheet; word = word; age = age; year = year; term = term; call = call }
 
--- the kind that the word stands for: `kulfizan_quote` takes no rate, `kulfizan_annuity` takes one
-unfoldable pub kindIn : List ℕ → Rate → Parse Kind
-kindIn word Absent = kindOf word
-kindIn word (Of rate) = ratedKindOf word rate
+unfoldable pub takesWord : Call → Bool
+takesWord Quote = true
+takesWord (Annuity rate) = true
+takesWord Day = false
+
+-- the kind that is read: of the word alone by `kulfizan_quote`, of the word and a rate by `kulfizan_annuity`
+unfoldable pub kindIn : List ℕ → Call → Parse Kind
+kindIn word Quote = kindOf word
+kindIn word (Annuity rate) = ratedKindOf word rate
+kindIn word Day = taken kind.Day []
 
 -- its answer
-unfoldable pub answerIn : List ℕ → Asked → Answer
-answerIn word q = sheetAnswer (q .sheet) (kindIn word (q .rate)) (q .age) (q .year) (q .span)
+unfoldable pub answerIn : Asked → Answer
+answerIn q = sheetAnswer (q .sheet) (kindIn (q .word) (q .call)) (q .age) (q .year) (q .term)
 
--- the contract of both calls: the number that is given, and the numbers that were lent as they are after the call
-pub record Called (word : List ℕ) (q : Asked) (before : List ℕ) (number : ℕ) (after : List ℕ) : Type 0 where
-  pub gives : number ≡ quoteNo (answerIn word q) (length before)
-  pub leaves : after ≡ quoteAfter (answerIn word q) before
+-- the contract of the three calls: the number that is given, and the numbers that were lent as they are after the call
+pub record Called (q : Asked) (before : List ℕ) (number : ℕ) (after : List ℕ) : Type 0 where
+  pub gives : number ≡ quoteNo (answerIn q) (length before)
+  pub leaves : after ≡ quoteAfter (answerIn q) before
 
 -- the call gives 0 and its figure is printed, which is the third number; its steps are the fourth
 pub record Prints (number : ℕ) (after : List ℕ) : Type 0 where
@@ -56,16 +65,19 @@ stepsIn after = getD after 3 0
 abbrev pub setRead : Asked → Params
 setRead q = readSheet (q .sheet) .set
 
--- the kind that is asked for; a word that is no kind's has none, and its call gives 1
-unfoldable pub kindAsked : Parse Kind → Kind
-kindAsked malformed = kind.Death
-kindAsked (taken kind rest) = kind
+-- the kind that was read; a word that is no kind's has none, and its call gives 1
+unfoldable pub kindTaken : Parse Kind → Kind
+kindTaken malformed = kind.Death
+kindTaken (taken kind rest) = kind
 
--- the exact value of that set and kind at the age, year and span
-abbrev pub exactAsked : List ℕ → Asked → Exact
-exactAsked word q = exactQuery (setRead q) (kindAsked (kindIn word (q .rate))) (q .age) (q .year) (q .span)
+-- the kind that is asked for
+abbrev pub kindAsked : Asked → Kind
+kindAsked q = kindTaken (kindIn (q .word) (q .call))
 
--- the exact values that two calls of one word ask for round half up to one step
-abbrev pub RoundAlike : List ℕ → Asked → Asked → Type 0
-RoundAlike word q q′ =
-    OneStep billionths (step (kindAsked (kindIn word (q .rate)))) (exactAsked word q) (exactAsked word q′)
+-- the exact value of that set and kind at the age, year and term
+abbrev pub exactAsked : Asked → Exact
+exactAsked q = exactQuery (setRead q) (kindAsked q) (q .age) (q .year) (q .term)
+
+-- the exact values that two calls of one kind ask for round half up to one step
+abbrev pub RoundAlike : Asked → Asked → Type 0
+RoundAlike q q′ = OneStep billionths (step (kindAsked q)) (exactAsked q) (exactAsked q′)

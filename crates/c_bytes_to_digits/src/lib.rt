@@ -1,28 +1,38 @@
-// From bytes to digits: the two calls of the C interface that answer a query of a sheet, taken as one. The theorem over any two
-// such calls is in specs/Theorem.antt, and what it is stated over is this function's contract, had from theirs alone.
+// From bytes to digits: the three calls of the C interface that answer a query of a sheet, taken as one. The theorem over any two
+// such calls is in specs/laws/Theorem.antt, and what it is stated over is this function's contract, had from theirs alone.
 ghost use Rattle.c_bytes_to_digits.specs.Calls.{asked, Called};
 
-// The rate that a call is given: `kulfizan_quote` takes none, `kulfizan_annuity` takes one.
-pub enum Rate {
-    Absent,
-    Of(i64),
+// Which call, and the rate that it is given: `kulfizan_quote`, `kulfizan_annuity` or `kulfizan_day`.
+pub enum Call {
+    Quote,
+    Annuity(i64),
+    Day,
 }
 
-// The call that takes the rate, or the one that takes none.
+// The call with the term, a span or a date.
 pub fn ask(
     sheet: &[u8],
     kind: &[u8],
     age: i64,
     year: i64,
-    span: i64,
-    rate: Rate,
+    term: i64,
+    call: Call,
     quote: &mut [u64],
 ) -> u8
-    ensures { λ r. ⌜ Called (now (kind .entry)) (asked (now (sheet .entry)) age year span rate)
+    ensures { λ r. ⌜ Called (asked (now (sheet .entry)) (now (kind .entry)) age year term call)
         (now (quote .entry)) r (now (quote .exit)) ⌝ }
 {
-    let Rate::Of(millionths) = rate else {
-        return kulfizan::kulfizan_quote(sheet, kind, age, year, span, quote);
-    };
-    kulfizan::kulfizan_annuity(sheet, kind, age, year, span, millionths, quote)
+    match call {
+        Call::Quote => kulfizan::kulfizan_quote(sheet, kind, age, year, term, quote),
+        Call::Annuity(rate) => kulfizan::kulfizan_annuity(
+            sheet,
+            kind,
+            age,
+            year,
+            term,
+            rate,
+            quote,
+        ),
+        Call::Day => kulfizan::kulfizan_day(sheet, age, year, term, quote),
+    }
 }

@@ -1,5 +1,5 @@
--- A query of a sheet, with a rate or without: its answer, the answer's number, and the four numbers in which a quote is told.
-use mathlib.Core.Bool.{cond}
+-- A query of a sheet, with a rate, a date or neither: its answer, the answer's number, and the four numbers in which a quote is told.
+use mathlib.Core.Bool.{cond, _||_}
 use mathlib.Core.List.{List, [], _∷_, _++_}
 use Prim.Native.Nat.{ℕ}
 use lib.Dec.{eqb, leb}
@@ -17,7 +17,7 @@ use Rattle.quote_along.specs.declared.Quote.{Quote}
 use Rattle.quote_along.specs.declared.Answer.{Answer}
 use Rattle.quote_along.specs.declared.Answer.the-variants.{Quoted, Refused}
 use Rattle.quote.specs.Quote.{answerOf}
-use Rattle.quote_kinds.specs.Kinds.{takesRate, withRate}
+use Rattle.quote_kinds.specs.Kinds.{ruleOf, takesRate, withRate}
 use Rattle.run_query.specs.Query.{onOffer, readWord, alone}
 
 -- ---- the kind
@@ -26,10 +26,10 @@ use Rattle.run_query.specs.Query.{onOffer, readWord, alone}
 unfoldable pub wordKind : List ℕ → Parse Kind
 wordKind word = andThen (readWord onOffer word) (λ kind rest. alone kind rest)
 
--- as in a query line, an annuity's word without a rate and another kind's with one are malformed. The kind of a word where no
--- rate is given, and where one is
+-- as in a query line, an annuity's word without a rate and another kind's with one are malformed, and so is the word of a kind
+-- whose term is a date where a span is given. The kind of a word with a span and no rate, and with a rate
 unfoldable pub kindOf : List ℕ → Parse Kind
-kindOf word = andThen (wordKind word) (λ kind rest. cond (takesRate kind) malformed (taken kind rest))
+kindOf word = andThen (wordKind word) (λ kind rest. cond (takesRate kind || ruleOf kind .dated) malformed (taken kind rest))
 
 unfoldable pub ratedKindOf : List ℕ → ℤ → Parse Kind
 ratedKindOf word rate = andThen (wordKind word) (λ kind rest. cond (takesRate kind) (taken (withRate kind rate) rest) malformed)
@@ -38,13 +38,13 @@ ratedKindOf word rate = andThen (wordKind word) (λ kind rest. cond (takesRate k
 
 -- malformed, which has the lowest number; else the sheet's refusal; else the answer of its set
 unfoldable pub answerTo : Parse Kind → Reading → ℤ → ℤ → ℤ → Answer
-answerTo malformed got age year span = Refused Malformed
-answerTo (taken kind rest) got age year span =
-    cond (eqb (refusalNumber (got .refusal)) 0) (answerOf (got .set) kind age year span) (Refused (got .refusal))
+answerTo malformed got age year term = Refused Malformed
+answerTo (taken kind rest) got age year term =
+    cond (eqb (refusalNumber (got .refusal)) 0) (answerOf (got .set) kind age year term) (Refused (got .refusal))
 
 -- the answer to a query of a sheet's bytes, by the kind that was read
 unfoldable pub sheetAnswer : List ℕ → Parse Kind → ℤ → ℤ → ℤ → Answer
-sheetAnswer sheet kind age year span = answerTo kind (readSheet sheet) age year span
+sheetAnswer sheet kind age year term = answerTo kind (readSheet sheet) age year term
 
 -- ---- a quote as four numbers: its ends, whether its figure is printed, and the figure's steps
 

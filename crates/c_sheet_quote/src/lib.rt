@@ -1,10 +1,11 @@
-// A query of a sheet: the sheet's bytes, a kind's word, an age, a year and a span, and for an annuity a rate, to an answer, and
-// the answer as four numbers in places that the caller lends.
+// A query of a sheet: the sheet's bytes, a kind's word, an age, a year and a span, for an annuity a rate, and for a survival to a
+// day a date in place of the word and the span, to an answer, and the answer as four numbers in places that the caller lends.
 ghost use mathlib.Core.Path.{_≡_};
 ghost use mathlib.Core.List.{[]};
 ghost use Prim.Native.Nat.{_≤_};
 ghost use lib.ListN.{length};
 ghost use Rattle.text_tokens.specs.Text.{taken};
+ghost use Rattle.quote_kinds.specs.declared.Kind.the-variants.{Day};
 ghost use Rattle.run_query.specs.code.Code.{kindRead};
 ghost use Rattle.c_sheet_quote.specs.SheetQuote.{wordKind, kindOf, ratedKindOf, sheetAnswer};
 ghost use Rattle.c_sheet_quote.specs.SheetQuote.{quoteLength, printedNumber, stepsNumber, quoteOver};
@@ -32,7 +33,7 @@ fn word_kind(word: &[u8]) -> KindRead
     KindRead::Of(kind, end)
 }
 
-// The kind of a word where no rate is given: malformed where it takes one.
+// The kind of a word with a span and no rate: malformed where it takes a rate or a date.
 fn kind_of(word: &[u8]) -> KindRead
     ensures { λ r. ⌜ kindRead (now (word .entry)) r ≡ kindOf (now (word .entry)) ⌝ }
 {
@@ -40,6 +41,10 @@ fn kind_of(word: &[u8]) -> KindRead
         return KindRead::Malformed;
     };
     if run_query::takes_rate(kind) {
+        return KindRead::Malformed;
+    }
+    let rule = quote_kinds::rule_of(kind);
+    if rule.dated {
         return KindRead::Malformed;
     }
     KindRead::Of(kind, end)
@@ -59,8 +64,8 @@ fn rated_kind_of(word: &[u8], rate: i64) -> KindRead
 }
 
 // The answer to a query of a sheet.
-fn sheet_answer(sheet: &[u8], kind: Kind, age: i64, year: i64, span: i64) -> Answer
-    ensures { λ r. ⌜ r ≡ sheetAnswer (now (sheet .entry)) (taken kind []) age year span ⌝ }
+fn sheet_answer(sheet: &[u8], kind: Kind, age: i64, year: i64, term: i64) -> Answer
+    ensures { λ r. ⌜ r ≡ sheetAnswer (now (sheet .entry)) (taken kind []) age year term ⌝ }
 {
     let got = sheet_reader::read(sheet);
     let refusal = got.refusal;
@@ -68,7 +73,7 @@ fn sheet_answer(sheet: &[u8], kind: Kind, age: i64, year: i64, span: i64) -> Ans
     if set_refusal::refusal_number(refusal) != 0 {
         return Answer::Refused(refusal);
     }
-    quote::quote_of(set, kind, age, year, span)
+    quote::quote_of(set, kind, age, year, term)
 }
 
 // 1 where the figure is printed, 0 where it is open.
@@ -132,23 +137,23 @@ fn answer_into(
     read: KindRead,
     age: i64,
     year: i64,
-    span: i64,
+    term: i64,
     numbers: &mut [u64],
 ) -> u8
-    ensures { λ r. ⌜ r ≡ quoteNo (sheetAnswer (now (sheet .entry)) (kindRead [] read) age year span)
+    ensures { λ r. ⌜ r ≡ quoteNo (sheetAnswer (now (sheet .entry)) (kindRead [] read) age year term)
         (length (now (numbers .entry))) ⌝ }
     ensures { λ r. ⌜ now (numbers .exit) ≡ quoteAfter
-        (sheetAnswer (now (sheet .entry)) (kindRead [] read) age year span)
+        (sheetAnswer (now (sheet .entry)) (kindRead [] read) age year term)
         (now (numbers .entry)) ⌝ }
 {
     let KindRead::Of(kind, _) = read else {
         return set_refusal::refusal_number(Refusal::Malformed);
     };
-    put_answer(numbers, sheet_answer(sheet, kind, age, year, span))
+    put_answer(numbers, sheet_answer(sheet, kind, age, year, term))
 }
 
-// Answers a query of a sheet, of a kind that takes no rate, in the first four numbers. The refusal's number, or 0; refused,
-// the call leaves every number as it was.
+// Answers a query of a sheet, of a kind that takes a span and no rate, in the first four numbers. The refusal's number, or 0;
+// refused, the call leaves every number as it was.
 pub fn quote_into(
     sheet: &[u8],
     word: &[u8],
@@ -183,4 +188,15 @@ pub fn annuity_into(
         (now (numbers .entry)) ⌝ }
 {
     answer_into(sheet, rated_kind_of(word, rate), age, year, span, numbers)
+}
+
+// The same of a survival to a day.
+pub fn day_into(sheet: &[u8], age: i64, year: i64, date: i64, numbers: &mut [u64]) -> u8
+    ensures { λ r. ⌜ r ≡ quoteNo (sheetAnswer (now (sheet .entry)) (taken Day []) age year date)
+        (length (now (numbers .entry))) ⌝ }
+    ensures { λ r. ⌜ now (numbers .exit) ≡ quoteAfter
+        (sheetAnswer (now (sheet .entry)) (taken Day []) age year date)
+        (now (numbers .entry)) ⌝ }
+{
+    put_answer(numbers, sheet_answer(sheet, Kind::Day, age, year, date))
 }

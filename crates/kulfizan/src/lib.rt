@@ -1,7 +1,10 @@
 // The C interface, for programs in other languages: a sheet read into numbers, numbers written as a sheet, a query of a
-// sheet answered, with a rate or without, the verdict on a published column, and the whole run of an input.
+// sheet answered, with a rate, a date or neither, the verdict on a published column, and the whole run of an input.
 ghost use mathlib.Core.Path.{_≡_};
+ghost use mathlib.Core.List.{[]};
 ghost use lib.ListN.{length};
+ghost use Rattle.text_tokens.specs.Text.{taken};
+ghost use Rattle.quote_kinds.specs.declared.Kind.the-variants.{Day};
 ghost use Rattle.c_set_numbers.specs.SetNumbers.{readNo, numbersAfter, writeNo, bufferAfter, lengthAfter};
 ghost use Rattle.c_sheet_quote.specs.SheetQuote.{kindOf, ratedKindOf, sheetAnswer, quoteNo, quoteAfter};
 ghost use Rattle.run_column_verdict.specs.SheetVerdict.{sheetVerdict, verdictNo, verdictAfter};
@@ -30,7 +33,7 @@ pub extern "C" fn kulfizan_write(values: &[i64], buffer: &mut [u8], len: &mut u6
     c_set_numbers::write_from(values, buffer, len)
 }
 
-// Answers a query of a sheet, of a kind that takes no rate, in the first four numbers: the two ends in units of 10^-9, 1 where
+// Answers a query of a sheet, of a kind that takes a span and no rate, in the first four numbers: the two ends in units of 10^-9, 1 where
 // the figure is printed and 0 where it is open, and its steps. The refusal's number, or 0; refused, the call leaves every number
 // as it was.
 #[no_mangle]
@@ -69,6 +72,24 @@ pub extern "C" fn kulfizan_annuity(
         (now (quote .entry)) ⌝ }
 {
     c_sheet_quote::annuity_into(sheet, kind, age, year, span, rate, quote)
+}
+
+// The same of a survival to a day, its date as YYYYMMDD.
+#[no_mangle]
+pub extern "C" fn kulfizan_day(
+    sheet: &[u8],
+    age: i64,
+    year: i64,
+    date: i64,
+    quote: &mut [u64],
+) -> u8
+    ensures { λ r. ⌜ r ≡ quoteNo (sheetAnswer (now (sheet .entry)) (taken Day []) age year date)
+        (length (now (quote .entry))) ⌝ }
+    ensures { λ r. ⌜ now (quote .exit) ≡ quoteAfter
+        (sheetAnswer (now (sheet .entry)) (taken Day []) age year date)
+        (now (quote .entry)) ⌝ }
+{
+    c_sheet_quote::day_into(sheet, age, year, date, quote)
 }
 
 // Checks a published column of q for one year by a sheet: the number is then 0 for right, 1 for wrong and 2 for open. The refusal's

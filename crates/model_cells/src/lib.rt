@@ -5,7 +5,7 @@ ghost use lib.Dec.{T};
 ghost use Rattle.model_series.specs.Series.{cellForce};
 ghost use Rattle.model_closure.specs.code.Code.{InLimit, RowWithin};
 ghost use Rattle.model_series.specs.code.Year.{CellWithin};
-ghost use Rattle.model_cells.specs.code.Code.{youngCell, oldCell};
+ghost use Rattle.model_cells.specs.code.Code.{youngForceCell, oldForceCell, livedCell, youngCell, oldCell};
 ghost use Rattle.model_cells.specs.code.Fitted.{LentIn, FittedIn};
 use model_closure::FIRST_FITTED;
 use model_closure::FITTED;
@@ -48,10 +48,44 @@ pub fn fitted_in<'a>(
     Fitted { ok: true, ends }
 }
 
-// The ends of p, or a needed cell out of range.
+// The ends of the force or of p, or a needed cell out of range.
 pub enum Cell {
     LogForceOutOfRange,
     Of(Ends),
+}
+
+// The force at an age to 90, by its parameters.
+pub fn young_force(age: Age, y: Year) -> Cell
+    requires { ⌜ CellWithin age y ⌝ }
+    ensures { λ r. ⌜ r ≡ youngForceCell (cellForce age (y .period) (y .kappas)) ⌝ }
+{
+    let m = model_series::log_force_at(age, y);
+    if !model_series::in_range(m) {
+        return Cell::LogForceOutOfRange;
+    }
+    Cell::Of(model_force::force_to_90(m))
+}
+
+// The force at an age above 90, by its row of weights and the ends of H of its year.
+pub fn old_force(row: [i64; 11], f: Fitted) -> Cell
+    requires { ⌜ RowWithin row × (T (f .ok) → InLimit (f .ends)) ⌝ }
+    ensures { λ r. ⌜ r ≡ oldForceCell row f ⌝ }
+{
+    if !f.ok {
+        return Cell::LogForceOutOfRange;
+    }
+    let ends = f.ends;
+    Cell::Of(model_logistic::logistic(model_closure::closed_sum(row, ends)))
+}
+
+// p of a force, where there is one.
+fn lived(force: Cell) -> Cell
+    ensures { λ r. ⌜ r ≡ livedCell force ⌝ }
+{
+    let Cell::Of(f) = force else {
+        return Cell::LogForceOutOfRange;
+    };
+    Cell::Of(number_exp_ends::exp_between(f))
 }
 
 // The cell at an age to 90, by its parameters.
@@ -59,11 +93,7 @@ pub fn young_cell(age: Age, y: Year) -> Cell
     requires { ⌜ CellWithin age y ⌝ }
     ensures { λ r. ⌜ r ≡ youngCell (cellForce age (y .period) (y .kappas)) ⌝ }
 {
-    let m = model_series::log_force_at(age, y);
-    if !model_series::in_range(m) {
-        return Cell::LogForceOutOfRange;
-    }
-    Cell::Of(model_force::survival_to_90(m))
+    lived(young_force(age, y))
 }
 
 // The cell at an age above 90, by its row of weights and the ends of H of its year.
@@ -71,10 +101,5 @@ pub fn old_cell(row: [i64; 11], f: Fitted) -> Cell
     requires { ⌜ RowWithin row × (T (f .ok) → InLimit (f .ends)) ⌝ }
     ensures { λ r. ⌜ r ≡ oldCell row f ⌝ }
 {
-    if !f.ok {
-        return Cell::LogForceOutOfRange;
-    }
-    let ends = f.ends;
-    let sum = model_closure::closed_sum(row, ends);
-    Cell::Of(number_exp_ends::exp_between(model_logistic::logistic(sum)))
+    lived(old_force(row, f))
 }

@@ -1,5 +1,6 @@
 pub mod WidthFacts
 pub mod Sizes
+pub mod AtMostOne
 pub mod LogisticHolds
 pub mod OrdersAgree
 pub mod RelativeWidth

@@ -1,14 +1,17 @@
--- One cell of the table on a grid (paper 01, "The grid", from the log force to q): the force at ages to 90 and above, p and q.
+-- One cell of the table on a grid (paper 01, "The grid", from the log force to q; paper 02, E6): the force at ages to 90 and
+-- above, the chance to live through the year or a part of it, and q.
 -- Year n is 2013 + n.
-use Prim.Native.Nat.{ℕ, zero, suc, _+_}
+use Prim.Native.Nat.{ℕ, zero, suc, _+_, _*_}
 use mathlib.Core.Bool.{Bool, true, cond, _&&_}
 use mathlib.Core.List.{List}
 use lib.Dec.{ltb}
 use Rattle.number_whole.specs.Listed.{listed}
+use Rattle.number_fraction.specs.Ratio.{Ratio, whole/}
 use Rattle.number_exponential.specs.Grid.{Grid}
 use Rattle.number_whole.specs.declared.SignedEnds.{SignedEnds}
 use Rattle.number_exponential.specs.declared.Ends.{Ends}
 use Rattle.number_exponential.specs.Exponential.{expBetween}
+use Rattle.number_exponential.specs.Outward.{outwardOver}
 use Rattle.set_params.specs.declared.Params.{Params}
 use Rattle.model_series.specs.Series.{logForce, inRange}
 use Rattle.model_logarithm.specs.Logarithm.{inverseLogistic}
@@ -35,12 +38,21 @@ oldForce g p x n = logistic g (closedSum x (fittedList g p n))
 unfoldable pub force : Grid → Params → ℕ → ℕ → Ends
 force g p x n = cond (ltb x firstClosed) (youngForce g p x n) (oldForce g p x n)
 
--- "p = exponential of −force; q = 10^9 − p, ends exchanged."
-unfoldable pub survival : Grid → Params → ℕ → ℕ → Ends
-survival g p x n = expBetween g (force g p x n)
+-- a part d/D of a year, and the whole of it
+abbrev pub wholeYear : Ratio
+wholeYear = whole/ 1
 
+-- "force times d/D": "Each end of that exponent is rounded outward."
+unfoldable pub forceOver : Ratio → Ends → Ends
+forceOver part f = outwardOver (f .lower * part .num) (f .upper * part .num) (part .den)
+
+-- "p = exponential of −force"; paper 02, E6: "the last part year is the exponential of force times d/D"
+unfoldable pub survival : Grid → Params → ℕ → ℕ → Ratio → Ends
+survival g p x n part = expBetween g (forceOver part (force g p x n))
+
+-- "q = 10^9 − p, ends exchanged"
 unfoldable pub death : Grid → Params → ℕ → ℕ → Ends
-death g p x n = deathOf g (survival g p x n)
+death g p x n = deathOf g (survival g p x n wholeYear)
 
 -- "Age above 90 needs the cells 80 to 90 of its year."
 unfoldable pub fittedInRange : Params → ℕ → ℕ → Bool

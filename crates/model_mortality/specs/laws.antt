@@ -1,6 +1,8 @@
 pub mod Facts
 pub mod Answered
 pub mod Needed
+pub mod Whole
+pub mod AtMostOne
 pub mod Holds
 pub mod Width
 pub mod Billionths

@@ -3,6 +3,7 @@ use mathlib.Core.Path.{_≡_, refl, ap, sym, _∙_}
 use mathlib.Core.Bool.{Bool, true, false, cond}
 use mathlib.Core.List.{List, [], _∷_, _++_}
 use Prim.Native.Nat.{_-_, _≤_}
+use native.Mathlib.Omega.{arith}
 use borrow.Author.Tests.{ne-eqb}
 use lib.Dec.{T}
 use lib.IntN.{ℤ, pos, negsuc, natAbs, _-ℤ_}
@@ -11,17 +12,19 @@ use Rattle.number_whole.specs.laws.Clash.{clash}
 use Rattle.number_whole.specs.code.Sizes.{Under}
 use Rattle.number_whole.specs.laws.Bound.{under-pos}
 use Rattle.number_whole.specs.laws.Split.{split, split-sub}
+use Rattle.number_fraction.specs.Ratio.{whole/}
 use Rattle.set_params.specs.declared.Params.{Params}
 use Rattle.set_refusal.specs.declared.Refusal.{Refusal}
 use Rattle.set_refusal.specs.declared.Refusal.the-variants.{Accepted, OutOfLimits, LogForceOutOfRange}
 use Rattle.set_params.specs.Limits.{inLimits, startYear, lastYears}
 use Rattle.set_refusal.specs.Refusals.{refusalNumber}
 use Rattle.quote_paths.specs.Path.{pathInRange}
-use Rattle.quote_paths.specs.declared.Path.{Path}
-use Rattle.quote_walks.specs.code.Code.{pathIs}
+use Rattle.quote_paths.specs.declared.Part.{Part}
+use Rattle.quote_paths.specs.code.Code.{IsPart}
+use Rattle.quote_factors.specs.code.Code.{PartWithin}
 use Rattle.quote_kinds.specs.declared.Kind.{Kind}
-use Rattle.quote_kinds.specs.Kinds.{ruleOf}
-use Rattle.quote_table_tests.specs.TableTests.{ageInTable, yearInTable, spanInTable, rateInTable, Test, firstFailed, tableTests}
+use Rattle.quote_kinds.specs.Kinds.{ruleOf, countOf, spanOf, partOf}
+use Rattle.quote_table_tests.specs.TableTests.{ageInTable, yearInTable, dateInTable, spanInTable, rateInTable, Test, firstFailed, tableTests}
 use Rattle.quote_table_tests.specs.laws.TableLaws.{InTable}
 use Rattle.quote_along.specs.declared.Quote.{Quote}
 use Rattle.quote_along.specs.declared.Answer.{Answer}
@@ -30,7 +33,7 @@ use Rattle.quote_along.specs.code.Code.{pathAnswer}
 use Rattle.quote.specs.Quote.{queryPath, queryEnds, quoteOf, refusalOf, answerBy, answerOf}
 use Rattle.quote.specs.Demand.{Demand3}
 use Rattle.quote.specs.laws.Theorem.{demand-met}
-use Rattle.quote.specs.laws.Tests.{kind-within}
+use Rattle.quote.specs.laws.Tests.{kind-within, Counted, part-within, part-after}
 
 -- ---- the refusal
 
@@ -54,28 +57,29 @@ first-passed : (t : Test) (ts : List Test) → T (t .passed) → firstFailed (t 
 unfolding firstFailed
 first-passed t ts h = rw (is-true (t .passed) h)
 
-module _ (p : Params) (k : Kind) (age year span : ℤ) where
+module _ (p : Params) (k : Kind) (age year term : ℤ) where
   -- a set out of its limits
-  out-of-limits : inLimits p ≡ false → refusalOf p k age year span ≡ OutOfLimits
+  out-of-limits : inLimits p ≡ false → refusalOf p k age year term ≡ OutOfLimits
   unfolding refusalOf firstFailed
   out-of-limits e = rw e
 
   -- the table refuses
-  pub table-refuses : T (inLimits p) → (firstFailed (tableTests (ruleOf k) age year span) ≡ Accepted → ⊥)
-      → refusalOf p k age year span ≡ firstFailed (tableTests (ruleOf k) age year span)
+  pub table-refuses : T (inLimits p) → (firstFailed (tableTests (ruleOf k) age year term) ≡ Accepted → ⊥)
+      → refusalOf p k age year term ≡ firstFailed (tableTests (ruleOf k) age year term)
   unfolding refusalOf
-  table-refuses t n = first-passed _ _ t ∙ failed-append (tableTests (ruleOf k) age year span) _ n
+  table-refuses t n = first-passed _ _ t ∙ failed-append (tableTests (ruleOf k) age year term) _ n
 
   -- the table has it, so the cells decide
-  pub cells-decide : T (inLimits p) → InTable (ruleOf k) age year span
-      → refusalOf p k age year span ≡ cond (pathInRange p (queryPath k age year span)) Accepted LogForceOutOfRange
+  pub cells-decide : T (inLimits p) → InTable (ruleOf k) age year term
+      → refusalOf p k age year term ≡ cond (pathInRange p (queryPath k age year term)) Accepted LogForceOutOfRange
   unfolding refusalOf firstFailed tableTests
   cells-decide t h =
       rw (
         is-true (inLimits p) t,
         is-true (ageInTable age) (h .age-in),
         is-true (yearInTable (ruleOf k) year) (h .year-in),
-        is-true (spanInTable (ruleOf k) age span) (h .span-in),
+        is-true (dateInTable (ruleOf k) term) (h .date-in),
+        is-true (spanInTable (ruleOf k) age year term) (h .span-in),
         is-true (rateInTable (ruleOf k)) (h .rate-in),
       )
 
@@ -86,42 +90,64 @@ unfolding answerBy refusalNumber
 decided true q = refl
 decided false q = refl
 
-pub along-answer : (p : Params) (k : Kind) (age year span : ℤ) → T (inLimits p) → InTable (ruleOf k) age year span
-    → (w : Path) → pathIs w ≡ queryPath k age year span → pathAnswer p (ruleOf k .fold) w ≡ answerOf p k age year span
+pub along-answer : (p : Params) (k : Kind) (age year term : ℤ) → T (inLimits p) → InTable (ruleOf k) age year term
+    → pathAnswer p (ruleOf k .fold) (queryPath k age year term) ≡ answerOf p k age year term
 unfolding pathAnswer answerOf quoteOf queryEnds
-along-answer p k age year span t h w e =
-    rw (e, cells-decide p k age year span t h) (decided (pathInRange p (queryPath k age year span)) (quoteOf p k age year span))
+along-answer p k age year term t h =
+    rw (cells-decide p k age year term t h) (decided (pathInRange p (queryPath k age year term)) (quoteOf p k age year term))
 
 -- the years of a kind
 pub years-under : (k : Kind) → Under (ruleOf k .years) lastYears
 years-under k = let w = kind-within k in rw (w .years-are) (under-pos (w .last))
 
 -- a set out of its limits
-pub refused-out-of-limits : (p : Params) (k : Kind) (age year span : ℤ) → inLimits p ≡ false
-    → Refused OutOfLimits ≡ answerOf p k age year span
+pub refused-out-of-limits : (p : Params) (k : Kind) (age year term : ℤ) → inLimits p ≡ false
+    → Refused OutOfLimits ≡ answerOf p k age year term
 unfolding answerOf answerBy refusalNumber
-refused-out-of-limits p k age year span e = rw (out-of-limits p k age year span e)
+refused-out-of-limits p k age year term e = rw (out-of-limits p k age year term e)
 
 -- an answer that is the definition's meets demand 3
-pub met : {p : Params} {k : Kind} {age year span : ℤ} {a : Answer} → a ≡ answerOf p k age year span
-    → (a ≡ answerOf p k age year span) × Demand3 p k age year span a
-met {p} {k} {age} {year} {span} e = (e, rw e (demand-met p k age year span))
+pub met : {p : Params} {k : Kind} {age year term : ℤ} {a : Answer} → a ≡ answerOf p k age year term
+    → (a ≡ answerOf p k age year term) × Demand3 p k age year term a
+met {p} {k} {age} {year} {term} e = (e, rw e (demand-met p k age year term))
 
 -- an answer that the table refuses
 number-none : refusalNumber Accepted ≡ 0
 unfolding refusalNumber
 number-none = refl
 
-pub table-answer : (p : Params) (k : Kind) (age year span : ℤ) {r : Refusal} → T (inLimits p)
-    → r ≡ firstFailed (tableTests (ruleOf k) age year span) → (refusalNumber r ≡ 0 → ⊥) → Refused r ≡ answerOf p k age year span
+pub table-answer : (p : Params) (k : Kind) (age year term : ℤ) {r : Refusal} → T (inLimits p)
+    → r ≡ firstFailed (tableTests (ruleOf k) age year term) → (refusalNumber r ≡ 0 → ⊥) → Refused r ≡ answerOf p k age year term
 unfolding answerOf
-table-answer p k age year span {r} t e n =
-    refused r (quoteOf p k age year span) n
-    ∙ ap (λ (s : Refusal). answerBy s (quoteOf p k age year span))
-    (e ∙ sym (table-refuses p k age year span t (λ a. n (ap refusalNumber (e ∙ a) ∙ number-none))))
+table-answer p k age year term {r} t e n =
+    refused r (quoteOf p k age year term) n
+    ∙ ap (λ (s : Refusal). answerBy s (quoteOf p k age year term))
+    (e ∙ sym (table-refuses p k age year term t (λ a. n (ap refusalNumber (e ∙ a) ∙ number-none))))
 
 -- ---- the years from the start year
 
 pub years-from : {z : ℤ} → pos (natAbs z) ≡ z → startYear ≤ natAbs z → z -ℤ pos startYear ≡ pos (natAbs z - startYear)
 years-from {z = pos n} e l = omega (split, split-sub (pos n) (pos startYear))
 years-from {z = negsuc n} e l = clash cc
+
+-- ---- the part of a year after the path, as the code has it
+
+pub part-room : (k : Kind) {age year term : ℤ} {cohort : Bool} {r : Part} → (c : Counted k age year term)
+    → IsPart r (partOf (ruleOf k) term)
+    → let n = natAbs year - startYear in
+    PartWithin (record { cohort = cohort; age = natAbs age; year = n; count = countOf (ruleOf k .fold) n (natAbs (spanOf (ruleOf k) year term)) }) r
+unfolding whole/
+part-room k {term = term} c i =
+    let p = part-within k c in
+    let q = partOf (ruleOf k) term in
+    record {
+      days =
+          record {
+            days = omega (arith, p .small .cross, p .whole, i .days);
+            some = omega (arith, q .positive, i .whole);
+            whole = omega (arith, p .whole, i .whole);
+          };
+      age = λ m. part-after k c (λ z. m (i .days ∙ z)) .0;
+      year = λ m. part-after k c (λ z. m (i .days ∙ z)) .1;
+      room = λ m. let a = part-after k c (λ z. m (i .days ∙ z)) in omega (arith, a .0);
+    }

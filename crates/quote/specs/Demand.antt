@@ -12,7 +12,7 @@ use Rattle.number_exact.specs.declared.Figure.the-variants.{Printed, Open}
 use Rattle.number_exact.specs.Value.{AtLeast, AtMost, RoundsTo, OneStep, Narrows, Agrees}
 use Rattle.number_exact.specs.Figure.{halfUp}
 use Rattle.quote_kinds.specs.declared.Kind.{Kind}
-use Rattle.quote_kinds.specs.Kinds.{OneKind, ruleOf, stepOf, widthOf}
+use Rattle.quote_kinds.specs.Kinds.{OneKind, ruleOf, stepOf, widthOf, spanOf}
 use Rattle.quote_along.specs.declared.Answer.{Answer}
 use Rattle.quote_along.specs.declared.Answer.the-variants.{Quoted, Refused}
 use Rattle.quote.specs.Quote.{queryEnds, exactQuery, refusalOf, answerOf}
@@ -53,30 +53,30 @@ step kind = stepOf (ruleOf kind .fold)
 
 -- the exact value of a query rounds to n steps
 abbrev pub RoundsAt : Params → Kind → ℤ → ℤ → ℤ → ℕ → Type 0
-RoundsAt p kind age year span n = RoundsTo billionths (step kind) n (exactQuery p kind age year span)
+RoundsAt p kind age year term n = RoundsTo billionths (step kind) n (exactQuery p kind age year term)
 
 -- of an accepted quote: the ends are the grid's; the exact value is at least the lower one and at most the upper one, which
 -- lie no further apart than the kind allows; its brackets are those of one number, since any two agree and they narrow past any
 -- whole fraction; and the figure is open exactly when the two ends round half up to different steps
-pub record Kept (p : Params) (kind : Kind) (age year span : ℤ) (a : Answer) : Type 0 where
-  pub of-grid : (lowerOf a ≡ queryEnds p kind age year span .lower) × (upperOf a ≡ queryEnds p kind age year span .upper)
-  pub at-least : AtLeast (exactQuery p kind age year span) (inUnits billionths (lowerOf a))
-  pub at-most : AtMost (exactQuery p kind age year span) (inUnits billionths (upperOf a))
-  pub width : upperOf a ≤ lowerOf a + widthOf (ruleOf kind .fold) (natAbs age)
-  pub agrees : Agrees (exactQuery p kind age year span)
-  pub narrows : Narrows (exactQuery p kind age year span)
+pub record Kept (p : Params) (kind : Kind) (age year term : ℤ) (a : Answer) : Type 0 where
+  pub of-grid : (lowerOf a ≡ queryEnds p kind age year term .lower) × (upperOf a ≡ queryEnds p kind age year term .upper)
+  pub at-least : AtLeast (exactQuery p kind age year term) (inUnits billionths (lowerOf a))
+  pub at-most : AtMost (exactQuery p kind age year term) (inUnits billionths (upperOf a))
+  pub width : upperOf a ≤ lowerOf a + widthOf (ruleOf kind) (natAbs age) (natAbs (spanOf (ruleOf kind) year term))
+  pub agrees : Agrees (exactQuery p kind age year term)
+  pub narrows : Narrows (exactQuery p kind age year term)
   pub open-when : (figureShown a ≡ markedOpen) ↔ (halfUp (step kind) (lowerOf a) ≡ halfUp (step kind) (upperOf a) → ⊥)
 
 -- "Demand 3 is one claim over any two accepted quotes of one kind": a has the number of its refusal, and 0 where it is
 -- accepted; refused, it has ends 0 and 0 and no figure; accepted, it is kept; a printed figure is the exact value rounded half
--- up; and of any second quote of the kind that is printed, whichever its set, age, year, span and rate, the figures are equal
+-- up; and of any second quote of the kind that is printed, whichever its set, age, year, term and rate, the figures are equal
 -- exactly when the two exact values round to one same step
-pub record Demand3 (p : Params) (kind : Kind) (age year span : ℤ) (a : Answer) : Type 0 where
-  pub number : numberOf a ≡ refusalNumber (refusalOf p kind age year span)
+pub record Demand3 (p : Params) (kind : Kind) (age year term : ℤ) (a : Answer) : Type 0 where
+  pub number : numberOf a ≡ refusalNumber (refusalOf p kind age year term)
   pub refused : (numberOf a ≡ 0 → ⊥) → (lowerOf a ≡ 0) × (upperOf a ≡ 0) × (figureShown a ≡ noFigure)
-  pub kept : numberOf a ≡ 0 → Kept p kind age year span a
-  pub rounds : (n : ℕ) → figureShown a ≡ printed n → RoundsAt p kind age year span n
+  pub kept : numberOf a ≡ 0 → Kept p kind age year term a
+  pub rounds : (n : ℕ) → figureShown a ≡ printed n → RoundsAt p kind age year term n
   pub one-step : (n : ℕ) → figureShown a ≡ printed n
-      → (p′ : Params) (kind′ : Kind) (age′ year′ span′ : ℤ) (n′ : ℕ) → OneKind kind kind′
-      → figureShown (answerOf p′ kind′ age′ year′ span′) ≡ printed n′
-      → (n ≡ n′) ↔ OneStep billionths (step kind) (exactQuery p kind age year span) (exactQuery p′ kind′ age′ year′ span′)
+      → (p′ : Params) (kind′ : Kind) (age′ year′ term′ : ℤ) (n′ : ℕ) → OneKind kind kind′
+      → figureShown (answerOf p′ kind′ age′ year′ term′) ≡ printed n′
+      → (n ≡ n′) ↔ OneStep billionths (step kind) (exactQuery p kind age year term) (exactQuery p′ kind′ age′ year′ term′)

@@ -1,8 +1,8 @@
--- A quote of any set, kind, age, year and span (paper 01, "Figures on offer"): its refusal, and else its ends and figure. A kind
--- that takes a rate has it.
+-- A quote of any set, kind, age, year and term (paper 01, "Figures on offer"): its refusal, and else its ends and figure. A kind
+-- that takes a rate has it. The term is a span, or of the kind `day` a date.
 use mathlib.Core.Bool.{cond}
 use mathlib.Core.List.{List, [], _∷_, _++_}
-use Prim.Native.Nat.{_-_}
+use Prim.Native.Nat.{_+_, _-_}
 use lib.Dec.{eqb}
 use lib.IntN.{ℤ, natAbs}
 use Rattle.number_exponential.specs.declared.Ends.{Ends}
@@ -14,42 +14,43 @@ use Rattle.set_refusal.specs.Refusals.{refusalNumber}
 use Rattle.set_params.specs.Limits.{inLimits, startYear}
 use Rattle.number_exact.specs.Value.{Exact}
 use Rattle.number_exact.specs.Figure.{figureOf}
-use Rattle.quote_paths.specs.Path.{Place, pathOf, pathInRange}
+use Rattle.quote_paths.specs.Path.{Place, pathOf, partYear, pathInRange}
 use Rattle.quote_paths.specs.Values.{gridValue, exactValue}
 use Rattle.quote_kinds.specs.declared.Kind.{Kind}
-use Rattle.quote_kinds.specs.Kinds.{ruleOf, countOf, stepOf}
+use Rattle.quote_kinds.specs.Kinds.{ruleOf, countOf, stepOf, spanOf, partOf}
 use Rattle.quote_table_tests.specs.TableTests.{firstFailed, tableTests}
 use Rattle.quote_along.specs.declared.Quote.{Quote}
 use Rattle.quote_along.specs.declared.Answer.{Answer}
 use Rattle.quote_along.specs.declared.Answer.the-variants.{Quoted, Refused}
 
--- ---- the path, the ends and the exact value, of an age, a year and a span in the table
+-- ---- the path, the ends and the exact value, of an age, a year and a term in the table
 
--- years are counted from the start year
+-- years are counted from the start year; to a day "the last part year" comes after the whole ones
 unfoldable pub queryPath : Kind → ℤ → ℤ → ℤ → List Place
-queryPath kind age year span =
+queryPath kind age year term =
     let r = ruleOf kind in
     let n = natAbs year - startYear in
-    pathOf (r .cohort) (natAbs age) n (countOf (r .fold) n (natAbs span))
+    let k = countOf (r .fold) n (natAbs (spanOf r year term)) in
+    pathOf (r .cohort) (natAbs age) n k ++ partYear (natAbs age + k) (n + k) (partOf r term)
 
 unfoldable pub queryEnds : Params → Kind → ℤ → ℤ → ℤ → Ends
-queryEnds p kind age year span = gridValue (ruleOf kind .fold) billionths p (queryPath kind age year span)
+queryEnds p kind age year term = gridValue (ruleOf kind .fold) billionths p (queryPath kind age year term)
 
 unfoldable pub exactQuery : Params → Kind → ℤ → ℤ → ℤ → Exact
-exactQuery p kind age year span = exactValue (ruleOf kind .fold) p (queryPath kind age year span)
+exactQuery p kind age year term = exactValue (ruleOf kind .fold) p (queryPath kind age year term)
 
 -- ---- the answer
 
--- the tests of the table, 3 to 5 and 8, before them 2 and after them 6
+-- the tests of the table, 3 to 5, 8 and 10, before them 2 and after them 6
 unfoldable pub refusalOf : Params → Kind → ℤ → ℤ → ℤ → Refusal
-refusalOf p kind age year span =
+refusalOf p kind age year term =
     firstFailed
-    (record { passed = inLimits p; refusal = OutOfLimits } ∷ tableTests (ruleOf kind) age year span
-    ++ (record { passed = pathInRange p (queryPath kind age year span); refusal = LogForceOutOfRange } ∷ []))
+    (record { passed = inLimits p; refusal = OutOfLimits } ∷ tableTests (ruleOf kind) age year term
+    ++ (record { passed = pathInRange p (queryPath kind age year term); refusal = LogForceOutOfRange } ∷ []))
 
 unfoldable pub quoteOf : Params → Kind → ℤ → ℤ → ℤ → Quote
-quoteOf p kind age year span =
-    let e = queryEnds p kind age year span in
+quoteOf p kind age year term =
+    let e = queryEnds p kind age year term in
     record { lower = e .lower; upper = e .upper; figure = figureOf (stepOf (ruleOf kind .fold)) e }
 
 -- a quote where nothing is refused
@@ -57,4 +58,4 @@ unfoldable pub answerBy : Refusal → Quote → Answer
 answerBy r q = cond (eqb (refusalNumber r) 0) (Quoted q) (Refused r)
 
 unfoldable pub answerOf : Params → Kind → ℤ → ℤ → ℤ → Answer
-answerOf p kind age year span = answerBy (refusalOf p kind age year span) (quoteOf p kind age year span)
+answerOf p kind age year term = answerBy (refusalOf p kind age year term) (quoteOf p kind age year term)

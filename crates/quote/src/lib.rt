@@ -1,4 +1,4 @@
-// Quotes of all kinds: any set, kind, age, year and span give the two ends of the figure with the figure itself, or one
+// Quotes of all kinds: any set, kind, age, year and term, a span or a date, give the two ends of the figure with the figure itself, or one
 // numbered refusal.
 ghost use mathlib.Core.Path.{_≡_};
 ghost use lib.Dec.{T};
@@ -13,33 +13,34 @@ use set_params::START_YEAR;
 use set_refusal::Refusal;
 
 // The answer to a query of a set in its limits.
-pub fn quote_within(p: Params, kind: Kind, age: i64, year: i64, span: i64) -> Answer
+pub fn quote_within(p: Params, kind: Kind, age: i64, year: i64, term: i64) -> Answer
     requires { ⌜ T (inLimits p) ⌝ }
-    ensures { λ r. ⌜ r ≡ answerOf p kind age year span ⌝ }
+    ensures { λ r. ⌜ r ≡ answerOf p kind age year term ⌝ }
 {
     let rule = quote_kinds::rule_of(kind);
-    let refusal = quote_table_tests::table_refusal(rule, age, year, span);
+    let refusal = quote_table_tests::table_refusal(rule, age, year, term);
     if set_refusal::refusal_number(refusal) != 0 {
         return Answer::Refused(refusal);
     }
     let fold = rule.fold;
     let n = (year - START_YEAR) as u64;
+    let span = quote_kinds::span_of(rule, year, term);
     let path = Path {
         cohort: rule.cohort,
         age: age as usize,
         year: n,
         count: quote_kinds::count_of(fold, n, span as usize),
     };
-    quote_along::answer_along(p, fold, path)
+    quote_along::answer_along(p, fold, path, quote_kinds::part_of(rule, term))
 }
 
 // The answer to any query.
-pub fn quote_of(p: Params, kind: Kind, age: i64, year: i64, span: i64) -> Answer
-    ensures answered { λ r. ⌜ r ≡ answerOf p kind age year span ⌝ }
-    ensures honest { λ r. ⌜ Demand3 p kind age year span r ⌝ }
+pub fn quote_of(p: Params, kind: Kind, age: i64, year: i64, term: i64) -> Answer
+    ensures answered { λ r. ⌜ r ≡ answerOf p kind age year term ⌝ }
+    ensures honest { λ r. ⌜ Demand3 p kind age year term r ⌝ }
 {
     if !set_limits::in_limits(p) {
         return Answer::Refused(Refusal::OutOfLimits);
     }
-    quote_within(p, kind, age, year, span)
+    quote_within(p, kind, age, year, term)
 }

@@ -1,10 +1,16 @@
 -- The value of a path: its factors are chances for which there is room, its ends fit, and the quote has them.
-use mathlib.Core.Path.{_≡_}
-use mathlib.Core.List.{List}
-use Prim.Native.Nat.{ℕ, _^_, _≤_, _<_}
+use mathlib.Core.Path.{_≡_, ap, _∙_}
+use mathlib.Core.Bool.{Bool, true, false, cond}
+use mathlib.Core.List.{List, [], _∷_, _++_}
+use mathlib.Core.Logic.{inl, inr}
+use Prim.Native.Nat.{ℕ, suc, _^_, _≤_, _<_}
+use native.Mathlib.Nat.{add-zero, eq-zero-or-pos}
+use native.Mathlib.Numerals.{add-one}
 use native.Mathlib.Omega.{arith}
-use lib.Dec.{lit<, lit≤}
-use lib.ListN.{length, take}
+use lib.Dec.{eqb, lit<, lit≤}
+use lib.ListN.{length, take, length-append}
+use borrow.Author.Tests.{ne-eqb}
+use Rattle.number_fraction.specs.Ratio.{Ratio}
 use Rattle.number_exponential.specs.declared.Ends.{Ends}
 use Rattle.number_exponential.specs.Billionths.{billionths}
 use Rattle.number_exponential.specs.laws.BillionthsFacts.{billionths-sound}
@@ -12,32 +18,58 @@ use Rattle.set_params.specs.declared.Params.{Params}
 use Rattle.number_exact.specs.declared.Figure.{Figure}
 use Rattle.number_exact.specs.Figure.{figureOf}
 use Rattle.number_folds.specs.code.Code.{mostFactors, Chances}
-use Rattle.quote_paths.specs.Path.{factors}
+use Rattle.quote_paths.specs.Path.{Place, partYear, factors}
 use Rattle.quote_paths.specs.Values.{gridValue}
 use Rattle.quote_paths.specs.laws.Answers.{path-length}
 use Rattle.quote_paths.specs.laws.Width.{factors-chances, value-small}
 use Rattle.quote_paths.specs.declared.Path.{Path}
+use Rattle.quote_paths.specs.declared.Part.{Part}
+use Rattle.quote_paths.specs.code.Code.{IsPart}
 use Rattle.quote_walks.specs.code.Code.{PathWithin, pathIs}
+use Rattle.quote_factors.specs.code.Code.{allPlaces, PartWithin}
+use Rattle.quote_along.specs.code.Code.{countWith}
 use Rattle.quote_paths.specs.declared.Fold.{Fold}
 use Rattle.quote_paths.specs.declared.Fold.the-variants.{Death, Survival, Expectancy, Annuity}
 use Rattle.quote_kinds.specs.Kinds.{stepOf}
 use Rattle.quote_along.specs.declared.Answer.the-variants.{Quoted}
 
--- its factors are chances, for which there is room
+-- as many cells as are counted
+pub places-count : (w : Path) (part : Ratio) → length (allPlaces w part) ≡ countWith (w .count) (part .num)
+unfolding partYear countWith
+places-count w part = go (eqb (part .num) 0) _
+  where
+    go : (b : Bool) (c : Place) → length (pathIs w ++ cond b [] (c ∷ [])) ≡ cond b (w .count) (suc (w .count))
+    go true c = length-append (pathIs w) [] ∙ add-zero _ ∙ path-length (w .cohort) (w .age) (w .year) (w .count)
+    go false c =
+        length-append (pathIs w) (c ∷ []) ∙ add-one _ ∙ ap suc (path-length (w .cohort) (w .age) (w .year) (w .count))
+
+-- for which there is room
+pub places-room : {p : Params} {w : Path} {r : Part} {part : Ratio} → PathWithin p w → PartWithin w r → IsPart r part
+    → length (allPlaces w part) ≤ mostFactors
+unfolding countWith
+places-room {w = w} {r} {part} h k i =
+    rw (places-count w part, ← i .days)
+    (elim (eq-zero-or-pos (r .days)) [
+      | inl z ↦ rw z (h .room)
+      | inr z ↦ let some : r .days ≡ 0 → ⊥ = λ e. omega arith in rw (ne-eqb (r .days) 0 some) (k .room some)
+    ])
+
+-- the factors are chances
+pub places-chances : (p : Params) (path : List Place) {es : List Ends} {k : ℕ} → length path ≡ k → length path ≤ mostFactors
+    → take (length path) es ≡ factors billionths p path → Chances es k
+places-chances p path e l f =
+    record { room = rw e at l; each = rw (← e, f) (factors-chances billionths billionths-sound p path) }
+
 pub path-chances : {p : Params} {w : Path} {es : List Ends} → PathWithin p w
     → take (w .count) es ≡ factors billionths p (pathIs w) → Chances es (w .count)
-path-chances {p} {w} {es} h e =
-    record {
-      room = h .room;
-      each = rw e (factors-chances billionths billionths-sound p (pathIs w));
-    }
+path-chances {p} {w} h e =
+    let l = path-length (w .cohort) (w .age) (w .year) (w .count) in places-chances p (pathIs w) l (rw l (h .room)) (rw l e)
 
--- and its ends fit
-pub value-fits : {p : Params} {w : Path} (fold : Fold) → PathWithin p w
-    → let e = gridValue fold billionths p (pathIs w) in (e .lower < 2 ^ 62) × (e .upper < 2 ^ 62)
-value-fits {p} {w} fold h =
-    let l : length (pathIs w) ≤ mostFactors = rw (path-length (w .cohort) (w .age) (w .year) (w .count)) (h .room) in
-    let v = value-small billionths billionths-sound p (pathIs w) l fold in
+-- and the ends fit
+pub value-fits : (p : Params) (path : List Place) (fold : Fold) → length path ≤ mostFactors
+    → let e = gridValue fold billionths p path in (e .lower < 2 ^ 62) × (e .upper < 2 ^ 62)
+value-fits p path fold l =
+    let v = value-small billionths billionths-sound p path l fold in
     (omega (arith, v .lower), omega (arith, v .upper))
 
 -- a step fits

@@ -8,13 +8,13 @@ use native.Mathlib.Decide.{decLt}
 use native.Mathlib.Omega.{arith}
 use lib.Dec.{T}
 use lib.Ieee.Bits.{is-true}
-use lib.ListN.{take, getD, replicate}
+use lib.ListN.{length, take, getD, replicate}
 use Rattle.number_exponential.specs.declared.Ends.{Ends}
 use Rattle.number_exponential.specs.Billionths.{billionths}
 use Rattle.set_params.specs.declared.Params.{Params}
 use Rattle.model_closure.specs.Weights.{lastClosed}
 use Rattle.number_folds.specs.code.Code.{mostFactors}
-use Rattle.model_mortality.specs.Cell.{survival}
+use Rattle.model_mortality.specs.Cell.{wholeYear, survival}
 use Rattle.quote_paths.specs.Path.{placeAt, pathOf, factors, pathInRange}
 use Rattle.quote_paths.specs.laws.Oldest.{range-stays, factors-stay, place-oldest}
 use Rattle.quote_paths.specs.declared.Path.{Path}
@@ -23,16 +23,17 @@ use Rattle.quote_walks.proofs.Steps.{worked-last}
 use Rattle.quote_factors.specs.code.Code.{workedCells, empty, Repeated, FactorsOf}
 
 all-of : {p : Params} {w : Path} {es : List Ends} → T (pathInRange p (pathIs w))
-    → take (w .count) es ≡ factors billionths p (pathIs w) → FactorsOf p w (record { ok = true; ends = es })
-all-of {p} {w} t e = record { ok = sym (is-true (pathInRange p (pathIs w)) t); ends = λ b. e }
+    → take (w .count) es ≡ factors billionths p (pathIs w) → length es ≡ mostFactors
+    → FactorsOf p w (record { ok = true; ends = es })
+all-of {p} {w} t e l = record { ok = sym (is-true (pathInRange p (pathIs w)) t); ends = λ b. e; size = λ b. l }
 
 pub worked-all : {p : Params} {w : Path} {es : List Ends} {s : ℕ} → Worked p w es s → s ≡ w .count
     → FactorsOf p w (record { ok = true; ends = es })
-worked-all h e = let k = rw e at h in all-of (k .range) (k .ends)
+worked-all h e = let k = rw e at h in all-of (k .range) (k .ends) (k .size)
 
 pub out-all : {p : Params} {w : Path} {es : List Ends} → pathInRange p (pathIs w) ≡ false
     → FactorsOf p w (record { ok = false; ends = es })
-out-all e = record { ok = sym e; ends = λ t. absurd t }
+out-all e = record { ok = sym e; ends = λ t. absurd t; size = λ t. absurd t }
 
 -- ---- the cells that are worked
 
@@ -62,13 +63,13 @@ module _ (p : Params) (c : Bool) (x n s count : ℕ) (q : c ≡ false) (l : suc 
   range-rest t = rw (q, ← to-count) (range-stays p x n s (count - suc s) a (rw q at t))
 
   factors-rest : factors billionths p (pathOf c x n count)
-      ≡ factors billionths p (pathOf c x n (suc s)) ++ replicate (count - suc s) (survival billionths p lastClosed n)
+      ≡ factors billionths p (pathOf c x n (suc s)) ++ replicate (count - suc s) (survival billionths p lastClosed n wholeYear)
   factors-rest =
       rw q
       (ap (λ (k : ℕ). factors billionths p (pathOf false x n k)) (sym to-count)
       ∙ factors-stay billionths p x n s (count - suc s) a)
 
-  factor-oldest : survival billionths p (placeAt c x n s .age) (placeAt c x n s .year) ≡ survival billionths p lastClosed n
+  factor-oldest : survival billionths p (placeAt c x n s .age) (placeAt c x n s .year) wholeYear ≡ survival billionths p lastClosed n wholeYear
   factor-oldest = rw (q, place-oldest x n s a)
 
 suc-pred : (s : ℕ) → suc s - 1 ≡ s
@@ -79,7 +80,7 @@ pub worked-rest : {p : Params} {w : Path} {es r : List Ends} (s : ℕ) → 0 < s
     → (s < w .count → (w .cohort ≡ false) × (lastClosed < w .age + s)) → Repeated es s (w .count) r
     → FactorsOf p w (record { ok = true; ends = r })
 worked-rest zero some m h old f = absurd (omega arith)
-worked-rest {p} {w} {es} {r} (suc s) some m h old f = let e = rw (suc-pred s) at f in elim (decLt (suc s) (w .count)) [
+worked-rest {p} {w} {es} {r} (suc s) some m h old f = let e = rw (suc-pred s) at (f .ends) in elim (decLt (suc s) (w .count)) [
   | yes l ↦
       let o = old l in
       let a : lastClosed ≤ w .age + s = omega (arith, o .1) in
@@ -87,11 +88,11 @@ worked-rest {p} {w} {es} {r} (suc s) some m h old f = let e = rw (suc-pred s) at
       (e ∙ ap₂ (λ (b d : List Ends). b ++ d) (h .ends)
       (ap (replicate (w .count - suc s))
       (worked-last empty h m ∙ factor-oldest p (w .cohort) (w .age) (w .year) s (w .count) (o .0) (h .some) a))
-      ∙ sym (factors-rest p (w .cohort) (w .age) (w .year) s (w .count) (o .0) (h .some) a))
+      ∙ sym (factors-rest p (w .cohort) (w .age) (w .year) s (w .count) (o .0) (h .some) a)) (f .size)
   | no l ↦
       let c : suc s ≡ w .count = omega (arith, h .some) in
       let z : w .count - suc s ≡ 0 = omega arith in
       all-of (subst (λ (k : ℕ). T (pathInRange p (pathTo w k))) c (h .range))
       (e ∙ ap (λ (k : ℕ). take (suc s) es ++ replicate k (getD es s empty)) z ∙ append-nil (take (suc s) es)
-      ∙ h .ends ∙ ap (λ (k : ℕ). factors billionths p (pathTo w k)) c)
+      ∙ h .ends ∙ ap (λ (k : ℕ). factors billionths p (pathTo w k)) c) (f .size)
 ]

@@ -6,12 +6,13 @@ ghost use Prim.Native.Nat.{_-_, _≤_, _<_, min};
 ghost use lib.Dec.{T};
 ghost use Rattle.model_closure.specs.Weights.{firstClosed, lastClosed};
 ghost use Rattle.quote_walks.specs.code.Code.{PathWithin, WalkOf};
-ghost use Rattle.quote_factors.specs.code.Code.{workedCells, Begun, Repeated, FactorsOf};
+ghost use Rattle.quote_factors.specs.code.Code.{workedCells, Begun, Repeated, FactorsOf, PartWithin, AllFactorsOf};
 use model_cells::Cell;
 use model_closure::FIRST_CLOSED;
 use model_closure::LAST_CLOSED;
 use number_exponential::Ends;
 use number_folds::MOST_FACTORS;
+use quote_paths::Part;
 use quote_paths::Path;
 use quote_walks::Walk;
 use set_params::Params;
@@ -110,5 +111,32 @@ pub fn factors_of(p: Params, path: Path) -> Factors
     if walk.done < path.count {
         return old_factors(p, path, walk);
     }
+    Factors { ok: true, ends }
+}
+
+// The factors of a path and, where it has days, of the part of a year after it.
+pub fn all_factors(p: Params, path: Path, part: Part) -> Factors
+    requires { ⌜ PathWithin p path × PartWithin path part ⌝ }
+    ensures { λ r. ⌜ AllFactorsOf p path part r ⌝ }
+{
+    let worked = factors_of(p, path);
+    let mut ends = worked.ends;
+    if !worked.ok {
+        return Factors { ok: false, ends };
+    }
+    if part.days == 0 {
+        return Factors { ok: true, ends };
+    }
+    let count = path.count;
+    let Cell::Of(e) = model_part_year::part_cell(
+        p,
+        path.age + count,
+        path.year + count as u64,
+        part.days,
+        part.whole,
+    ) else {
+        return Factors { ok: false, ends };
+    };
+    ends[count] = e;
     Factors { ok: true, ends }
 }

@@ -1,13 +1,18 @@
 // The kinds of figure, and what each takes of a path: one rule a kind, and a step and a fold for each of four figures.
 ghost use mathlib.Core.Path.{_≡_};
 ghost use Prim.Native.Nat.{_≤_};
+ghost use lib.Dec.{T};
 ghost use lib.ListN.{take};
+ghost use Rattle.number_whole.specs.code.Sizes.{Under};
+ghost use Rattle.quote_calendar.specs.Calendar.{isDay};
 ghost use Rattle.number_exponential.specs.Billionths.{billionths};
 ghost use Rattle.model_closure.specs.Weights.{lastClosed};
 ghost use Rattle.number_folds.specs.code.Code.{Chances};
 ghost use Rattle.quote_paths.specs.Values.{foldOver};
 ghost use Rattle.set_params.specs.Limits.{lastYears};
-ghost use Rattle.quote_kinds.specs.Kinds.{ruleOf, rateOf, mostSpan, yearsOn, countOf, stepOf, decimalsOf};
+ghost use Rattle.quote_kinds.specs.Kinds.{ruleOf, rateOf, mostSpan, longestSpan, yearsOn, countOf, stepOf, decimalsOf};
+ghost use Rattle.quote_kinds.specs.Kinds.{spanOf, partOf};
+ghost use Rattle.quote_paths.specs.code.Code.{IsPart};
 ghost use Rattle.quote_kinds.specs.code.Code.{RateWithin};
 use model_closure::LAST_CLOSED;
 use number_exact::EXPECTANCY_STEP;
@@ -15,10 +20,11 @@ use number_exact::PROBABILITY_STEP;
 use number_exponential::Ends;
 use number_folds::MOST_FACTORS;
 use quote_paths::Fold;
+use quote_paths::Part;
 use set_params::LAST_YEARS;
 use set_params::QUOTE_YEARS;
 
-// What may be asked of a life: `q`, `coh`, `per`, `ecoh` and `eper`, and with a rate `acoh` and `aper`.
+// What may be asked of a life: `q`, `coh`, `per`, `ecoh` and `eper`, with a rate `acoh` and `aper`, and to a date `day`.
 pub enum Kind {
     Death,
     CohortSurvival,
@@ -27,13 +33,15 @@ pub enum Kind {
     PeriodExpectancy,
     CohortAnnuity(i64),
     PeriodAnnuity(i64),
+    Day,
 }
 
-// A kind's fold, whether its path is the cohort's, and its last year, counted from the start year.
+// A kind's fold, whether its path is the cohort's, its last year, counted from the start year, and whether its term is a date.
 pub struct Rule {
     pub fold: Fold,
     pub cohort: bool,
     pub years: i64,
+    pub dated: bool,
 }
 
 // The rule of a kind.
@@ -45,36 +53,49 @@ pub fn rule_of(kind: Kind) -> Rule
             fold: Fold::Death,
             cohort: true,
             years: LAST_YEARS,
+            dated: false,
         },
         Kind::CohortSurvival => Rule {
             fold: Fold::Survival,
             cohort: true,
             years: QUOTE_YEARS,
+            dated: false,
         },
         Kind::PeriodSurvival => Rule {
             fold: Fold::Survival,
             cohort: false,
             years: QUOTE_YEARS,
+            dated: false,
         },
         Kind::CohortExpectancy => Rule {
             fold: Fold::Expectancy,
             cohort: true,
             years: QUOTE_YEARS,
+            dated: false,
         },
         Kind::PeriodExpectancy => Rule {
             fold: Fold::Expectancy,
             cohort: false,
             years: QUOTE_YEARS,
+            dated: false,
         },
         Kind::CohortAnnuity(rate) => Rule {
             fold: Fold::Annuity(rate),
             cohort: true,
             years: QUOTE_YEARS,
+            dated: false,
         },
         Kind::PeriodAnnuity(rate) => Rule {
             fold: Fold::Annuity(rate),
             cohort: false,
             years: QUOTE_YEARS,
+            dated: false,
+        },
+        Kind::Day => Rule {
+            fold: Fold::Survival,
+            cohort: true,
+            years: QUOTE_YEARS,
+            dated: true,
         },
     }
 }
@@ -92,7 +113,7 @@ pub fn rate_of(fold: Fold) -> i64
 }
 
 // The longest span at an age of the table.
-pub fn most_span(fold: Fold, age: usize) -> usize
+fn most_span(fold: Fold, age: usize) -> usize
     requires { ⌜ age ≤ lastClosed ⌝ }
     ensures { λ r. ⌜ r ≡ mostSpan fold age ⌝ }
 {
@@ -102,6 +123,18 @@ pub fn most_span(fold: Fold, age: usize) -> usize
         Fold::Expectancy => 0,
         Fold::Annuity(_) => 0,
     }
+}
+
+// The longest span of a rule at an age of the table.
+pub fn longest_span(rule: Rule, age: usize) -> usize
+    requires { ⌜ age ≤ lastClosed ⌝ }
+    ensures { λ r. ⌜ r ≡ longestSpan rule age ⌝ }
+{
+    if rule.dated {
+        return LAST_CLOSED - age;
+    }
+    let fold = rule.fold;
+    most_span(fold, age)
 }
 
 // The years from a year on, to the last of the table.
@@ -122,6 +155,31 @@ pub fn count_of(fold: Fold, year: u64, span: usize) -> usize
         Fold::Survival => span,
         Fold::Expectancy => years_on(year),
         Fold::Annuity(_) => years_on(year),
+    }
+}
+
+// The whole years to a term: of a date, from the query's year to its own.
+pub fn span_of(rule: Rule, year: i64, term: i64) -> i64
+    requires { ⌜ Under year 9999 × (T (rule .dated) → T (isDay term)) ⌝ }
+    ensures { λ r. ⌜ r ≡ spanOf rule year term ⌝ }
+{
+    if !rule.dated {
+        return term;
+    }
+    quote_calendar::date_year(term) as i64 - year
+}
+
+// The part of a year after them; a span has none.
+pub fn part_of(rule: Rule, term: i64) -> Part
+    requires { ⌜ (T (rule .dated) → T (isDay term)) ⌝ }
+    ensures { λ r. ⌜ IsPart r (partOf rule term) ⌝ }
+{
+    if !rule.dated {
+        return Part { days: 0, whole: 1 };
+    }
+    Part {
+        days: quote_calendar::day_of_year(term),
+        whole: quote_calendar::year_days(quote_calendar::date_year(term)),
     }
 }
 

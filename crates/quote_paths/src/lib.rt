@@ -8,6 +8,12 @@ pub struct Path {
     pub count: usize,
 }
 
+// A part of a year: some days out of the whole, none where they are 0.
+pub struct Part {
+    pub days: u64,
+    pub whole: u64,
+}
+
 // What is taken of a path's factors, an annuity's price with its rate.
 pub enum Fold {
     Death,

@@ -1,8 +1,8 @@
-// The tests of an age, a year, a span and a rate against the table: refusals 3 to 5 and 8.
+// The tests of an age, a year, a term and a rate against the table: refusals 3 to 5, 8 and 10.
 ghost use mathlib.Core.Path.{_≡_};
 ghost use Rattle.number_whole.specs.code.Sizes.{Under};
 ghost use Rattle.set_params.specs.Limits.{lastYears};
-ghost use Rattle.quote_table_tests.specs.TableTests.{between, tableTests, firstFailed};
+ghost use Rattle.quote_table_tests.specs.TableTests.{between, dateInTable, tableTests, firstFailed};
 use model_closure::LAST_CLOSED;
 use number_annuity::MOST_RATE;
 use quote_kinds::Rule;
@@ -20,10 +20,20 @@ fn between(low: i64, high: i64, v: i64) -> bool
     v <= high
 }
 
-// The refusal that the table gives an age, a year, a span and a kind's rate, the first of 3, 4, 5 and 8 that applies.
-pub fn table_refusal(rule: Rule, age: i64, year: i64, span: i64) -> Refusal
+// Whether a term that is to be a date is a day.
+fn date_in_table(rule: Rule, term: i64) -> bool
+    ensures { λ r. ⌜ r ≡ dateInTable rule term ⌝ }
+{
+    if !rule.dated {
+        return true;
+    }
+    quote_calendar::is_day(term)
+}
+
+// The refusal that the table gives an age, a year, a term and a kind's rate, the first of 3, 4, 10, 5 and 8 that applies.
+pub fn table_refusal(rule: Rule, age: i64, year: i64, term: i64) -> Refusal
     requires { ⌜ Under (rule .years) lastYears ⌝ }
-    ensures { λ r. ⌜ r ≡ firstFailed (tableTests rule age year span) ⌝ }
+    ensures { λ r. ⌜ r ≡ firstFailed (tableTests rule age year term) ⌝ }
 {
     let fold = rule.fold;
     let last = START_YEAR + rule.years;
@@ -33,7 +43,15 @@ pub fn table_refusal(rule: Rule, age: i64, year: i64, span: i64) -> Refusal
     if !between(START_YEAR + FIRST_YEARS, last, year) {
         return Refusal::NoSuchYear;
     }
-    if !between(0, quote_kinds::most_span(fold, age as usize) as i64, span) {
+    if !date_in_table(rule, term) {
+        return Refusal::NoSuchDate;
+    }
+    let span = quote_kinds::span_of(rule, year, term);
+    if !between(
+        0,
+        quote_kinds::longest_span(rule, age as usize) as i64,
+        span,
+    ) {
         return Refusal::NoSuchSpan;
     }
     if !between(0, MOST_RATE as i64, quote_kinds::rate_of(fold)) {

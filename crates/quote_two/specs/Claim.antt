@@ -28,6 +28,7 @@ kindNumber kind.CohortExpectancy = 3
 kindNumber kind.PeriodExpectancy = 4
 kindNumber (kind.CohortAnnuity rate) = 5
 kindNumber (kind.PeriodAnnuity rate) = 6
+kindNumber kind.Day = 7
 
 unfoldable pub oneKind : Kind → Kind → Bool
 oneKind k k′ = eqb (kindNumber k) (kindNumber k′)
@@ -40,15 +41,15 @@ stepsShown noFigure = None
 
 -- the exact values of the two queries round to one same step of the kind's figures
 abbrev pub OneStepOf : Params → Kind → ℤ → ℤ → ℤ → Params → Kind → ℤ → ℤ → ℤ → Type 0
-OneStepOf p kind age year span p′ kind′ age′ year′ span′ =
-    OneStep billionths (step kind) (exactQuery p kind age year span) (exactQuery p′ kind′ age′ year′ span′)
+OneStepOf p kind age year term p′ kind′ age′ year′ term′ =
+    OneStep billionths (step kind) (exactQuery p kind age year term) (exactQuery p′ kind′ age′ year′ term′)
 
 -- other kinds are told exactly where the two are not one kind, rates aside; of one kind, equal figures have exact values that
 -- round to one step, and different figures have not; and where none of these is said, one of the two is not printed
-pub record Settled (p : Params) (kind : Kind) (age year span : ℤ) (p′ : Params) (kind′ : Kind) (age′ year′ span′ : ℤ) (r : Same)
+pub record Settled (p : Params) (kind : Kind) (age year term : ℤ) (p′ : Params) (kind′ : Kind) (age′ year′ term′ : ℤ) (r : Same)
     : Type 0 where
   pub other-kind : (r ≡ OtherKind) ↔ (OneKind kind kind′ → ⊥)
-  pub equal : r ≡ Equal → OneStepOf p kind age year span p′ kind′ age′ year′ span′
-  pub different : r ≡ Different → OneStepOf p kind age year span p′ kind′ age′ year′ span′ → ⊥
-  pub not-printed : r ≡ NotPrinted → (n n′ : ℕ) → figureShown (answerOf p kind age year span) ≡ printed n
-      → figureShown (answerOf p′ kind′ age′ year′ span′) ≡ printed n′ → ⊥
+  pub equal : r ≡ Equal → OneStepOf p kind age year term p′ kind′ age′ year′ term′
+  pub different : r ≡ Different → OneStepOf p kind age year term p′ kind′ age′ year′ term′ → ⊥
+  pub not-printed : r ≡ NotPrinted → (n n′ : ℕ) → figureShown (answerOf p kind age year term) ≡ printed n
+      → figureShown (answerOf p′ kind′ age′ year′ term′) ≡ printed n′ → ⊥

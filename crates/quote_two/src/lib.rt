@@ -1,4 +1,4 @@
-// Two quotes, whichever their sets, kinds, ages, years, spans and rates: whether they are of one kind and, if so, whether their
+// Two quotes, whichever their sets, kinds, ages, years, terms and rates: whether they are of one kind and, if so, whether their
 // figures are equal, and so whether their exact values round to one step. Proved from the contract of `quote_of` alone.
 ghost use mathlib.Core.Path.{_≡_};
 ghost use Rattle.quote_kinds.specs.Kinds.{OneKind};
@@ -35,6 +35,7 @@ fn kind_number(kind: Kind) -> u64
         Kind::PeriodExpectancy => 4,
         Kind::CohortAnnuity(_) => 5,
         Kind::PeriodAnnuity(_) => 6,
+        Kind::Day => 7,
     }
 }
 
@@ -72,18 +73,18 @@ fn same_printed(
     kind: Kind,
     age: i64,
     year: i64,
-    span: i64,
+    term: i64,
     p2: Params,
     kind2: Kind,
     age2: i64,
     year2: i64,
-    span2: i64,
+    term2: i64,
 ) -> Same
     requires { ⌜ OneKind kind kind2 ⌝ }
-    ensures { λ r. ⌜ Settled p kind age year span p2 kind2 age2 year2 span2 r ⌝ }
+    ensures { λ r. ⌜ Settled p kind age year term p2 kind2 age2 year2 term2 r ⌝ }
 {
-    let first = steps_of(quote::quote_of(p, kind, age, year, span));
-    let second = steps_of(quote::quote_of(p2, kind2, age2, year2, span2));
+    let first = steps_of(quote::quote_of(p, kind, age, year, term));
+    let second = steps_of(quote::quote_of(p2, kind2, age2, year2, term2));
     let Steps::At(n) = first else {
         return Same::NotPrinted;
     };
@@ -102,17 +103,17 @@ pub fn same_figures(
     kind: Kind,
     age: i64,
     year: i64,
-    span: i64,
+    term: i64,
     p2: Params,
     kind2: Kind,
     age2: i64,
     year2: i64,
-    span2: i64,
+    term2: i64,
 ) -> Same
-    ensures { λ r. ⌜ Settled p kind age year span p2 kind2 age2 year2 span2 r ⌝ }
+    ensures { λ r. ⌜ Settled p kind age year term p2 kind2 age2 year2 term2 r ⌝ }
 {
     if one_kind(kind, kind2) {
-        return same_printed(p, kind, age, year, span, p2, kind2, age2, year2, span2);
+        return same_printed(p, kind, age, year, term, p2, kind2, age2, year2, term2);
     }
     Same::OtherKind
 }

@@ -17,8 +17,8 @@ use Rattle.set_params.specs.Limits.{inLimits}
 use Rattle.set_refusal.specs.Refusals.{refusalNumber}
 use Rattle.quote_paths.specs.Path.{factors, pathInRange}
 use Rattle.quote_kinds.specs.declared.Kind.the-variants.{Death}
-use Rattle.quote_kinds.specs.Kinds.{ruleOf, mostSpan, rateOf}
-use Rattle.quote_table_tests.specs.TableTests.{ageInTable, yearInTable, spanInTable, rateInTable, firstFailed, tableTests}
+use Rattle.quote_kinds.specs.Kinds.{ruleOf, mostSpan, longestSpan, spanOf, rateOf}
+use Rattle.quote_table_tests.specs.TableTests.{ageInTable, yearInTable, dateInTable, spanInTable, rateInTable, firstFailed, tableTests}
 use Rattle.quote_verdicts.specs.declared.Verdict.{Verdict}
 use Rattle.quote_verdicts.specs.declared.Judged.{Judged}
 use Rattle.quote_verdicts.specs.declared.Judged.the-variants.{Of, Refused}
@@ -60,7 +60,7 @@ answered p year column w e = (rw w e, rw e (verdict-honest p year (taken column 
 -- of age 0 the table tests the year alone
 year-tested : (year : ℤ)
     → firstFailed (tableTests (ruleOf Death) (pos 0) year (pos 0)) ≡ cond (yearInTable (ruleOf Death) year) Accepted NoSuchYear
-unfolding firstFailed tableTests ageInTable spanInTable rateInTable ruleOf mostSpan rateOf
+unfolding firstFailed tableTests ageInTable dateInTable spanInTable rateInTable ruleOf mostSpan longestSpan spanOf rateOf
 year-tested year = refl
 
 module _ (p : Params) (year : ℤ) (column : List ℕ) (t : T (inLimits p)) where

@@ -11,7 +11,6 @@ use borrow.Author.Tests.{lt-ltb}
 use lib.ListN.{length, take, getD, set, length-set}
 use lib.Seq.{take-suc, take-suc-set, length-take-le, getD-at}
 use mir.Facts.{and-yes, yes-and}
-use Rattle.number_whole.specs.laws.Clash.{clash}
 use Rattle.number_whole.specs.Listed.{listed}
 use Rattle.number_exponential.specs.declared.Ends.{Ends}
 use Rattle.number_exponential.specs.Billionths.{billionths}
@@ -20,9 +19,10 @@ use Rattle.set_params.specs.Limits.{lastYears}
 use Rattle.model_cells.specs.declared.Cell.{Cell}
 use Rattle.model_cells.specs.declared.Cell.the-variants.{LogForceOutOfRange, Of}
 use Rattle.model_series.specs.declared.Year.{Year}
-use Rattle.model_mortality.specs.Cell.{survival, neededInRange}
+use Rattle.model_mortality.specs.Cell.{wholeYear, survival, neededInRange}
 use Rattle.model_series.specs.code.Year.{YearWithin}
 use Rattle.model_cells.specs.code.Code.{cellOf}
+use Rattle.model_cells.specs.laws.Answers.{cell-there, cell-gone}
 use Rattle.model_series.specs.laws.YearLaws.{year-within, year-next}
 use Rattle.number_folds.specs.code.Code.{mostFactors}
 use Rattle.quote_paths.specs.Path.{placeAt, pathOf, factors, pathInRange}
@@ -40,24 +40,12 @@ along cohort age year count = record { cohort = cohort; age = age; year = year; 
 abbrev pub cellAt : Params → Path → ℕ → Cell
 cellAt p w s = cellOf p (placeOf w s .age) (placeOf w s .year)
 
-inside : (b : Bool) {d e : Ends} → cond b (Of d) LogForceOutOfRange ≡ Of e → T b × (d ≡ e)
-inside true q = (tt, cc)
-inside false q = clash cc
-
-outside : (b : Bool) (d : Ends) → cond b (Of d) LogForceOutOfRange ≡ LogForceOutOfRange → b ≡ false
-outside true d q = clash cc
-outside false d q = refl
-
 cell-in : (p : Params) (x n : ℕ) {e : Ends} → cellOf p x n ≡ Of e
-    → T (neededInRange p x n) × (e ≡ survival billionths p x n)
-unfolding cellOf
-cell-in p x n {e} q =
-    let r = inside (neededInRange p x n) {d = survival billionths p x n} {e = e} q in
-    (r .0, sym (r .1))
+    → T (neededInRange p x n) × (e ≡ survival billionths p x n wholeYear)
+cell-in p x n q = cell-there (neededInRange p x n) (survival billionths p x n wholeYear) q
 
 cell-out : (p : Params) (x n : ℕ) → cellOf p x n ≡ LogForceOutOfRange → neededInRange p x n ≡ false
-unfolding cellOf
-cell-out p x n q = outside (neededInRange p x n) (survival billionths p x n) q
+cell-out p x n q = cell-gone (neededInRange p x n) (survival billionths p x n wholeYear) q
 
 -- ---- the factors
 
@@ -67,8 +55,8 @@ worked-none p w h = record { some = omega arith; range = tt; ends = refl; size =
 
 factors-more : (p : Params) (w : Path) (s : ℕ)
     → factors billionths p (pathTo w (suc s))
-    ≡ factors billionths p (pathTo w s) ++ (survival billionths p (placeOf w s .age) (placeOf w s .year) ∷ [])
-unfolding factors
+    ≡ factors billionths p (pathTo w s) ++ (survival billionths p (placeOf w s .age) (placeOf w s .year) wholeYear ∷ [])
+unfolding factors placeAt
 factors-more p w s =
     ap (factors billionths p) (path-more (w .cohort) (w .age) (w .year) s)
     ∙ factors-append billionths p (pathTo w s) (placeOf w s ∷ [])
@@ -89,11 +77,11 @@ worked-more {p} {w} {es} {s} {e} h m l q =
 
 -- the last factor that was put
 pub worked-last : {p : Params} {w : Path} {es : List Ends} {s : ℕ} (d : Ends) → Worked p w es (suc s)
-    → w .count ≤ mostFactors → getD es s d ≡ survival billionths p (placeOf w s .age) (placeOf w s .year)
+    → w .count ≤ mostFactors → getD es s d ≡ survival billionths p (placeOf w s .age) (placeOf w s .year) wholeYear
 worked-last {p} {w} {es} {s} d h m =
     let l : s < length es = omega (arith, h .some, h .size) in
     let e : take s es ++ (getD es s d ∷ [])
-    ≡ factors billionths p (pathTo w s) ++ (survival billionths p (placeOf w s .age) (placeOf w s .year) ∷ []) =
+    ≡ factors billionths p (pathTo w s) ++ (survival billionths p (placeOf w s .age) (placeOf w s .year) wholeYear ∷ []) =
     sym (take-suc es s d l) ∙ h .ends ∙ factors-more p w s in
     sym (getD-at (take s es) (getD es s d) [] d s (length-take-le s es (omega arith)))
     ∙ ap (λ (l : List Ends). getD l s d) e

@@ -32,7 +32,7 @@ answered read follows line =
 
 -- the answer to a query
 unfoldable pub queryAnswer : Params → Query → Answer
-queryAnswer p q = answerOf p (q .kind) (q .age) (q .year) (q .span)
+queryAnswer p q = answerOf p (q .kind) (q .age) (q .year) (q .term)
 
 -- the decimals of a kind's figures
 abbrev pub kindDecimals : Kind → ℕ

@@ -13,7 +13,7 @@ use Rattle.run_query.specs.declared.Query.{Query}
 use Rattle.run_query.specs.declared.KindRead.{KindRead}
 use Rattle.run_query.specs.declared.KindRead.the-variants.{Malformed, Of}
 use Rattle.quote_kinds.specs.Kinds.{takesRate, withRate}
-use Rattle.run_query.specs.Query.{onOffer, readWord, readField, readRate, alone, readQuery}
+use Rattle.run_query.specs.Query.{onOffer, termName, readWord, readField, readRate, alone, readQuery}
 use Rattle.run_query.specs.code.Code.{kindRead}
 
 -- ---- what is still to be read
@@ -22,15 +22,15 @@ abbrev pub lineEnd : Query → List ℕ → Parse Query
 lineEnd q bs = andThen (takeText (bytesOf "\n") bs) (λ v rest. alone q rest)
 
 abbrev pub fromRate : Kind → ℤ → ℤ → ℤ → List ℕ → Parse Query
-fromRate word age year span bs =
+fromRate word age year term bs =
     andThen (readRate word bs)
-    (λ kind rest. lineEnd (record { kind = kind; age = age; year = year; span = span }) rest)
+    (λ kind rest. lineEnd (record { kind = kind; age = age; year = year; term = term }) rest)
 
-abbrev pub fromSpan : Kind → ℤ → ℤ → List ℕ → Parse Query
-fromSpan word age year bs = andThen (readField (bytesOf " span=") bs) (λ span rest. fromRate word age year span rest)
+abbrev pub fromTerm : Kind → ℤ → ℤ → List ℕ → Parse Query
+fromTerm word age year bs = andThen (readField (termName word) bs) (λ term rest. fromRate word age year term rest)
 
 abbrev pub fromYear : Kind → ℤ → List ℕ → Parse Query
-fromYear word age bs = andThen (readField (bytesOf " year=") bs) (λ year rest. fromSpan word age year rest)
+fromYear word age bs = andThen (readField (bytesOf " year=") bs) (λ year rest. fromTerm word age year rest)
 
 abbrev pub fromAge : Kind → List ℕ → Parse Query
 fromAge word bs = andThen (readField (bytesOf " age=") bs) (λ age rest. fromYear word age rest)

@@ -1,6 +1,7 @@
 -- "A query line has the form shown below without its `fig=` part, numbers formed as in a sheet, and ends in a line feed":
 -- `kind=q age=65 year=2020 span=0`; the line of an annuity (paper 02, E1) "for these two kinds only, ends with `rate=`":
--- `kind=acoh age=65 year=2020 span=0 rate=30000`. What a line asks, and the text of what is asked.
+-- `kind=acoh age=65 year=2020 span=0 rate=30000`; "Kind `day` carries age, year (2014 to 2064) and, in place of a span,
+-- `date=` as YYYYMMDD" (E6): `kind=day age=65 year=2020 date=20410315`. What a line asks, and the text of what is asked.
 use Prim.Native.Nat.{ℕ}
 use mathlib.Core.Bool.{cond}
 use mathlib.Core.List.{List, [], _∷_, _++_}
@@ -9,7 +10,7 @@ use Rattle.text_tokens.specs.Text.{bytesOf, Parse, malformed, taken, takeText, 
 use Rattle.text_tokens.specs.Number.{readNumber, numberText}
 use Rattle.quote_kinds.specs.declared.Kind.{Kind}
 use Rattle.quote_kinds.specs.declared.Kind.the-variants.{Death, CohortSurvival, PeriodSurvival, CohortExpectancy, PeriodExpectancy}
-use Rattle.quote_kinds.specs.declared.Kind.the-variants.{CohortAnnuity, PeriodAnnuity}
+use Rattle.quote_kinds.specs.declared.Kind.the-variants.{CohortAnnuity, PeriodAnnuity, Day}
 use Rattle.quote_kinds.specs.Kinds.{ruleOf, takesRate, withRate, rateOf}
 use Rattle.run_query.specs.declared.Query.{Query}
 
@@ -24,14 +25,19 @@ wordOf CohortExpectancy = bytesOf "ecoh"
 wordOf PeriodExpectancy = bytesOf "eper"
 wordOf (CohortAnnuity rate) = bytesOf "acoh"
 wordOf (PeriodAnnuity rate) = bytesOf "aper"
+wordOf Day = bytesOf "day"
 
 -- every kind, rates aside: no kind's word begins with another's, so the order decides nothing
 unfoldable pub onOffer : List Kind
 onOffer =
     Death ∷ CohortSurvival ∷ PeriodSurvival ∷ CohortExpectancy ∷ PeriodExpectancy
-    ∷ CohortAnnuity (pos 0) ∷ PeriodAnnuity (pos 0) ∷ []
+    ∷ CohortAnnuity (pos 0) ∷ PeriodAnnuity (pos 0) ∷ Day ∷ []
 
 -- ---- a query's text
+
+-- "in place of a span, `date=` as YYYYMMDD": the name of a kind's last number
+unfoldable pub termName : Kind → List ℕ
+termName k = cond (ruleOf k .dated) (bytesOf " date=") (bytesOf " span=")
 
 -- the rate of a kind that takes one
 abbrev pub kindRate : Kind → ℤ
@@ -43,7 +49,7 @@ rateText k = cond (takesRate k) (bytesOf " rate=" ++ numberText (kindRate k)) []
 unfoldable pub queryText : Query → List ℕ
 queryText q =
     bytesOf "kind=" ++ (wordOf (q .kind) ++ (bytesOf " age=" ++ (numberText (q .age)
-    ++ (bytesOf " year=" ++ (numberText (q .year) ++ (bytesOf " span=" ++ (numberText (q .span) ++ rateText (q .kind))))))))
+    ++ (bytesOf " year=" ++ (numberText (q .year) ++ (termName (q .kind) ++ (numberText (q .term) ++ rateText (q .kind))))))))
 
 -- ---- reading
 
@@ -68,14 +74,14 @@ unfoldable pub alone : {A : Type 0} → A → List ℕ → Parse A
 alone a [] = taken a []
 alone a (b ∷ bs) = malformed
 
--- the query of a whole line
+-- the query of a whole line; a line of the kind `day` with ` span=`, or of another kind with ` date=`, is malformed
 unfoldable pub readQuery : List ℕ → Parse Query
 readQuery line =
     andThen (takeText (bytesOf "kind=") line) (λ u after₀.
     andThen (readWord onOffer after₀) (λ word after₁.
     andThen (readField (bytesOf " age=") after₁) (λ age after₂.
     andThen (readField (bytesOf " year=") after₂) (λ year after₃.
-    andThen (readField (bytesOf " span=") after₃) (λ span after₄.
+    andThen (readField (termName word) after₃) (λ term after₄.
     andThen (readRate word after₄) (λ kind after₅.
     andThen (takeText (bytesOf "\n") after₅) (λ v after₆.
-    alone (record { kind = kind; age = age; year = year; span = span }) after₆)))))))
+    alone (record { kind = kind; age = age; year = year; term = term }) after₆)))))))

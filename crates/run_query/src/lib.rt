@@ -1,19 +1,20 @@
-// A query line, `kind=… age=… year=… span=…`, an annuity's with ` rate=…`, and a line feed, read from its bytes.
+// A query line, `kind=… age=… year=… span=…`, a survival to a day's with ` date=…` in its place, an annuity's with ` rate=…`, and
+// a line feed, read from its bytes.
 ghost use mathlib.Core.Path.{_≡_};
 ghost use lib.ListN.{drop};
 ghost use Rattle.text_tokens.specs.code.Places.{numberRead};
 ghost use Rattle.quote_kinds.specs.Kinds.{takesRate, withRate};
-ghost use Rattle.run_query.specs.Query.{onOffer, readWord, readField, readRate, readQuery};
+ghost use Rattle.run_query.specs.Query.{onOffer, termName, readWord, readField, readRate, readQuery};
 ghost use Rattle.run_query.specs.code.Code.{kindRead, queryRead};
 use quote_kinds::Kind;
 use text_tokens::NumberRead;
 
-// What is asked of a life.
+// What is asked of a life; the term is a span, or of the kind `day` a date.
 pub struct Query {
     pub kind: Kind,
     pub age: i64,
     pub year: i64,
-    pub span: i64,
+    pub term: i64,
 }
 
 // A kind whose word was read, with the place after it.
@@ -40,6 +41,7 @@ pub fn takes_rate(kind: Kind) -> bool
         Kind::PeriodExpectancy => false,
         Kind::CohortAnnuity(_) => true,
         Kind::PeriodAnnuity(_) => true,
+        Kind::Day => false,
     }
 }
 
@@ -55,6 +57,7 @@ pub fn with_rate(kind: Kind, rate: i64) -> Kind
         Kind::PeriodExpectancy => Kind::PeriodExpectancy,
         Kind::CohortAnnuity(_) => Kind::CohortAnnuity(rate),
         Kind::PeriodAnnuity(_) => Kind::PeriodAnnuity(rate),
+        Kind::Day => Kind::Day,
     }
 }
 
@@ -83,6 +86,9 @@ pub fn kind_at(bytes: &[u8], at: usize) -> KindRead
     if text_tokens::text_at(bytes, at, b"aper") {
         return KindRead::Of(Kind::PeriodAnnuity(0), at + 4);
     }
+    if text_tokens::text_at(bytes, at, b"day") {
+        return KindRead::Of(Kind::Day, at + 3);
+    }
     KindRead::Malformed
 }
 
@@ -95,6 +101,17 @@ pub fn field_at(bytes: &[u8], at: usize, name: &[u8]) -> NumberRead
         return NumberRead::Malformed;
     }
     text_numbers::number_at(bytes, at + name.len())
+}
+
+// The term of a kind at a place: a date, or a span.
+fn term_at(bytes: &[u8], at: usize, kind: Kind) -> NumberRead
+    ensures { λ r. ⌜ numberRead (now (bytes .entry)) r ≡ readField (termName kind) (drop at (now (bytes .entry))) ⌝ }
+{
+    let rule = quote_kinds::rule_of(kind);
+    if rule.dated {
+        return field_at(bytes, at, b" date=");
+    }
+    field_at(bytes, at, b" span=")
 }
 
 // The kind with the rate that stands at a place, where it takes one.
@@ -126,10 +143,10 @@ pub fn query_of(line: &[u8]) -> QueryRead
     let NumberRead::Number(year, after_year) = field_at(line, after_age, b" year=") else {
         return QueryRead::Malformed;
     };
-    let NumberRead::Number(span, after_span) = field_at(line, after_year, b" span=") else {
+    let NumberRead::Number(term, after_term) = term_at(line, after_year, word) else {
         return QueryRead::Malformed;
     };
-    let KindRead::Of(kind, after_rate) = rate_at(line, after_span, word) else {
+    let KindRead::Of(kind, after_rate) = rate_at(line, after_term, word) else {
         return QueryRead::Malformed;
     };
     if !text_tokens::text_at(line, after_rate, b"\n") {
@@ -142,6 +159,6 @@ pub fn query_of(line: &[u8]) -> QueryRead
         kind,
         age,
         year,
-        span,
+        term,
     })
 }

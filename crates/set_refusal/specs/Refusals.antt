@@ -2,7 +2,7 @@
 use Prim.Native.Nat.{ℕ}
 use Rattle.set_refusal.specs.declared.Refusal.{Refusal}
 use Rattle.set_refusal.specs.declared.Refusal.the-variants.{Accepted, Malformed, OutOfLimits, NoSuchAge, NoSuchYear}
-use Rattle.set_refusal.specs.declared.Refusal.the-variants.{NoSuchSpan, LogForceOutOfRange, BufferTooShort, NoSuchRate, MalformedColumn}
+use Rattle.set_refusal.specs.declared.Refusal.the-variants.{NoSuchSpan, LogForceOutOfRange, BufferTooShort, NoSuchRate, MalformedColumn, NoSuchDate}
 
 -- of the trade's words "torn" is Malformed, "off scale" OutOfLimits, "steep" LogForceOutOfRange, "short" BufferTooShort and
 -- "torn column" MalformedColumn
@@ -17,3 +17,4 @@ refusalNumber LogForceOutOfRange = 6
 refusalNumber BufferTooShort = 7
 refusalNumber NoSuchRate = 8
 refusalNumber MalformedColumn = 9
+refusalNumber NoSuchDate = 10

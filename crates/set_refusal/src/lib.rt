@@ -19,6 +19,7 @@ pub enum Refusal {
     NoSuchRate,
     // "torn column"
     MalformedColumn,
+    NoSuchDate,
 }
 
 // The number of a refusal in the papers, and 0 where nothing is refused.
@@ -36,5 +37,6 @@ pub fn refusal_number(r: Refusal) -> u8
         Refusal::BufferTooShort => 7,
         Refusal::NoSuchRate => 8,
         Refusal::MalformedColumn => 9,
+        Refusal::NoSuchDate => 10,
     }
 }

@@ -10,6 +10,7 @@ use lib.IntN.{ℤ, pos}
 use Rattle.number_whole.specs.Listed.{listed}
 use Rattle.number_whole.specs.Division.{floorDiv, ceilDiv, ceilDivℕ}
 use Rattle.number_whole.specs.SignedEnds.{leastProduct, greatestProduct, outward}
+use Rattle.number_fraction.specs.Ratio.{whole/}
 use Rattle.number_taylor.specs.Alternating.{double}
 use Rattle.number_exponential.specs.Exponential.{nextLower, nextUpper, termLower, termUpper, total, evens, odds, sumLower, sumUpper}
 use Rattle.number_exponential.specs.Exponential.{constantLower, constantUpper, expLower, expUpper, expBetween}
@@ -28,11 +29,11 @@ use Rattle.model_closure.specs.Weights.{weight, weightRow, weightTable, rowTota
 use Rattle.model_closure.specs.laws.WeightLaws.{row-total}
 use Rattle.model_mortality.specs.Cell.{neededInRange}
 use Rattle.number_exact.specs.Figure.{halfUp, figureOf}
-use Rattle.quote_paths.specs.Path.{placeAt, pathOf, pathInRange}
+use Rattle.quote_paths.specs.Path.{placeAt, pathOf, partYear, pathInRange}
 use Rattle.quote_kinds.specs.declared.Kind.{Kind}
 use Rattle.quote_kinds.specs.declared.Kind.the-variants as kind
-use Rattle.quote_kinds.specs.Kinds.{takesRate, ruleOf, rateOf, mostSpan, countOf, stepOf, decimalsOf}
-use Rattle.quote_table_tests.specs.TableTests.{ageInTable, yearInTable, spanInTable, rateInTable, firstFailed, tableTests}
+use Rattle.quote_kinds.specs.Kinds.{takesRate, ruleOf, rateOf, mostSpan, longestSpan, spanOf, partOf, countOf, stepOf, decimalsOf}
+use Rattle.quote_table_tests.specs.TableTests.{ageInTable, yearInTable, dateInTable, spanInTable, rateInTable, firstFailed, tableTests}
 use Rattle.quote_along.specs.declared.Answer.{Answer}
 use Rattle.quote_along.specs.declared.Answer.the-variants.{Quoted, Refused}
 use Rattle.quote.specs.Quote.{queryPath, refusalOf, answerOf}
@@ -50,37 +51,37 @@ unfolding quoteNo quotedNo numberOf refusalNumber
 answer-number (Quoted q) = refl
 answer-number (Refused r) = refl
 
-module _ (word : List ℕ) (kind : Kind) (read : kindOf word ≡ taken kind []) (p : Params) (age year span : ℤ) where
+module _ (word : List ℕ) (kind : Kind) (read : kindOf word ≡ taken kind []) (p : Params) (age year term : ℤ) where
   -- of a kind's word the answer is that of what was read
   answer-read : {got : Reading} → readSheet (sheetText p) ≡ got
-      → sheetAnswer (sheetText p) (kindOf word) age year span ≡ answerTo (taken kind []) got age year span
+      → sheetAnswer (sheetText p) (kindOf word) age year term ≡ answerTo (taken kind []) got age year term
   unfolding sheetAnswer
-  answer-read e = rw (read) (ap (λ (g : Reading). answerTo (taken kind []) g age year span) e)
+  answer-read e = rw (read) (ap (λ (g : Reading). answerTo (taken kind []) g age year term) e)
 
   module _ (w : Whole p) where
     -- of a set in limits it is the number of the query's refusal
     number-within : T (inLimits p)
-        → quoteNo (sheetAnswer (sheetText p) (kindOf word) age year span) quoteLength ≡ refusalNumber (refusalOf p kind age year span)
+        → quoteNo (sheetAnswer (sheetText p) (kindOf word) age year term) quoteLength ≡ refusalNumber (refusalOf p kind age year term)
     unfolding answerTo refusalNumber
     number-within t =
         ap (λ (a : Answer). quoteNo a quoteLength) (answer-read (written-reads-back p w t))
-        ∙ answer-number (answerOf p kind age year span)
-        ∙ demand-met p kind age year span .number
+        ∙ answer-number (answerOf p kind age year term)
+        ∙ demand-met p kind age year term .number
 
     -- and else 2
     number-past : AllSmall (values p) → inLimits p ≡ false
-        → quoteNo (sheetAnswer (sheetText p) (kindOf word) age year span) quoteLength ≡ 2
+        → quoteNo (sheetAnswer (sheetText p) (kindOf word) age year term) quoteLength ≡ 2
     unfolding answerTo refusalNumber refused quoteNo
     number-past s e = ap (λ (a : Answer). quoteNo a quoteLength) (answer-read (written-out-of-limits p w s e))
 
 -- ---- the kinds' words
 
 read-coh : kindOf (bytesOf "coh") ≡ taken kind.CohortSurvival []
-unfolding bytesOf takeText wordOf onOffer takesRate readWord alone wordKind kindOf
+unfolding bytesOf takeText wordOf onOffer ruleOf takesRate readWord alone wordKind kindOf
 read-coh = refl
 
 read-q : kindOf (bytesOf "q") ≡ taken kind.Death []
-unfolding bytesOf takeText wordOf onOffer takesRate readWord alone wordKind kindOf
+unfolding bytesOf takeText wordOf onOffer ruleOf takesRate readWord alone wordKind kindOf
 read-q = refl
 
 -- ---- the sets
@@ -115,19 +116,22 @@ next-within = tt
 
 theta-passes : refusalNumber (refusalOf (withTheta 2923976608) kind.CohortSurvival (pos 65) (pos 2020) (pos 0)) ≡ 0
 unfolding inLimits seriesInLimits agesInLimits ageInLimits A B alpha beta setOf refusalOf firstFailed tableTests refusalNumber
-    ageInTable yearInTable spanInTable rateInTable ruleOf rateOf mostSpan countOf queryPath pathOf listed pathInRange
+    ageInTable yearInTable dateInTable spanInTable rateInTable ruleOf rateOf mostSpan longestSpan spanOf partOf countOf queryPath
+    pathOf partYear whole/ listed pathInRange
 theta-passes = refl
 
 force-passes : refusalNumber (refusalOf (withForce (minus 700000000)) kind.Death (pos 65) (pos 2020) (pos 0)) ≡ 0
 unfolding inLimits seriesInLimits agesInLimits ageInLimits A B alpha beta setOf refusalOf firstFailed tableTests refusalNumber
-    ageInTable yearInTable spanInTable rateInTable ruleOf rateOf mostSpan countOf queryPath pathOf listed placeAt pathInRange
-    neededInRange inRange logForce cellForce periodIn kappaIn kappaStep leastProduct greatestProduct outward floorDiv ceilDiv
+    ageInTable yearInTable dateInTable spanInTable rateInTable ruleOf rateOf mostSpan longestSpan spanOf partOf countOf queryPath
+    pathOf partYear whole/ listed placeAt pathInRange neededInRange inRange logForce cellForce periodIn kappaIn kappaStep
+    leastProduct greatestProduct outward floorDiv ceilDiv
 force-passes = refl
 
 next-fails : refusalNumber (refusalOf (withForce (minus 699999999)) kind.Death (pos 65) (pos 2020) (pos 0)) ≡ 6
 unfolding inLimits seriesInLimits agesInLimits ageInLimits A B alpha beta setOf refusalOf firstFailed tableTests refusalNumber
-    ageInTable yearInTable spanInTable rateInTable ruleOf rateOf mostSpan countOf queryPath pathOf listed placeAt pathInRange
-    neededInRange inRange logForce cellForce periodIn kappaIn kappaStep leastProduct greatestProduct outward floorDiv ceilDiv
+    ageInTable yearInTable dateInTable spanInTable rateInTable ruleOf rateOf mostSpan longestSpan spanOf partOf countOf queryPath
+    pathOf partYear whole/ listed placeAt pathInRange neededInRange inRange logForce cellForce periodIn kappaIn kappaStep
+    leastProduct greatestProduct outward floorDiv ceilDiv
 next-fails = refl
 
 -- ---- the weights

@@ -19,7 +19,7 @@ returns-2 c =
     let k = a .before .before .before in
     let f = k .before .before .before .before .fits in
     put-taken _ _ _ _ _ (ap (kindRead []) (k .read .given .1))
-    (rw (toZ-ofZ (f .age), toZ-ofZ (f .year), toZ-ofZ (f .span)) at (a .sheet-answer .ensures))
+    (rw (toZ-ofZ (f .age), toZ-ofZ (f .year), toZ-ofZ (f .term)) at (a .sheet-answer .ensures))
     (p .put-answer .ensures)
 
 pub answer-into-spec : {M : Type 1} → statement M

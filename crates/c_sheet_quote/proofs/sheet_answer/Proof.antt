@@ -18,7 +18,7 @@ returns-2 c =
     let r = n .before .before in
     let f = r .before .before .fits in
     answer-given _ _ _ _ _ (r .read .ensures) (n .refusal-number .ensures) (omega (arith, c .before .if1 .left))
-    (rw (toZ-ofZ (f .age), toZ-ofZ (f .year), toZ-ofZ (f .span)) at (c .quote-of .ensures .0))
+    (rw (toZ-ofZ (f .age), toZ-ofZ (f .year), toZ-ofZ (f .term)) at (c .quote-of .ensures .0))
 
 pub sheet-answer-spec : {M : Type 1} → statement M
 sheet-answer-spec =

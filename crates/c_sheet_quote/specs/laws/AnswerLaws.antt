@@ -19,7 +19,7 @@ use Rattle.quote_along.specs.declared.Quote.{Quote}
 use Rattle.quote_along.specs.declared.Answer.{Answer}
 use Rattle.quote_along.specs.declared.Answer.the-variants.{Quoted, Refused}
 use Rattle.quote.specs.Quote.{answerOf}
-use Rattle.quote_kinds.specs.Kinds.{takesRate, withRate}
+use Rattle.quote_kinds.specs.Kinds.{ruleOf, takesRate, withRate}
 use Rattle.run_query.specs.Query.{onOffer, readWord}
 use Rattle.run_query.proofs.QuerySteps.{followed, at-end}
 use Rattle.c_sheet_quote.specs.SheetQuote.{wordKind, kindOf, ratedKindOf, answerTo, sheetAnswer}
@@ -46,7 +46,7 @@ module _ (word : List ℕ) where
     unfolding wordKind
     word-ends h = goes _ e ∙ at-end kind word n h ∙ rw (drop-of-length-le word h)
 
-  -- where no rate is given, and where one is
+  -- with a span and no rate, and with a rate
   pub kind-malformed : wordKind word ≡ malformed → kindOf word ≡ malformed
   unfolding kindOf
   kind-malformed e = stops _ e
@@ -60,9 +60,14 @@ module _ (word : List ℕ) where
     unfolding kindOf
     rate-wanting t = goes _ e ∙ rw t
 
-    pub no-rate : takesRate kind ≡ false → kindOf word ≡ taken kind rest
-    unfolding kindOf
-    no-rate t = goes _ e ∙ rw t
+    module _ (t : takesRate kind ≡ false) where
+      pub date-wanting : ruleOf kind .dated ≡ true → kindOf word ≡ malformed
+      unfolding kindOf
+      date-wanting d = goes _ e ∙ rw (t, d)
+
+      pub span-given : ruleOf kind .dated ≡ false → kindOf word ≡ taken kind rest
+      unfolding kindOf
+      span-given d = goes _ e ∙ rw (t, d)
 
     pub rate-unasked : (rate : ℤ) → takesRate kind ≡ false → ratedKindOf word rate ≡ malformed
     unfolding ratedKindOf
@@ -74,31 +79,31 @@ module _ (word : List ℕ) where
 
 -- ---- the answer
 
-module _ (sheet : List ℕ) (age year span : ℤ) where
+module _ (sheet : List ℕ) (age year term : ℤ) where
   -- of a malformed kind, and of one that was read, whatever follows it
   module _ {k : Parse Kind} where
-    pub answer-malformed : k ≡ malformed → sheetAnswer sheet k age year span ≡ Refused Malformed
+    pub answer-malformed : k ≡ malformed → sheetAnswer sheet k age year term ≡ Refused Malformed
     unfolding sheetAnswer answerTo
-    answer-malformed e = ap (λ (q : Parse Kind). answerTo q (readSheet sheet) age year span) e
+    answer-malformed e = ap (λ (q : Parse Kind). answerTo q (readSheet sheet) age year term) e
 
     pub answer-taken : {kind : Kind} {rest : List ℕ} → k ≡ taken kind rest
-        → sheetAnswer sheet k age year span ≡ sheetAnswer sheet (taken kind []) age year span
+        → sheetAnswer sheet k age year term ≡ sheetAnswer sheet (taken kind []) age year term
     unfolding sheetAnswer answerTo
-    answer-taken e = ap (λ (q : Parse Kind). answerTo q (readSheet sheet) age year span) e
+    answer-taken e = ap (λ (q : Parse Kind). answerTo q (readSheet sheet) age year term) e
 
   module _ (kind : Kind) {got : Reading} (r : got ≡ readSheet sheet) {number : ℕ}
       (n : number ≡ refusalNumber (got .refusal)) where
     -- the answer is that of what was read
-    of-read : answerTo (taken kind []) got age year span ≡ sheetAnswer sheet (taken kind []) age year span
+    of-read : answerTo (taken kind []) got age year term ≡ sheetAnswer sheet (taken kind []) age year term
     unfolding sheetAnswer
-    of-read = ap (λ (g : Reading). answerTo (taken kind []) g age year span) r
+    of-read = ap (λ (g : Reading). answerTo (taken kind []) g age year term) r
 
-    pub answer-refused : (number ≡ 0 → ⊥) → Refused (got .refusal) ≡ sheetAnswer sheet (taken kind []) age year span
+    pub answer-refused : (number ≡ 0 → ⊥) → Refused (got .refusal) ≡ sheetAnswer sheet (taken kind []) age year term
     unfolding answerTo
     answer-refused h = rw (← of-read, ← n, ne-eqb number 0 h)
 
-    pub answer-given : number ≡ 0 → {a : Answer} → a ≡ answerOf (got .set) kind age year span
-        → a ≡ sheetAnswer sheet (taken kind []) age year span
+    pub answer-given : number ≡ 0 → {a : Answer} → a ≡ answerOf (got .set) kind age year term
+        → a ≡ sheetAnswer sheet (taken kind []) age year term
     unfolding answerTo
     answer-given h q = q ∙ rw (← of-read, ← n, h)
 
@@ -137,23 +142,23 @@ module _ {a : Answer} (before : List ℕ) {number : ℕ} where
   put-refused e k = rw e (k, refl)
 
 -- a query of a sheet, by the kind that was read
-module _ (sheet : List ℕ) {k : Parse Kind} (age year span : ℤ) (before : List ℕ) {number : ℕ} where
-  pub put-malformed : k ≡ malformed → number ≡ refusalNumber Malformed → PutAnswer (sheetAnswer sheet k age year span) before number before
-  put-malformed e n = put-refused before (answer-malformed sheet age year span e) n
+module _ (sheet : List ℕ) {k : Parse Kind} (age year term : ℤ) (before : List ℕ) {number : ℕ} where
+  pub put-malformed : k ≡ malformed → number ≡ refusalNumber Malformed → PutAnswer (sheetAnswer sheet k age year term) before number before
+  put-malformed e n = put-refused before (answer-malformed sheet age year term e) n
 
   pub put-taken : {kind : Kind} {rest : List ℕ} → k ≡ taken kind rest
-      → {a : Answer} → a ≡ sheetAnswer sheet (taken kind []) age year span
-      → {after : List ℕ} → PutAnswer a before number after → PutAnswer (sheetAnswer sheet k age year span) before number after
-  put-taken e q put = rw (answer-taken sheet age year span e, ← q) put
+      → {a : Answer} → a ≡ sheetAnswer sheet (taken kind []) age year term
+      → {after : List ℕ} → PutAnswer a before number after → PutAnswer (sheetAnswer sheet k age year term) before number after
+  put-taken e q put = rw (answer-taken sheet age year term e, ← q) put
 
 -- the same by what the code read of the word, whatever follows it there
-module _ (sheet word : List ℕ) (age year span : ℤ) where
-  read-alone : (r : KindRead) → sheetAnswer sheet (kindRead [] r) age year span ≡ sheetAnswer sheet (kindRead word r) age year span
+module _ (sheet word : List ℕ) (age year term : ℤ) where
+  read-alone : (r : KindRead) → sheetAnswer sheet (kindRead [] r) age year term ≡ sheetAnswer sheet (kindRead word r) age year term
   unfolding sheetAnswer answerTo
   read-alone NoKind = refl
   read-alone (Of kind next) = refl
 
   pub put-read : (r : KindRead) {k : Parse Kind} → kindRead word r ≡ k → (before : List ℕ) {number : ℕ} {after : List ℕ}
-      → PutAnswer (sheetAnswer sheet (kindRead [] r) age year span) before number after
-      → PutAnswer (sheetAnswer sheet k age year span) before number after
+      → PutAnswer (sheetAnswer sheet (kindRead [] r) age year term) before number after
+      → PutAnswer (sheetAnswer sheet k age year term) before number after
   put-read r e before put = rw (← e, ← read-alone r) put

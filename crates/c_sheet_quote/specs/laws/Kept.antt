@@ -53,14 +53,14 @@ numbered-by r q = go (answer-by r q)
     go (quoted e) z = record { quote = q; is = refl }
     go (refused n) z = numbered-refusal r n z
 
-numbered-to : (k : Parse Kind) (got : Reading) (age year span : ℤ) → Numbered (answerTo k got age year span)
+numbered-to : (k : Parse Kind) (got : Reading) (age year term : ℤ) → Numbered (answerTo k got age year term)
 unfolding answerTo refusalNumber answerOf
-numbered-to malformed got age year span = numbered-refusal Malformed (λ e. omega arith)
-numbered-to (taken kind rest) got age year span = go (refusalNumber (got .refusal)) refl
+numbered-to malformed got age year term = numbered-refusal Malformed (λ e. omega arith)
+numbered-to (taken kind rest) got age year term = go (refusalNumber (got .refusal)) refl
   where
     go : (n : ℕ) → n ≡ refusalNumber (got .refusal)
-        → Numbered (cond (eqb n 0) (answerOf (got .set) kind age year span) (Refused (got .refusal)))
-    go zero e = numbered-by (refusalOf (got .set) kind age year span) (quoteOf (got .set) kind age year span)
+        → Numbered (cond (eqb n 0) (answerOf (got .set) kind age year term) (Refused (got .refusal)))
+    go zero e = numbered-by (refusalOf (got .set) kind age year term) (quoteOf (got .set) kind age year term)
     go (suc n) e = rw (ne-eqb (suc n) 0 (λ z. omega arith)) (numbered-refusal (got .refusal) (λ z. omega arith))
 
 -- where the call's number is 0 the answer's is
@@ -69,11 +69,11 @@ unfolding quoteNo numberOf
 number-of (Quoted q) places e = refl
 number-of (Refused r) places e = e
 
-pub accepted-quotes : (sheet : List ℕ) (kind : Parse Kind) (age year span : ℤ) (places : ℕ)
-    → quoteNo (sheetAnswer sheet kind age year span) places ≡ 0 → IsQuote (sheetAnswer sheet kind age year span)
+pub accepted-quotes : (sheet : List ℕ) (kind : Parse Kind) (age year term : ℤ) (places : ℕ)
+    → quoteNo (sheetAnswer sheet kind age year term) places ≡ 0 → IsQuote (sheetAnswer sheet kind age year term)
 unfolding sheetAnswer
-accepted-quotes sheet kind age year span places e =
-    numbered-to kind (readSheet sheet) age year span (number-of _ places e)
+accepted-quotes sheet kind age year term places e =
+    numbered-to kind (readSheet sheet) age year term (number-of _ places e)
 
 -- which then stands in the first places
 pub quote-stands : (q : Quote) (before : List ℕ) → quoteNo (Quoted q) (length before) ≡ 0

@@ -1,50 +1,13 @@
--- `young_cell` meets its contract: out of range the cell is out of range, and in range p is that of the force.
-use mathlib.Core.Path.{_≡_, ap, sym, _∙_}
-use mathlib.Core.Bool.{true}
+-- `young_cell` meets its contract by those of the force and of p.
+use mathlib.Core.Path.{ap, _∙_}
 use borrow.Author.Needs.{needs}
-use borrow.Author.Tests.{not-true, not-false}
-use Rattle.number_exponential.specs.Exponential.{expBetween}
-use Rattle.number_exponential.specs.Billionths.{billionths}
-use Rattle.number_whole.specs.declared.SignedEnds.{SignedEnds}
-use Rattle.model_series.specs.Series.{cellForce, inRange}
-use Rattle.model_series.specs.laws.RangeLaws.{cell-negated}
-use Rattle.model_force.specs.Force.{negated}
-use Rattle.model_cells.specs.declared.Cell.the-variants.{Of}
-use Rattle.model_cells.specs.code.Code.{youngCell}
+use Rattle.model_cells.specs.code.Code.{livedCell}
+use Rattle.model_cells.specs.laws.Answers.{lived-if}
 use Rattle.model_cells.proofs.young_cell.Statement.{statement}
 use Rattle.model_cells.proofs.young_cell.Tie as tie
 
--- the log force of the cell
-abbrev force : tie.Start → SignedEnds
-force s = cellForce (s .args .age) (s .args .y .period) (s .args .y .kappas)
-
--- the code's test, of the definition's log force
-tested : (c : tie.After-in-range) → c .in-range .result ≡ inRange (force (c .before .before))
-tested c = c .in-range .ensures ∙ ap inRange (c .before .log-force-at .ensures)
-
-in-range : (c : tie.Else1) → inRange (force (c .before .before .before)) ≡ true
-in-range c = sym (tested (c .before)) ∙ not-false _ (c .if1 .left)
-
 returns : tie.Need-returns
-unfolding youngCell
-returns c = let e = sym (tested (c .before)) ∙ not-true _ (c .if1 .taken) in rw e
-
-survival-to-90-requires : tie.Need-survival-to-90-requires
-survival-to-90-requires c κs =
-    let m = c .before .before in
-    let p = m .before .pre in
-    rw (m .log-force-at .ensures) (cell-negated (p .limits) (p .wide) (rw (in-range c) tt))
-
-returns-2 : tie.Need-returns-2
-unfolding youngCell
-returns-2 c =
-    let e = c .before in
-    let m = e .before .before in
-    rw (in-range e)
-    (ap Of
-    (c .survival-to-90 .ensures
-    ∙ ap (λ (k : SignedEnds). expBetween billionths (expBetween billionths (negated k))) (m .log-force-at .ensures)))
+returns c = c .lived .ensures ∙ ap livedCell (c .before .young-force .ensures) ∙ lived-if _ _
 
 pub young-cell-spec : {M : Type 1} → statement M
-young-cell-spec =
-    tie.close (tie.spec (λ c κs. c .pre .limits) (λ c κs. search needs) returns survival-to-90-requires returns-2)
+young-cell-spec = tie.close (tie.spec (λ c κs. c .pre) (λ c κs. search needs) returns)

@@ -3,7 +3,7 @@ use Prim.Native.Nat.{ℕ}
 use lib.Dec.{lit<, lit≤}
 use lib.IntN.{pos, negℤ}
 use lib.ListN.{replicate}
-use Rattle.number_fraction.specs.Ratio.{Ratio, _≤/_, complement}
+use Rattle.number_fraction.specs.Ratio.{Ratio, _≤/_, _*/_, whole/, complement}
 use Rattle.number_fraction.specs.Fraction.{wholeℚ, _+ℚ_, scaleℚ, quotientℚ, absolute}
 use Rattle.number_taylor.specs.Taylor.{taylorNum, taylorDen, gap, stretchedNum, stretchedDen}
 use Rattle.number_taylor.specs.Order.{orderLower, orderUpper}
@@ -12,7 +12,7 @@ use Rattle.set_params.specs.declared.Sex.the-variants.{M}
 use Rattle.set_params.specs.Set.{ages, A, B, alpha, beta}
 use Rattle.model_series.specs.Series.{periodIn}
 use Rattle.model_series.specs.Exact.{perUnit, exactKappa, exactLogForce}
-use Rattle.model_mortality.specs.Exact.{exactM, exactZ, orderYoungForce, orderForce, orderSurvival, orderDeath}
+use Rattle.model_mortality.specs.Exact.{exactM, exactZ, orderYoungForce, orderForce, orderForceOver, orderSurvival, orderDeath}
 
 -- every A −1,000,000,000, and every other number 0
 flat : Params
@@ -35,6 +35,6 @@ millionths n = record { num = n; den = 1000000; positive = lit< tt }
 -- q at 65 in 2020, seven years after the start, is printed 0.30780: order 8 already has it between 0.307799 and 0.307800
 flat-65 : (millionths 307799 ≤/ orderDeath flat 65 7 8 .least) × (orderDeath flat 65 7 8 .most ≤/ millionths 307800)
 unfolding flat millionths A B alpha beta periodIn perUnit exactKappa exactLogForce exactM exactZ wholeℚ _+ℚ_ scaleℚ quotientℚ
-    absolute taylorNum taylorDen gap stretchedNum stretchedDen orderLower orderUpper orderYoungForce orderForce orderSurvival
-    orderDeath complement
+    absolute taylorNum taylorDen gap stretchedNum stretchedDen orderLower orderUpper orderYoungForce orderForce orderForceOver
+    orderSurvival orderDeath complement _*/_ whole/
 flat-65 = (record { cross = lit≤ tt }, record { cross = lit≤ tt })

@@ -5,6 +5,8 @@ use Prim.Native.Nat.{ℕ, _≤_, _<_}
 use native.Mathlib.Omega.{arith}
 use lib.Dec.{lit≤}
 use Rattle.number_whole.specs.Parts.{below}
+use Rattle.number_fraction.specs.Ratio.{Ratio, _≤/_}
+use Rattle.number_fraction.specs.laws.RatioLaws.{≤/-refl}
 use Rattle.number_taylor.specs.Taylor.{taylorDen, taylorNum}
 use Rattle.number_taylor.specs.Order.{leastOrder}
 use Rattle.number_exponential.specs.Billionths.{billionths}
@@ -21,7 +23,7 @@ use Rattle.model_logarithm.specs.laws.BillionthsFacts as log
 use Rattle.model_closure.specs.Weights.{firstClosed}
 use Rattle.model_logistic.specs.laws.WidthFacts.{Fine}
 use Rattle.model_logistic.specs.laws.Billionths.{billionths-fine}
-use Rattle.model_mortality.specs.Cell.{survival, death}
+use Rattle.model_mortality.specs.Cell.{wholeYear, survival, death}
 use Rattle.model_mortality.specs.Exact.{orderDeath}
 use Rattle.model_mortality.specs.laws.Facts.{Fit}
 use Rattle.model_mortality.specs.laws.Answered.{Answered}
@@ -43,8 +45,8 @@ pub q-holds : {p : Params} {x n : ℕ} → Answered p x n → (j : ℕ) → leas
     → Overlap billionths (death billionths p x n) (orderDeath p x n j .least) (orderDeath p x n j .most)
 q-holds a j l = death-holds billionths billionths-sound billionths-fit billionths-narrow a j l
 
--- the widths as numbers: 79 to age 90 and 547 above
-widths : (youngDeathWidth billionths ≡ 79) × (sumWidth billionths ≡ 1938) × (oldDeathWidth billionths ≡ 547)
+-- the widths as numbers: 81 to age 90 and 549 above
+widths : (youngDeathWidth billionths ≡ 81) × (sumWidth billionths ≡ 1938) × (oldDeathWidth billionths ≡ 549)
 unfolding youngDeathWidth oldDeathWidth youngWidth fittedWidth sumWidth oldWidth logWidth expWidth slackUpper slackLower slack total
 widths = (refl, refl, refl)
 
@@ -59,18 +61,18 @@ sum-fine : Fine billionths (sumWidth billionths)
 sum-fine = billionths-fine (omega (arith, widths .1))
 
 module _ {p : Params} {x n : ℕ} (a : Answered p x n) where
-  pub p-width-young : x < firstClosed → Narrowed (survival billionths p x n) youngLimit
-  p-width-young l =
+  pub p-width-young : {part : Ratio} → part ≤/ wholeYear → x < firstClosed → Narrowed (survival billionths p x n part) youngLimit
+  p-width-young h l =
       narrowed-more (omega (arith, widths .0))
-      (young-survival-width billionths billionths-sound billionths-narrow billionths-fit sum-fine a l)
+      (young-survival-width billionths billionths-sound billionths-narrow billionths-fit sum-fine a h l)
 
-  pub p-width-old : firstClosed ≤ x → Narrowed (survival billionths p x n) oldLimit
-  p-width-old l =
+  pub p-width-old : {part : Ratio} → part ≤/ wholeYear → firstClosed ≤ x → Narrowed (survival billionths p x n part) oldLimit
+  p-width-old h l =
       narrowed-more (omega (arith, widths .2))
-      (old-survival-width billionths billionths-sound billionths-narrow billionths-fit sum-fine a l)
+      (old-survival-width billionths billionths-sound billionths-narrow billionths-fit sum-fine a h l)
 
   pub q-width-young : x < firstClosed → Narrowed (death billionths p x n) youngLimit
-  q-width-young l = death-narrowed billionths p x n youngLimit (p-width-young l)
+  q-width-young l = death-narrowed billionths p x n youngLimit (p-width-young (≤/-refl wholeYear) l)
 
   pub q-width-old : firstClosed ≤ x → Narrowed (death billionths p x n) oldLimit
-  q-width-old l = death-narrowed billionths p x n oldLimit (p-width-old l)
+  q-width-old l = death-narrowed billionths p x n oldLimit (p-width-old (≤/-refl wholeYear) l)

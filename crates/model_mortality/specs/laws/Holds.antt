@@ -2,7 +2,7 @@
 -- and a year whose needed cells are in range.
 use mathlib.Core.Path.{_≡_, refl, ap, sym, _∙_}
 use Prim.Native.Nat.{ℕ, zero, suc, _+_, _*_, _≤_, _<_}
-use native.Mathlib.Nat.{le-trans}
+use native.Mathlib.Nat.{le-refl, le-trans}
 use native.Mathlib.Decide.{decLt}
 use native.Mathlib.Omega.{arith}
 use lib.Dec.{lit<}
@@ -11,7 +11,7 @@ use lib.IntN.{ℤ, pos, negsuc, negℤ, natAbs, _+ℤ_, _*ℤ_, pos-*ℤ-pos}
 use Rattle.number_whole.specs.laws.Order.{pos-nonneg, ≤ℤ-of-≡, *ℤ-assoc, *ℤ-distrib-right}
 use Rattle.number_whole.specs.Parts.{below}
 use Rattle.number_whole.specs.laws.Table.{listed-at}
-use Rattle.number_fraction.specs.Ratio.{_≤/_, whole/, quotient/, complement}
+use Rattle.number_fraction.specs.Ratio.{Ratio, _≤/_, whole/, quotient/, complement, _*/_}
 use Rattle.number_fraction.specs.laws.RatioLaws.{≤/-trans, quotient/-mono, complement-reverse}
 use Rattle.number_fraction.specs.Fraction.{Fraction, _≤ℚ_, _+ℚ_, negℚ, wholeℚ, quotientℚ, signed, absolute}
 use Rattle.number_fraction.specs.laws.FractionLaws.{≤ℚ-trans, signed-≤ℚ, signed-whole, signed-absolute, wholeℚ-≤ℚ, +ℚ-mono, quotientℚ-mono}
@@ -22,6 +22,7 @@ use Rattle.number_exponential.specs.laws.Facts.{Sound}
 use Rattle.number_exponential.specs.laws.WidthFacts.{Narrow}
 use Rattle.number_exponential.specs.laws.Overlap.{Overlap}
 use Rattle.number_exponential.specs.laws.Holds.{exp-overlap}
+use Rattle.number_exponential.specs.laws.OutwardLaws.{outward-holds}
 use Rattle.set_params.specs.declared.Params.{Params}
 use Rattle.model_series.specs.Series.{logForce, highestForce}
 use Rattle.model_series.specs.Exact.{exactLogForce}
@@ -38,8 +39,8 @@ use Rattle.model_closure.specs.Closure.{endsAt, closedSum}
 use Rattle.model_closure.specs.Exact.{intervalAt, exactClosedSum}
 use Rattle.model_closure.specs.laws.WeightedSum.{closedSum-overlap}
 use Rattle.model_force.specs.Force.{negated, deathOf}
-use Rattle.model_mortality.specs.Cell.{youngForce, fittedEnds, fittedList, oldForce, force, survival, death}
-use Rattle.model_mortality.specs.Exact.{sheetUnit, exactM, exactZ, orderYoungForce, orderFitted, orderFittedList, orderOldForce, orderForce, orderSurvival, orderDeath}
+use Rattle.model_mortality.specs.Cell.{youngForce, fittedEnds, fittedList, oldForce, force, wholeYear, forceOver, survival, death}
+use Rattle.model_mortality.specs.Exact.{sheetUnit, exactM, exactZ, orderYoungForce, orderFitted, orderFittedList, orderOldForce, orderForce, orderForceOver, orderSurvival, orderDeath}
 use Rattle.model_mortality.specs.laws.Facts.{Fit}
 use Rattle.model_mortality.specs.laws.Answered.{Answered}
 use Rattle.model_mortality.specs.laws.Needed.{young-needed, old-needed}
@@ -190,12 +191,16 @@ module _ (g : Grid) (s : Sound g) (fit : Fit g) where
               rw (le-ltb x firstClosed k) (old-overlap w p x n j l (old-needed a k))
         ]
 
-    pub survival-holds : Overlap g (survival g p x n) (orderSurvival p x n j .least) (orderSurvival p x n j .most)
-    unfolding survival orderSurvival
-    survival-holds = exp-overlap g s (force g p x n) (orderForce p x n j .least) (orderForce p x n j .most) j force-overlap
+    -- over a part of the year
+    pub survival-holds : (part : Ratio)
+        → Overlap g (survival g p x n part) (orderSurvival p x n part j .least) (orderSurvival p x n part j .most)
+    unfolding survival forceOver orderSurvival orderForceOver
+    survival-holds part =
+        exp-overlap g s (forceOver part (force g p x n)) (orderForce p x n j .least */ part) (orderForce p x n j .most */ part) j
+        (outward-holds g (part .den) (part .positive) (part .num) (part .num) part part force-overlap (le-refl _) (le-refl _))
 
     -- q holds every order's bracket
     pub death-holds : Overlap g (death g p x n) (orderDeath p x n j .least) (orderDeath p x n j .most)
     unfolding death deathOf orderDeath inUnits complement
     death-holds =
-        record { below = complement-reverse (survival-holds .above); above = complement-reverse (survival-holds .below) }
+        let h = survival-holds wholeYear in record { below = complement-reverse (h .above); above = complement-reverse (h .below) }

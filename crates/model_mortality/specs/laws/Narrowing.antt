@@ -9,7 +9,7 @@ use lib.Signed.{nonNeg}
 use borrow.Author.Tests.{lt-ltb, le-ltb}
 use Rattle.number_whole.specs.Parts.{below}
 use Rattle.number_fraction.specs.Ratio.{Ratio, _≤/_, _</_, whole/, quotient/, complement, _+/_, _*/_}
-use Rattle.number_fraction.specs.laws.RatioLaws.{≤/-refl, ≤/-trans, +/-mono, +/-comm, +/-assoc, +/-cancel, </→≤/, +/-complement, whole/-+/, whole/-*/}
+use Rattle.number_fraction.specs.laws.RatioLaws.{≤/-refl, ≤/-trans, +/-mono, +/-comm, +/-assoc, +/-cancel, </→≤/, +/-complement, */-mono, */-comm, */-one, */-+/, whole/-+/, whole/-*/}
 use Rattle.number_fraction.specs.laws.Multiples.{times, times-one, times-suc, times-times, times-grows}
 use Rattle.number_fraction.specs.Fraction.{Fraction, _≤ℚ_, _+ℚ_, signed, absolute}
 use Rattle.number_fraction.specs.laws.FractionLaws.{≤ℚ-refl, ≤ℚ-trans, +ℚ-mono, +ℚ-assoc, signed-≤ℚ, signed-+ℚ}
@@ -36,8 +36,9 @@ use Rattle.model_logistic.specs.laws.LogisticHolds.{order-lower-one}
 use Rattle.model_closure.specs.laws.SumBound.{absolute-sum, closedSum-bounded}
 use Rattle.model_closure.specs.Exact.{exactClosedSum}
 use Rattle.model_closure.specs.laws.SumNarrow.{closedSum-narrow}
-use Rattle.model_mortality.specs.Exact.{exactM, exactZ, orderYoungForce, orderFitted, orderFittedList, orderOldForce, orderForce, orderSurvival, orderDeath}
+use Rattle.model_mortality.specs.Exact.{exactM, exactZ, orderYoungForce, orderFitted, orderFittedList, orderOldForce, orderForce, orderForceOver, orderSurvival, orderDeath}
 use Rattle.model_force.specs.Force.{negated}
+use Rattle.model_mortality.specs.Cell.{wholeYear}
 use Rattle.model_mortality.specs.laws.Answered.{Answered}
 use Rattle.model_mortality.specs.laws.Needed.{young-needed, old-needed}
 use Rattle.model_mortality.specs.laws.Holds.{z-overlap, order-fitted-at}
@@ -81,25 +82,41 @@ added m l u e h =
 
 -- ---- p and q from a narrow force
 
+-- times a fraction of at most 1 a number is no greater
+scaled-less : (x y : Ratio) → y ≤/ whole/ 1 → x */ y ≤/ x
+scaled-less x y h = ≤/-trans (*/-mono (≤/-refl x) h) (*/-one x .below)
+
+-- u ≤ v + e gives u·y ≤ v·y + e
+scaled-narrow : (v e y : Ratio) {u : Ratio} → y ≤/ whole/ 1 → u ≤/ v +/ e → u */ y ≤/ v */ y +/ e
+scaled-narrow v e y {u} h k =
+    ≤/-trans (*/-mono k (≤/-refl y))
+    (≤/-trans (*/-comm (v +/ e) y .below)
+    (≤/-trans (*/-+/ y v e .below)
+    (+/-mono (*/-comm y v .below) (≤/-trans (*/-comm y e .below) (scaled-less e y h)))))
+
 module _ (p : Params) (x n j M : ℕ) (h : 0 < M) (l : narrowOrder 1 (40 * M) ≤ j) where
-  -- a force that is k parts wide gives a p that is k + 1 parts wide
-  survival-parts : (k : ℕ) → suc k ≤ 40 → orderForce p x n j .most ≤/ orderForce p x n j .least +/ times k (part M h)
-      → orderForce p x n j .most ≤/ whole/ 1
-      → orderSurvival p x n j .most ≤/ orderSurvival p x n j .least +/ quotient/ (whole/ 1) M h
-  unfolding orderSurvival
-  survival-parts k c f o =
-      let s = exp-narrow-below 1 (40 * M) (forty-positive M h) (orderForce p x n j .least) (orderForce p x n j .most) (times k (part M h)) j f o l in
-      ≤/-trans (more (orderLower (orderForce p x n j .most) j) k (part M h) s)
+  -- a force that is k parts wide gives a p that is k + 1 parts wide, also over a part d of the year
+  survival-parts : {d : Ratio} → d ≤/ wholeYear → (k : ℕ) → suc k ≤ 40
+      → orderForce p x n j .most ≤/ orderForce p x n j .least +/ times k (part M h) → orderForce p x n j .most ≤/ whole/ 1
+      → orderSurvival p x n d j .most ≤/ orderSurvival p x n d j .least +/ quotient/ (whole/ 1) M h
+  unfolding orderSurvival orderForceOver
+  survival-parts {d} within k c f o =
+      let a = orderForce p x n j .least */ d in
+      let b = orderForce p x n j .most */ d in
+      let s = exp-narrow-below 1 (40 * M) (forty-positive M h) a b (times k (part M h)) j
+      (scaled-narrow (orderForce p x n j .least) (times k (part M h)) d within f)
+      (≤/-trans (scaled-less (orderForce p x n j .most) d within) o) l in
+      ≤/-trans (more (orderLower b j) k (part M h) s)
       (+/-mono (≤/-refl _) (≤/-trans (times-grows (suc k) 40 (part M h) c) (times-part M h)))
 
 -- both ends of an order's p are at most 1
-pub survival-least-one : (p : Params) (x n j : ℕ) → orderSurvival p x n j .least ≤/ whole/ 1
+pub survival-least-one : (p : Params) (x n : ℕ) (d : Ratio) (j : ℕ) → orderSurvival p x n d j .least ≤/ whole/ 1
 unfolding orderSurvival
-survival-least-one p x n j = order-lower-one (orderForce p x n j .most) j
+survival-least-one p x n d j = order-lower-one (orderForceOver d (orderForce p x n j) .most) j
 
-pub survival-most-one : (p : Params) (x n j : ℕ) → orderSurvival p x n j .most ≤/ whole/ 1
+pub survival-most-one : (p : Params) (x n : ℕ) (d : Ratio) (j : ℕ) → orderSurvival p x n d j .most ≤/ whole/ 1
 unfolding orderSurvival
-survival-most-one p x n j = upper-below-one (orderForce p x n j .least) j
+survival-most-one p x n d j = upper-below-one (orderForceOver d (orderForce p x n j) .least) j
 
 -- ---- the logarithm of a force of at most one half is at most 1
 
@@ -239,26 +256,27 @@ module _ {p : Params} {x n : ℕ} (a : Answered p x n) (M : ℕ) (h : 0 < M) (j 
       (logistic-narrow 310 (40 * M) (forty-positive M h) I (times 30 e) j w′ (≤/-trans (b .low) (whole/-*/ 10 31 .above))
       (≤/-trans (b .high) (whole/-*/ 10 31 .above)) (omega arith))
 
-  -- p's bracket is at most 1/M wide, and so is q's
-  pub p-narrow : orderSurvival p x n j .most ≤/ orderSurvival p x n j .least +/ quotient/ (whole/ 1) M h
+  -- the bracket of p over a part of the year is at most 1/M wide, and so is q's
+  pub p-narrow : {d : Ratio} → d ≤/ wholeYear
+      → orderSurvival p x n d j .most ≤/ orderSurvival p x n d j .least +/ quotient/ (whole/ 1) M h
   unfolding orderForce deathOrder
-  p-narrow =
+  p-narrow w =
       elim (decLt x firstClosed) [
         | yes k ↦
             let f = young-parts p x n (young-needed a k) j M h (omega arith) in
-            survival-parts p x n j M h (omega arith) 1 (omega arith) (rw (lt-ltb x firstClosed k) f)
+            survival-parts p x n j M h (omega arith) w 1 (omega arith) (rw (lt-ltb x firstClosed k) f)
             (rw (lt-ltb x firstClosed k) (upper-one p x n j))
         | no k ↦
             let c : firstClosed ≤ x = omega arith in
-            survival-parts p x n j M h (omega arith) 31 (omega arith) (rw (le-ltb x firstClosed c) (old-parts c))
+            survival-parts p x n j M h (omega arith) w 31 (omega arith) (rw (le-ltb x firstClosed c) (old-parts c))
             (rw (le-ltb x firstClosed c) (old-one p x n j))
       ]
 
   pub q-narrow : orderDeath p x n j .most ≤/ orderDeath p x n j .least +/ quotient/ (whole/ 1) M h
   unfolding orderDeath
   q-narrow =
-      complement-narrow (orderSurvival p x n j .least) (orderSurvival p x n j .most) (quotient/ (whole/ 1) M h)
-      (survival-least-one p x n j) (survival-most-one p x n j) p-narrow
+      complement-narrow (orderSurvival p x n wholeYear j .least) (orderSurvival p x n wholeYear j .most) (quotient/ (whole/ 1) M h)
+      (survival-least-one p x n wholeYear j) (survival-most-one p x n wholeYear j) (p-narrow (≤/-refl wholeYear))
 
 -- the orders that count are from 400 up
 pub deathOrder-counts : (M : ℕ) → leastOrder ≤ deathOrder M

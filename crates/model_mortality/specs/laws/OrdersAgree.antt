@@ -3,7 +3,8 @@ use Prim.Native.Nat.{ℕ, _+_, _≤_, _<_}
 use native.Mathlib.Decide.{decLt}
 use native.Mathlib.Omega.{arith}
 use borrow.Author.Tests.{lt-ltb, le-ltb}
-use Rattle.number_fraction.specs.laws.RatioLaws.{complement-reverse}
+use Rattle.number_fraction.specs.Ratio.{Ratio}
+use Rattle.number_fraction.specs.laws.RatioLaws.{≤/-refl, */-mono, complement-reverse}
 use Rattle.number_fraction.specs.Bracket.{NotAbove}
 use Rattle.number_fraction.specs.Fraction.{_≤ℚ_}
 use Rattle.number_fraction.specs.laws.FractionLaws.{≤ℚ-refl, +ℚ-mono, signed-≤ℚ}
@@ -19,7 +20,8 @@ use Rattle.model_logistic.specs.laws.OrdersAgree.{logistic-agrees}
 use Rattle.model_closure.specs.Exact.{intervalAt, exactClosedSum}
 use Rattle.model_closure.specs.laws.OrdersAgree.{closedSum-agrees}
 use Rattle.model_mortality.specs.Exact.{exactM, orderFitted, orderFittedList, orderOldForce}
-use Rattle.model_mortality.specs.Exact.{orderForce, orderSurvival, orderDeath}
+use Rattle.model_mortality.specs.Exact.{orderForce, orderForceOver, orderSurvival, orderDeath}
+use Rattle.model_mortality.specs.Cell.{wholeYear}
 use Rattle.model_mortality.specs.laws.Answered.{Answered}
 use Rattle.model_mortality.specs.laws.Needed.{young-needed, old-needed}
 use Rattle.model_mortality.specs.laws.Holds.{order-fitted-at}
@@ -68,12 +70,13 @@ module _ {p : Params} {x n : ℕ} (a : Answered p x n) (i j : ℕ) (k : leastOrd
       ]
 
 module _ {p : Params} {x n : ℕ} (a : Answered p x n) where
-  pub survival-agrees : (i j : ℕ) → leastOrder ≤ i → leastOrder ≤ j
-      → NotAbove (orderSurvival p x n i) (orderSurvival p x n j)
-  unfolding orderSurvival
-  survival-agrees i j k l = record { reaches = orders-agree i j (force-agrees a j i l k .reaches) }
+  pub survival-agrees : (part : Ratio) (i j : ℕ) → leastOrder ≤ i → leastOrder ≤ j
+      → NotAbove (orderSurvival p x n part i) (orderSurvival p x n part j)
+  unfolding orderSurvival orderForceOver
+  survival-agrees part i j k l =
+      record { reaches = orders-agree i j (*/-mono (force-agrees a j i l k .reaches) (≤/-refl part)) }
 
   pub q-agrees : (i j : ℕ) → leastOrder ≤ i → leastOrder ≤ j
       → NotAbove (orderDeath p x n i) (orderDeath p x n j)
   unfolding orderDeath
-  q-agrees i j k l = record { reaches = complement-reverse (survival-agrees j i l k .reaches) }
+  q-agrees i j k l = record { reaches = complement-reverse (survival-agrees wholeYear j i l k .reaches) }

@@ -1,14 +1,14 @@
 -- How far apart a cell's ends lie: the force to 90, H, G, the force above 90, and q.
 use mathlib.Core.Path.{_≡_}
 use Prim.Native.Nat.{ℕ, _+_, _-_, _*_, _/_, _≤_, _<_}
-use native.Mathlib.Nat.{le-trans, le-add-right, le-of-mul-le-mul-right, mul-le-mul-right, add-sub-of-le}
+use native.Mathlib.Nat.{le-trans, le-add-right, le-of-mul-le-mul-right, mul-le-mul-left, mul-le-mul-right, add-sub-of-le}
 use native.Mathlib.Omega.{arith}
 use borrow.Author.Tests.{lt-ltb, le-ltb}
 use lib.IntN.{ℤ, pos, _+ℤ_}
 use lib.Signed.{_≤ℤ_}
 use Rattle.number_whole.specs.laws.Order.{+ℤ-mono, pos-mono}
 use Rattle.number_whole.specs.laws.Split.{split, split-add}
-use Rattle.number_fraction.specs.Ratio.{_≤/_}
+use Rattle.number_fraction.specs.Ratio.{Ratio, _≤/_, whole/}
 use Rattle.number_fraction.specs.laws.RatioLaws.{≤/-trans}
 use Rattle.number_exponential.specs.Grid.{Grid, inUnits}
 use Rattle.number_exponential.specs.declared.Ends.{Ends}
@@ -16,6 +16,7 @@ use Rattle.number_exponential.specs.Exponential.{expBetween, expLower, expUpper
 use Rattle.number_exponential.specs.laws.Facts.{Sound}
 use Rattle.number_exponential.specs.laws.WidthFacts.{Narrow, expWidth}
 use Rattle.number_exponential.specs.laws.Width.{exp-width}
+use Rattle.number_exponential.specs.laws.OutwardLaws.{outward-ordered, outward-width}
 use Rattle.set_params.specs.declared.Params.{Params}
 use Rattle.model_series.specs.Series.{logForce}
 use Rattle.model_series.specs.code.Within.{logForceWidth, Negated}
@@ -33,7 +34,7 @@ use Rattle.model_logistic.specs.laws.LogisticWidth.{logistic-width, logistic-or
 use Rattle.model_closure.specs.Closure.{closedSum}
 use Rattle.model_closure.specs.laws.SumWidth.{closedSum-width, closedSum-ordered}
 use Rattle.model_force.specs.Force.{negated, deathOf}
-use Rattle.model_mortality.specs.Cell.{youngForce, fittedEnds, fittedList, oldForce, force, survival, death}
+use Rattle.model_mortality.specs.Cell.{youngForce, fittedEnds, fittedList, oldForce, force, wholeYear, forceOver, survival, death}
 use Rattle.model_mortality.specs.laws.Facts.{Fit}
 use Rattle.model_mortality.specs.laws.Answered.{Answered}
 use Rattle.model_mortality.specs.laws.Needed.{young-needed, old-needed}
@@ -82,11 +83,23 @@ log-ordered g s l u h =
 complement-narrowed : (U : ℕ) (e : Ends) (w : ℕ) → Narrowed e w → Narrowed (record { lower = U - e .upper; upper = U - e .lower }) w
 complement-narrowed U e w h = record { ordered = omega (arith, h .ordered); width = omega (arith, h .width) }
 
+-- a part of a force is no wider, but for the rounding
+part-narrowed : (part : Ratio) (f : Ends) (w : ℕ) → part ≤/ wholeYear → Narrowed f w → Narrowed (forceOver part f) (w + 2)
+unfolding forceOver whole/
+part-narrowed part f w small h =
+    let m : part .num ≤ part .den = omega (arith, small .cross) in
+    record {
+      ordered = outward-ordered (f .lower * part .num) (f .upper * part .num) (part .positive) (mul-le-mul-right (part .num) (h .ordered));
+      width =
+          outward-width (f .lower * part .num) (f .upper * part .num) (part .positive) w
+          (omega (arith, mul-le-mul-right (part .num) (h .width), mul-le-mul-left w m));
+    }
+
 unfoldable pub youngDeathWidth : Grid → ℕ
-youngDeathWidth g = youngWidth g + expWidth g
+youngDeathWidth g = youngWidth g + 2 + expWidth g
 
 unfoldable pub oldDeathWidth : Grid → ℕ
-oldDeathWidth g = oldWidth g + expWidth g
+oldDeathWidth g = oldWidth g + 2 + expWidth g
 
 module _ (g : Grid) (s : Sound g) (w : Narrow g s) where
   -- the exponential adds its own width
@@ -152,18 +165,22 @@ module _ (g : Grid) (s : Sound g) (w : Narrow g s) where
             width = old-force-width l;
           }
 
-      -- p of an age to 90, and of one above; q is no wider
-      pub young-survival-width : x < firstClosed → Narrowed (survival g p x n) (youngDeathWidth g)
-      unfolding survival force youngDeathWidth
-      young-survival-width l =
-          rw (lt-ltb x firstClosed l)
-          (exp-narrowed (youngForce g p x n) (youngWidth g) (young-narrowed p x n (young-needed a l)))
+      -- the chance to live through a part of the year at an age to 90, and at one above; q is no wider
+      module _ {part : Ratio} (within : part ≤/ wholeYear) where
+        pub young-survival-width : x < firstClosed → Narrowed (survival g p x n part) (youngDeathWidth g)
+        unfolding survival force youngDeathWidth
+        young-survival-width l =
+            rw (lt-ltb x firstClosed l)
+            (exp-narrowed (forceOver part (youngForce g p x n)) (youngWidth g + 2)
+            (part-narrowed part (youngForce g p x n) (youngWidth g) within (young-narrowed p x n (young-needed a l))))
 
-      pub old-survival-width : firstClosed ≤ x → Narrowed (survival g p x n) (oldDeathWidth g)
-      unfolding survival force oldDeathWidth
-      old-survival-width l =
-          rw (le-ltb x firstClosed l) (exp-narrowed (oldForce g p x n) (oldWidth g) (old-narrowed l))
+        pub old-survival-width : firstClosed ≤ x → Narrowed (survival g p x n part) (oldDeathWidth g)
+        unfolding survival force oldDeathWidth
+        old-survival-width l =
+            rw (le-ltb x firstClosed l)
+            (exp-narrowed (forceOver part (oldForce g p x n)) (oldWidth g + 2)
+            (part-narrowed part (oldForce g p x n) (oldWidth g) within (old-narrowed l)))
 
-pub death-narrowed : (g : Grid) (p : Params) (x n w : ℕ) → Narrowed (survival g p x n) w → Narrowed (death g p x n) w
+pub death-narrowed : (g : Grid) (p : Params) (x n w : ℕ) → Narrowed (survival g p x n wholeYear) w → Narrowed (death g p x n) w
 unfolding death deathOf
-death-narrowed g p x n w h = complement-narrowed (g .unit) (survival g p x n) w h
+death-narrowed g p x n w h = complement-narrowed (g .unit) (survival g p x n wholeYear) w h

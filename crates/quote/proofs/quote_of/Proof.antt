@@ -11,7 +11,7 @@ returns : tie.Need-returns
 returns c =
     let s = c .before .before in
     let e = sym (c .before .in-limits .ensures) ∙ not-true _ (c .if1 .taken) in
-    met (refused-out-of-limits (s .args .p) (s .args .kind) (s .args .age) (s .args .year) (s .args .span) e)
+    met (refused-out-of-limits (s .args .p) (s .args .kind) (s .args .age) (s .args .year) (s .args .term) e)
 
 quote-within-requires : tie.Need-quote-within-requires
 quote-within-requires c κs =
@@ -21,7 +21,7 @@ quote-within-requires c κs =
 returns-2 : tie.Need-returns-2
 returns-2 c =
     let f = c .before .before .before .fits in
-    met (rw (toZ-ofZ (f .age), toZ-ofZ (f .year), toZ-ofZ (f .span)) at (c .quote-within .ensures))
+    met (rw (toZ-ofZ (f .age), toZ-ofZ (f .year), toZ-ofZ (f .term)) at (c .quote-within .ensures))
 
 pub quote-of-spec : {M : Type 1} → statement M
 quote-of-spec = tie.close (tie.spec (λ c κs. search needs) returns quote-within-requires returns-2)

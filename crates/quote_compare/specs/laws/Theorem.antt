@@ -1,4 +1,4 @@
--- What a comparison tells of any two queries, whichever their sets, kinds, ages, years and spans.
+-- What a comparison tells of any two queries, whichever their sets, kinds, ages, years and terms.
 use mathlib.Core.Path.{_≡_, ap, _∙_}
 use Prim.Native.Nat.{ℕ}
 use lib.IntN.{ℤ}
@@ -22,35 +22,35 @@ use Rattle.quote_compare.specs.laws.CompareLaws.{answerEnds, compared-bo
 use Rattle.quote_compare.specs.laws.MeaningLaws.{values-mean, exceeds-less}
 
 -- an accepted answer is kept, and so its ends hold its exact value
-kept : (p : Params) (kind : Kind) (age year span : ℤ) → numberOf (answerOf p kind age year span) ≡ 0
-    → Kept p kind age year span (answerOf p kind age year span)
-kept p kind age year span e = demand-met p kind age year span .kept e
+kept : (p : Params) (kind : Kind) (age year term : ℤ) → numberOf (answerOf p kind age year term) ≡ 0
+    → Kept p kind age year term (answerOf p kind age year term)
+kept p kind age year term e = demand-met p kind age year term .kept e
 
-held : {p : Params} {kind : Kind} {age year span : ℤ} → Kept p kind age year span (answerOf p kind age year span)
-    → Held billionths (answerEnds (answerOf p kind age year span)) (exactQuery p kind age year span)
+held : {p : Params} {kind : Kind} {age year term : ℤ} → Kept p kind age year term (answerOf p kind age year term)
+    → Held billionths (answerEnds (answerOf p kind age year term)) (exactQuery p kind age year term)
 unfolding answerEnds
 held k = record { at-least = k .at-least; at-most = k .at-most }
 
-module _ (p : Params) (kind : Kind) (age year span : ℤ) (p′ : Params) (kind′ : Kind) (age′ year′ span′ : ℤ) where
+module _ (p : Params) (kind : Kind) (age year term : ℤ) (p′ : Params) (kind′ : Kind) (age′ year′ term′ : ℤ) where
   -- the two answers, and their exact values
   abbrev pub answer : Answer
-  answer = answerOf p kind age year span
+  answer = answerOf p kind age year term
 
   abbrev pub answer′ : Answer
-  answer′ = answerOf p′ kind′ age′ year′ span′
+  answer′ = answerOf p′ kind′ age′ year′ term′
 
   abbrev pub value : Exact
-  value = exactQuery p kind age year span
+  value = exactQuery p kind age year term
 
   abbrev pub value′ : Exact
-  value′ = exactQuery p′ kind′ age′ year′ span′
+  value′ = exactQuery p′ kind′ age′ year′ term′
 
   module _ {x : Pair} (e : comparisonOf answer answer′ ≡ Compared x) where
-    first-kept : Kept p kind age year span answer
-    first-kept = kept p kind age year span (compared-both answer answer′ e .first-quoted)
+    first-kept : Kept p kind age year term answer
+    first-kept = kept p kind age year term (compared-both answer answer′ e .first-quoted)
 
-    second-kept : Kept p′ kind′ age′ year′ span′ answer′
-    second-kept = kept p′ kind′ age′ year′ span′ (compared-both answer answer′ e .second-quoted)
+    second-kept : Kept p′ kind′ age′ year′ term′ answer′
+    second-kept = kept p′ kind′ age′ year′ term′ (compared-both answer answer′ e .second-quoted)
 
     -- below, above and near are true of the exact values, with their numbers
     pub compared-mean : Means billionths (x .values) value value′
@@ -68,14 +68,14 @@ module _ (p : Params) (kind : Kind) (age year span : ℤ) (p′ : Params) (kind�
     above-less q = exceeds-less (rw q at compared-mean) (second-kept .narrows) (first-kept .narrows)
 
 -- of one kind, figures that are printed and different have exact values that do not round to one step
-pub figures-differ : (kind kind′ : Kind) → OneKind kind kind′ → (p p′ : Params) (age year span age′ year′ span′ : ℤ) {x : Pair}
-    {n n′ : ℕ} → comparisonOf (answerOf p kind age year span) (answerOf p′ kind′ age′ year′ span′) ≡ Compared x
+pub figures-differ : (kind kind′ : Kind) → OneKind kind kind′ → (p p′ : Params) (age year term age′ year′ term′ : ℤ) {x : Pair}
+    {n n′ : ℕ} → comparisonOf (answerOf p kind age year term) (answerOf p′ kind′ age′ year′ term′) ≡ Compared x
     → x .first ≡ Printed n → x .second ≡ Printed n′ → (n ≡ n′ → ⊥)
-    → OneStep billionths (step kind) (exactQuery p kind age year span) (exactQuery p′ kind′ age′ year′ span′)
+    → OneStep billionths (step kind) (exactQuery p kind age year term) (exactQuery p′ kind′ age′ year′ term′)
     → ⊥
 unfolding shownOf
-figures-differ kind kind′ one p p′ age year span age′ year′ span′ e f f′ d o =
-    let b = compared-both (answerOf p kind age year span) (answerOf p′ kind′ age′ year′ span′) e in
+figures-differ kind kind′ one p p′ age year term age′ year′ term′ e f f′ d o =
+    let b = compared-both (answerOf p kind age year term) (answerOf p′ kind′ age′ year′ term′) e in
     let shown = b .first-figure ∙ ap shownOf f in
     let shown′ = b .second-figure ∙ ap shownOf f′ in
-    d (same-figure kind kind′ one p p′ age year span age′ year′ span′ shown shown′ .1 o)
+    d (same-figure kind kind′ one p p′ age year term age′ year′ term′ shown shown′ .1 o)

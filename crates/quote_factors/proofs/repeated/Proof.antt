@@ -85,7 +85,7 @@ returns : tie.Need-returns Inv-loop μ-loop
 returns c =
     let l = c .before in
     let e : l .loop .i ≡ l .before .before .args .count = omega (arith, c .loop-test .left, l .loop .inv .to) in
-    rw e at (l .loop .inv .ends)
+    record { ends = rw e at (l .loop .inv .ends); size = l .loop .inv .size }
 
 pub repeated-spec : {M : Type 1} → statement M
 repeated-spec =

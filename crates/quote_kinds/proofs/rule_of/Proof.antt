@@ -40,8 +40,13 @@ returns-7 c =
     ap (λ (rate : ℤ). ruleOf (PeriodAnnuity rate)) (toZ-ofZ (record { sfits = c .known-told2 .given .0 .1 }))
     ∙ sym (ap ruleOf (c .before .kind2 .given .1))
 
+returns-8 : tie.Need-returns-8
+unfolding ruleOf
+returns-8 c = sym (ap ruleOf (c .enum-told6 .given .1))
+
 pub rule-of-spec : {M : Type 1} → statement M
 rule-of-spec =
     tie.close
     (tie.spec (λ c. search needs) (λ c. search needs) (λ c. search needs) (λ c. search needs) (λ c. search needs)
-    (λ c. search needs) (λ c. search needs) returns returns-2 returns-3 returns-4 returns-5 returns-6 returns-7)
+    (λ c. search needs) (λ c. search needs) (λ c. search needs) returns returns-2 returns-3 returns-4 returns-5 returns-6
+    returns-7 returns-8)

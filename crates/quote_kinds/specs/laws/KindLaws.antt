@@ -9,6 +9,7 @@ use Rattle.quote_kinds.specs.declared.Kind.the-variants.{
   PeriodExpectancy,
   CohortAnnuity,
   PeriodAnnuity,
+  Day,
 }
 use Rattle.quote_kinds.specs.Kinds.{ruleOf, withRate, rateAside, OneKind, stepOf}
 
@@ -22,6 +23,7 @@ step-aside CohortExpectancy = refl
 step-aside PeriodExpectancy = refl
 step-aside (CohortAnnuity rate) = refl
 step-aside (PeriodAnnuity rate) = refl
+step-aside Day = refl
 
 pub one-step-of : (k k′ : Kind) → OneKind k k′ → stepOf (ruleOf k .fold) ≡ stepOf (ruleOf k′ .fold)
 one-step-of k k′ e = step-aside k ∙ ap (λ (c : Kind). stepOf (ruleOf c .fold)) e ∙ sym (step-aside k′)

@@ -1,23 +1,27 @@
 -- Paths in parts, and the paths that are answered: every cell of them is.
 use mathlib.Core.Path.{_≡_, refl, ap, sym, _∙_}
 use mathlib.Core.Bool.{Bool, true, false, _&&_, and-assoc, and-true, and-false}
-use mathlib.Core.List.{List, [], _∷_, _++_, map-append}
+use mathlib.Core.List.{List, [], _∷_, _++_, map-append, append-nil}
 use Prim.Native.Nat.{ℕ, zero, suc, _+_, _≤_, _<_}
-use native.Mathlib.Nat.{zero-add, not-suc-le-zero}
+use native.Mathlib.Nat.{zero-add, not-suc-le-zero, eq-zero-or-pos}
+use mathlib.Core.Logic.{inl, inr}
+use borrow.Author.Tests.{ne-eqb}
 use native.Mathlib.Decide.{decLt}
 use native.Mathlib.Omega.{arith}
 use lib.Dec.{T}
 use lib.ListN.{length, length-map}
 use mir.Facts.{and-yes}
+use Rattle.number_fraction.specs.Ratio.{Ratio, _≤/_}
+use Rattle.number_fraction.specs.laws.RatioLaws.{≤/-refl}
 use Rattle.number_whole.specs.laws.Table.{listed-length, listed-more}
 use Rattle.number_exponential.specs.Grid.{Grid}
 use Rattle.set_params.specs.declared.Params.{Params}
 use Rattle.set_params.specs.Limits.{inLimits, lastYears}
 use Rattle.model_closure.specs.Weights.{lastClosed}
 use Rattle.number_folds.specs.laws.Each.{Each, none, also, each-listed, each-with}
-use Rattle.model_mortality.specs.Cell.{neededInRange}
+use Rattle.model_mortality.specs.Cell.{wholeYear, neededInRange}
 use Rattle.model_mortality.specs.laws.Answered.{Answered}
-use Rattle.quote_paths.specs.Path.{Place, placeAt, pathOf, factors, pathInRange}
+use Rattle.quote_paths.specs.Path.{Place, placeAt, pathOf, partYear, factors, pathInRange}
 
 -- ---- lengths and parts
 
@@ -76,8 +80,13 @@ range-out p cohort x n s (suc k) h e =
 
 -- ---- which are answered
 
+-- a cell that is answered, over a part of its year
+pub record AnsweredPlace (p : Params) (c : Place) : Type 0 where
+  pub cell : Answered p (c .age) (c .year)
+  pub within : c .part ≤/ wholeYear
+
 abbrev pub AnsweredPath : Params → List Place → Type 0
-AnsweredPath p path = Each (λ (c : Place). Answered p (c .age) (c .year)) path
+AnsweredPath p path = Each (AnsweredPlace p) path
 
 in-range-each : (p : Params) (path : List Place) → T (pathInRange p path)
     → Each (λ (c : Place). T (neededInRange p (c .age) (c .year))) path
@@ -93,6 +102,14 @@ unfolding placeAt
 path-years true x n k h c s l = omega (arith, c refl)
 path-years false x n k h c s l = h
 
+-- an age and a year of the table, and a part of the year
+abbrev InTable : Place → Type 0
+InTable c = (c .age ≤ lastClosed) × (c .year ≤ lastYears) × (c .part ≤/ wholeYear)
+
+answered : {p : Params} {c : Place} → T (inLimits p) → InTable c → T (neededInRange p (c .age) (c .year)) → AnsweredPlace p c
+answered limits h needed =
+    record { cell = record { limits = limits; age = h .0; year = h .1; needed = needed }; within = h .2 }
+
 -- a path in the table whose needed cells are in range
 pub path-answered : (p : Params) (cohort : Bool) (x n k : ℕ) → T (inLimits p)
     → ((s : ℕ) → s < k → placeAt cohort x n s .year ≤ lastYears) → T (pathInRange p (pathOf cohort x n k))
@@ -100,6 +117,39 @@ pub path-answered : (p : Params) (cohort : Bool) (x n k : ℕ) → T (inLimits p
 unfolding pathOf placeAt
 path-answered p cohort x n k limits years t =
     each-with (in-range-each p (pathOf cohort x n k) t)
-    (each-listed {P = λ (c : Place). (c .age ≤ lastClosed) × (c .year ≤ lastYears)} (placeAt cohort x n) 0 k
-    (λ s l. (omega arith, years s (omega arith))))
-    (λ c r h. record { limits = limits; age = h .0; year = h .1; needed = r })
+    (each-listed {P = InTable} (placeAt cohort x n) 0 k (λ s l. (omega arith, years s (omega arith), ≤/-refl wholeYear)))
+    (λ c r h. answered limits h r)
+
+-- ---- with a part of a year after it
+
+each-append : {P : Place → Type 0} {a b : List Place} → Each P a → Each P b → Each P (a ++ b)
+each-append none k = k
+each-append (also h l) k = also h (each-append l k)
+
+part-answered : {p : Params} {x n : ℕ} (part : Ratio) → T (inLimits p)
+    → ((part .num ≡ 0 → ⊥) → (x ≤ lastClosed) × (n ≤ lastYears) × (part ≤/ wholeYear))
+    → T (pathInRange p (partYear x n part)) → AnsweredPath p (partYear x n part)
+unfolding partYear pathInRange
+part-answered {p} {x} {n} part limits some t =
+    elim (eq-zero-or-pos (part .num)) [
+      | inl z ↦ rw z none
+      | inr l ↦
+          let m : part .num ≡ 0 → ⊥ = λ z. omega arith in
+          let e = ne-eqb (part .num) 0 m in
+          rw e (also (answered limits (some m) (and-yes (neededInRange p x n) true (rw e at t) .0)) none)
+    ]
+
+-- a path in the table, and a part of the year after it
+pub with-part-answered : {p : Params} (cohort : Bool) (x n k : ℕ) {y m : ℕ} (part : Ratio) → T (inLimits p)
+    → ((s : ℕ) → s < k → placeAt cohort x n s .year ≤ lastYears)
+    → ((part .num ≡ 0 → ⊥) → (y ≤ lastClosed) × (m ≤ lastYears) × (part ≤/ wholeYear))
+    → T (pathInRange p (pathOf cohort x n k ++ partYear y m part)) → AnsweredPath p (pathOf cohort x n k ++ partYear y m part)
+with-part-answered {p} cohort x n k {y} {m} part limits years some t =
+    let b = and-yes (pathInRange p (pathOf cohort x n k)) (pathInRange p (partYear y m part))
+    (rw (in-range-append p (pathOf cohort x n k) (partYear y m part)) at t) in
+    each-append (path-answered p cohort x n k limits years (b .0)) (part-answered part limits some (b .1))
+
+-- without days it is the path
+pub no-part : (x n : ℕ) (part : Ratio) (path : List Place) → part .num ≡ 0 → path ++ partYear x n part ≡ path
+unfolding partYear
+no-part x n part path e = rw e (append-nil path)

@@ -43,7 +43,7 @@ module _ {p : Params} {path : List Place} (a : AnsweredPath p path) (j : ℕ) (l
   pub factors-hold : Forall₂ (Over billionths) (factors billionths p path) (orderFactors p path j)
   unfolding factors orderFactors
   factors-hold =
-      each-places _ _ (λ c h. cell.survival-holds billionths billionths-sound billionths-fit billionths-narrow h j l) a
+      each-places _ _ (λ c h. cell.survival-holds billionths billionths-sound billionths-fit billionths-narrow (h .cell) j l (c .part)) a
 
   pub value-holds : (f : Fold)
       → Overlap billionths (gridValue f billionths p path) (exactValue f p path j .least) (exactValue f p path j .most)

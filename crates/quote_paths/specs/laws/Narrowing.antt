@@ -77,9 +77,9 @@ module _ {p : Params} {path : List Place} (a : AnsweredPath p path) where
   unfolding orderFactors
   factors-narrow M h j l =
       each-map _ (λ c t. record {
-        least = survival-least-one p (c .age) (c .year) j;
-        most = survival-most-one p (c .age) (c .year) j;
-        width = p-narrow t (parts (length path) M) (parts-positive (length path) M h) j l;
+        least = survival-least-one p (c .age) (c .year) (c .part) j;
+        most = survival-most-one p (c .age) (c .year) (c .part) j;
+        width = p-narrow (t .cell) (parts (length path) M) (parts-positive (length path) M h) j l (t .within);
       }) a
 
   pub value-narrows : (f : Fold) → Narrows (exactValue f p path)

@@ -14,7 +14,7 @@ use Rattle.number_exponential.specs.Grid.{Grid}
 use Rattle.number_exponential.specs.declared.Ends.{Ends}
 use Rattle.set_params.specs.declared.Params.{Params}
 use Rattle.model_closure.specs.Weights.{lastClosed}
-use Rattle.model_mortality.specs.Cell.{survival, neededInRange}
+use Rattle.model_mortality.specs.Cell.{wholeYear, survival, neededInRange}
 use Rattle.quote_paths.specs.Path.{Place, placeAt, pathOf, factors, pathInRange}
 use Rattle.quote_paths.specs.laws.Answers.{placeInRange, path-more, factors-append, in-range-append, in-range-more}
 
@@ -32,11 +32,11 @@ place-past cohort x n s l = omega arith
 
 -- the cell of age 120
 abbrev pub oldest : ℕ → Place
-oldest n = record { age = lastClosed; year = n }
+oldest n = record { age = lastClosed; year = n; part = wholeYear }
 
 pub place-oldest : (x n s : ℕ) → lastClosed ≤ x + s → placeAt false x n s ≡ oldest n
 unfolding placeAt
-place-oldest x n s l = ap (λ (y : ℕ). record { age = y; year = n }) (place-past false x n s l)
+place-oldest x n s l = ap (λ (y : ℕ). record { age = y; year = n; part = wholeYear }) (place-past false x n s l)
 
 -- k more of it
 path-repeats : (x n m k : ℕ) → lastClosed ≤ x + m → pathOf false x n (m + k) ≡ pathOf false x n m ++ replicate k (oldest n)
@@ -65,14 +65,14 @@ range-stays p x n s k l t =
     rw (path-repeats x n (suc s) k (omega arith), in-range-append p (pathOf false x n (suc s)) (replicate k (oldest n)))
     (yes-and (pathInRange p (pathOf false x n (suc s))) (pathInRange p (replicate k (oldest n))) t (range-same p (oldest n) k c))
 
-factors-same : (g : Grid) (p : Params) (c : Place) (k : ℕ) → factors g p (replicate k c) ≡ replicate k (survival g p (c .age) (c .year))
+factors-same : (g : Grid) (p : Params) (c : Place) (k : ℕ) → factors g p (replicate k c) ≡ replicate k (survival g p (c .age) (c .year) (c .part))
 unfolding factors
 factors-same g p c zero = refl
-factors-same g p c (suc k) = ap (λ (l : List Ends). survival g p (c .age) (c .year) ∷ l) (factors-same g p c k)
+factors-same g p c (suc k) = ap (λ (l : List Ends). survival g p (c .age) (c .year) (c .part) ∷ l) (factors-same g p c k)
 
 -- and its factors are those to age 120 and then the last of them
 pub factors-stay : (g : Grid) (p : Params) (x n s k : ℕ) → lastClosed ≤ x + s
-    → factors g p (pathOf false x n (suc s + k)) ≡ factors g p (pathOf false x n (suc s)) ++ replicate k (survival g p lastClosed n)
+    → factors g p (pathOf false x n (suc s + k)) ≡ factors g p (pathOf false x n (suc s)) ++ replicate k (survival g p lastClosed n wholeYear)
 factors-stay g p x n s k l =
     ap (factors g p) (path-repeats x n (suc s) k (omega arith))
     ∙ factors-append g p (pathOf false x n (suc s)) (replicate k (oldest n))

@@ -35,7 +35,7 @@ module _ {p : Params} {path : List Place} (a : AnsweredPath p path) where
   factors-agree : (i j : ℕ) → leastOrder ≤ i → leastOrder ≤ j
       → Forall₂ NotAbove (orderFactors p path i) (orderFactors p path j)
   unfolding orderFactors
-  factors-agree i j k l = each-places _ _ (λ c h. cell.survival-agrees h i j k l) a
+  factors-agree i j k l = each-places _ _ (λ c h. cell.survival-agrees (h .cell) (c .part) i j k l) a
 
   pub value-agrees : (f : Fold) → Agrees (exactValue f p path)
   unfolding exactValue

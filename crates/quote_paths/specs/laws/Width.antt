@@ -1,17 +1,19 @@
 -- How far apart the ends of the values along an answered path lie, and how great any path's are, on the grid of 10^-9.
 use mathlib.Core.Path.{_≡_, refl, ap, ap₂, sym, _∙_}
 use mathlib.Core.Bool.{Bool, true, false, cond}
-use mathlib.Core.List.{List, [], _∷_, map, Forall₂}
+use mathlib.Core.List.{List, [], _∷_, _++_, map, map-append, append-nil, Forall₂}
 use Prim.Native.Nat.{ℕ, zero, suc, _+_, _*_, _≤_, _<_}
 use native.Mathlib.Nat.{add-zero, zero-add, le-refl, mul-le-mul, mul-le-mul-right, div-le-self}
 use native.Mathlib.Decide.{decLt}
 use native.Mathlib.Omega.{arith}
-use lib.Dec.{ltb, lit≤}
+use lib.Dec.{ltb, eqb, lit≤}
 use lib.IntN.{ℤ, natAbs}
 use lib.ListN.{length, take, drop, length-map}
 use borrow.Author.Tests.{lt-ltb, le-ltb}
 use Rattle.number_whole.specs.Listed.{listed}
 use Rattle.number_whole.specs.laws.Table.{listed-shift, listed-part, listed-map}
+use Rattle.number_fraction.specs.Ratio.{Ratio, _≤/_}
+use Rattle.number_fraction.specs.laws.RatioLaws.{≤/-refl}
 use Rattle.number_exponential.specs.Grid.{Grid}
 use Rattle.number_exponential.specs.Billionths.{billionths}
 use Rattle.number_exponential.specs.laws.Facts.{Sound}
@@ -34,14 +36,14 @@ use Rattle.model_mortality.specs.Cell as cell
 use Rattle.model_mortality.specs.laws.Answered.{Answered}
 use Rattle.model_mortality.specs.laws.Width.{Narrowed, death-narrowed}
 use Rattle.model_mortality.specs.laws.Billionths.{youngLimit, oldLimit, p-width-young, p-width-old}
-use Rattle.quote_paths.specs.Path.{Place, placeAt, pathOf, factors}
+use Rattle.quote_paths.specs.Path.{Place, placeAt, pathOf, partYear, factors}
 use Rattle.quote_paths.specs.declared.Fold.{Fold}
 use Rattle.quote_paths.specs.declared.Fold.the-variants.{Death, Survival, Expectancy, Annuity}
 use Rattle.quote_paths.specs.Values.{foldOver, gridValue}
-use Rattle.quote_paths.specs.laws.Answers.{AnsweredPath, factors-length}
+use Rattle.quote_paths.specs.laws.Answers.{AnsweredPlace, AnsweredPath, path-more, factors-length}
 use Rattle.quote_paths.specs.laws.Oldest.{place-age}
 
--- the limits of `widthOf` of kinds/Kinds: of a cell by its age, of a survival, and of an expectancy or a price
+-- the limits of `widthOf` of quote_kinds/Kinds: of a cell by its age, of a survival, and of an expectancy or a price
 unfoldable pub ageLimit : ℕ → ℕ
 ageLimit x = cond (ltb x firstClosed) youngLimit oldLimit
 
@@ -54,54 +56,60 @@ expectancyLimit = 10000000
 -- ---- one cell
 
 -- p and q of an answered cell
-p-narrowed : {p : Params} {x n : ℕ} → Answered p x n → Narrowed (cell.survival billionths p x n) (ageLimit x)
+p-narrowed : {p : Params} {x n : ℕ} {part : Ratio} → Answered p x n → part ≤/ cell.wholeYear
+    → Narrowed (cell.survival billionths p x n part) (ageLimit x)
 unfolding ageLimit
-p-narrowed {x = x} a =
+p-narrowed {x = x} a h =
     elim (decLt x firstClosed) [
-      | yes l ↦ rw (lt-ltb x firstClosed l) (p-width-young a l)
-      | no l ↦ let k : firstClosed ≤ x = omega arith in rw (le-ltb x firstClosed k) (p-width-old a k)
+      | yes l ↦ rw (lt-ltb x firstClosed l) (p-width-young a h l)
+      | no l ↦ let k : firstClosed ≤ x = omega arith in rw (le-ltb x firstClosed k) (p-width-old a h k)
     ]
 
 -- no factor of any cell, answered or not, is above 1
 module _ (g : Grid) (s : Sound g) (p : Params) where
-  factor-at-most : (x n : ℕ) → AtMost (g .unit) (cell.survival g p x n)
+  factor-at-most : (x n : ℕ) (part : Ratio) → AtMost (g .unit) (cell.survival g p x n part)
   unfolding cell.survival expBetween
-  factor-at-most x n = record { lower = exp-lower-one g s _; upper = exp-upper-one g s _ }
+  factor-at-most x n part = record { lower = exp-lower-one g s _; upper = exp-upper-one g s _ }
 
   pub factors-chances : (path : List Place) → Each (AtMost (g .unit)) (factors g p path)
   unfolding factors
   factors-chances [] = none
-  factors-chances (c ∷ path) = also (factor-at-most (c .age) (c .year)) (factors-chances path)
+  factors-chances (c ∷ path) = also (factor-at-most (c .age) (c .year) (c .part)) (factors-chances path)
 
-p-chance : {p : Params} {x n : ℕ} → Answered p x n → Chance billionths (ageLimit x) (cell.survival billionths p x n)
-p-chance {p} {x} {n} a =
-    let w = p-narrowed a in
-    record { ordered = w .ordered; most = factor-at-most billionths billionths-sound p x n .upper; width = w .width }
+p-chance : {p : Params} {c : Place} → AnsweredPlace p c
+    → Chance billionths (ageLimit (c .age)) (cell.survival billionths p (c .age) (c .year) (c .part))
+p-chance {p} {c} a =
+    let w = p-narrowed (a .cell) (a .within) in
+    record {
+      ordered = w .ordered;
+      most = factor-at-most billionths billionths-sound p (c .age) (c .year) (c .part) .upper;
+      width = w .width;
+    }
 
 -- ---- a path of one cell
 
 -- the same for a cohort and a period
-pub one-place : (cohort : Bool) (x n : ℕ) → x ≤ lastClosed → pathOf cohort x n 1 ≡ record { age = x; year = n } ∷ []
+pub one-place : (cohort : Bool) (x n : ℕ) → x ≤ lastClosed → pathOf cohort x n 1 ≡ record { age = x; year = n; part = cell.wholeYear } ∷ []
 unfolding pathOf listed placeAt
-one-place true x n l = ap₂ (λ (y m : ℕ). record { age = y; year = m } ∷ []) (omega arith) (omega arith)
-one-place false x n l = ap (λ (y : ℕ). record { age = y; year = n } ∷ []) (omega arith)
+one-place true x n l = ap₂ (λ (y m : ℕ). record { age = y; year = m; part = cell.wholeYear } ∷ []) (omega arith) (omega arith)
+one-place false x n l = ap (λ (y : ℕ). record { age = y; year = n; part = cell.wholeYear } ∷ []) (omega arith)
 
 -- its chance to die is the cell's q
 pub one-cell : (g : Grid) → 0 < g .unit → (p : Params) (cohort : Bool) (x n : ℕ) → x ≤ lastClosed
     → gridValue Death g p (pathOf cohort x n 1) ≡ cell.death g p x n
 unfolding gridValue foldOver factors cell.death
 one-cell g positive p cohort x n l =
-    rw (one-place cohort x n l) (ap (deathOf g) (survival-one g positive (cell.survival g p x n)))
+    rw (one-place cohort x n l) (ap (deathOf g) (survival-one g positive (cell.survival g p x n cell.wholeYear)))
 
 pub death-limit : {p : Params} (cohort : Bool) (x n : ℕ) → x ≤ lastClosed → AnsweredPath p (pathOf cohort x n 1)
     → gridValue Death billionths p (pathOf cohort x n 1) .upper
     ≤ gridValue Death billionths p (pathOf cohort x n 1) .lower + ageLimit x
 death-limit {p} cohort x n l a =
     rw (one-cell billionths (billionths .positive) p cohort x n l)
-    (death-narrowed billionths p x n (ageLimit x) (p-narrowed (first (rw (one-place cohort x n l) at a))) .width)
+    (death-narrowed billionths p x n (ageLimit x) (p-narrowed (first (rw (one-place cohort x n l) at a)) (≤/-refl cell.wholeYear)) .width)
   where
-    first : AnsweredPath p (record { age = x; year = n } ∷ []) → Answered p x n
-    first (also h none) = h
+    first : AnsweredPath p (record { age = x; year = n; part = cell.wholeYear } ∷ []) → Answered p x n
+    first (also h none) = h .cell
 
 -- ---- a path's widths
 
@@ -146,6 +154,35 @@ survival-limit cohort x n k h a =
       survival-chance billionths (billionths .positive) (path-chances a) .width,
       ap spread (limits-part cohort x n k h),
       spread-part x k ageLimits,
+      widest-survival,
+    )
+
+-- with a part of the year after it
+limits-with-part : (cohort : Bool) (x n k m : ℕ) (part : Ratio) → x + k ≤ lastClosed
+    → spread (pathLimits (pathOf cohort x n k ++ partYear (x + k) m part)) ≤ spread ageLimits
+unfolding partYear
+limits-with-part cohort x n k m part h = go (eqb (part .num) 0)
+  where
+    go : (b : Bool) → spread (pathLimits (pathOf cohort x n k ++ cond b [] (record { age = x + k; year = m; part = part } ∷ []))) ≤ spread ageLimits
+    go true = rw (append-nil (pathOf cohort x n k), limits-part cohort x n k (omega arith)) (spread-part x k ageLimits)
+    go false =
+        let e : pathLimits (pathOf cohort x n k ++ (record { age = x + k; year = m; part = part } ∷ [])) ≡ pathLimits (pathOf cohort x n (suc k)) =
+        map-append (λ (c : Place). ageLimit (c .age)) (pathOf cohort x n k) _
+        ∙ ap (λ (y : ℕ). pathLimits (pathOf cohort x n k) ++ (ageLimit y ∷ [])) (sym (place-age cohort x n k h))
+        ∙ sym (map-append (λ (c : Place). ageLimit (c .age)) (pathOf cohort x n k) (placeAt cohort x n k ∷ []))
+        ∙ ap pathLimits (sym (path-more cohort x n k)) in
+        rw (e, limits-part cohort x n (suc k) (omega arith)) (spread-part x (suc k) ageLimits)
+
+pub day-limit : {p : Params} (cohort : Bool) (x n k m : ℕ) (part : Ratio) → x + k ≤ lastClosed
+    → AnsweredPath p (pathOf cohort x n k ++ partYear (x + k) m part)
+    → gridValue Survival billionths p (pathOf cohort x n k ++ partYear (x + k) m part) .upper
+    ≤ gridValue Survival billionths p (pathOf cohort x n k ++ partYear (x + k) m part) .lower + survivalLimit
+unfolding gridValue foldOver
+day-limit cohort x n k m part h a =
+    omega (
+      arith,
+      survival-chance billionths (billionths .positive) (path-chances a) .width,
+      limits-with-part cohort x n k m part h,
       widest-survival,
     )
 

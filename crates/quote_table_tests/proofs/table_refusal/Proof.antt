@@ -1,24 +1,28 @@
--- `table_refusal` meets its contract: the four tests in their order, up to the first that fails.
+-- `table_refusal` meets its contract: the five tests in their order, up to the first that fails.
 use mathlib.Core.Path.{_≡_, refl, ap, sym, _∙_}
-use mathlib.Core.Bool.{true}
-use Prim.Native.Nat.{ℕ, suc, _≤_}
+use mathlib.Core.Bool.{Bool, true, false, cond}
+use Prim.Native.Nat.{ℕ, suc, _+_, _-_, _≤_}
 use native.Mathlib.Omega.{arith}
 use borrow.Author.Needs.{needs}
 use borrow.Author.Tests.{not-true, not-false}
 use lib.IntN.{pos, natAbs, _+ℤ_}
+use lib.Signed.{leZ}
 use mir.Syntax.{w64}
 use mir.Val.{SFits}
-use mir.Facts.{toZ-ofZ}
+use mir.Facts.{toZ-ofZ, and-yes}
+use Rattle.number_whole.specs.code.Sizes.{Under}
 use Rattle.number_whole.specs.laws.Bound.{bits, under-lit, under-add, under-pos, fits, back}
 use Rattle.number_whole.proofs.Signed.{sum}
-use Rattle.set_params.specs.Limits.{startYear}
+use Rattle.set_params.specs.Limits.{startYear, firstYears}
 use Rattle.model_closure.specs.Weights.{lastClosed}
 use Rattle.number_annuity.specs.Annuity.{mostRate}
 use Rattle.quote_paths.specs.declared.Fold.{Fold}
 use Rattle.quote_paths.specs.declared.Fold.the-variants.{Death, Survival, Expectancy, Annuity}
-use Rattle.quote_kinds.specs.Kinds.{mostSpan}
-use Rattle.quote_table_tests.specs.TableTests.{between, ageInTable, yearInTable, spanInTable, rateInTable, firstFailed, tableTests}
-use Rattle.quote_table_tests.specs.laws.TableLaws.{within}
+use Rattle.quote_kinds.specs.declared.Rule.{Rule}
+use Rattle.quote_kinds.specs.Kinds.{mostSpan, longestSpan, spanOf}
+use Rattle.quote_table_tests.specs.TableTests.{between, ageInTable, yearInTable, dateInTable, spanInTable, rateInTable, firstFailed, tableTests}
+use Rattle.quote_table_tests.specs.laws.TableLaws.{within, dated-day}
+use Rattle.quote_table_tests.proofs.Signs.{between-under}
 use Rattle.quote_table_tests.proofs.table_refusal.Statement.{statement}
 use Rattle.quote_table_tests.proofs.table_refusal.Tie as tie
 
@@ -60,32 +64,65 @@ age-in c =
     let w = within 0 lastClosed (s .args .age) (rw (age-true c) tt) in
     (toZ-ofZ (s .fits .age), w .0, w .2)
 
-span-small : (f : Fold) (x : ℕ) → mostSpan f x ≤ suc lastClosed
+fold-small : (f : Fold) (x : ℕ) → mostSpan f x ≤ suc lastClosed
 unfolding mostSpan
-span-small Death x = omega arith
-span-small Survival x = omega arith
-span-small Expectancy x = omega arith
-span-small (Annuity rate) x = omega arith
+fold-small Death x = omega arith
+fold-small Survival x = omega arith
+fold-small Expectancy x = omega arith
+fold-small (Annuity rate) x = omega arith
 
-abbrev start₃ : tie.After-most-span → tie.Start
+span-small : (r : Rule) (x : ℕ) → longestSpan r x ≤ suc lastClosed
+unfolding longestSpan
+span-small r x = go (r .dated)
+  where
+    go : (b : Bool) → cond b (lastClosed - x) (mostSpan (r .fold) x) ≤ suc lastClosed
+    go true = omega arith
+    go false = fold-small (r .fold) x
+
+abbrev start₃ : tie.After-date-in-table → tie.Start
 start₃ c = start₂ (c .before .before)
 
-span-fits : (c : tie.After-most-span) → SFits w64 (pos (c .most-span .result))
-span-fits c = fits (under-pos {k = suc lastClosed} (rw (c .most-span .ensures) (span-small _ _))) tt
+date-test : (c : tie.After-date-in-table) → let s = start₃ c in c .date-in-table .result ≡ dateInTable (s .args .rule) (s .args .term)
+date-test c = rw (toZ-ofZ (start₃ c .fits .term)) at (c .date-in-table .ensures)
 
-span-test : (c : tie.After-between3) → let s = start₃ (c .before) in
-    c .between3 .result ≡ spanInTable (s .args .rule) (s .args .age) (s .args .span)
+date-true : (c : tie.Else3) → let s = start₃ (c .before) in dateInTable (s .args .rule) (s .args .term) ≡ true
+date-true c = sym (date-test (c .before)) ∙ not-false _ (c .if3 .left)
+
+abbrev start₄ : tie.After-span-of → tie.Start
+start₄ c = start₃ (c .before .before)
+
+span-read : (c : tie.After-span-of) → let s = start₄ c in
+    bits (c .span-of .result) ≡ spanOf (s .args .rule) (s .args .year) (s .args .term)
+span-read c =
+    let s = start₄ c in
+    toZ-ofZ (record { sfits = c .span-of .ok }) ∙ rw (toZ-ofZ (s .fits .year), toZ-ofZ (s .fits .term)) at (c .span-of .ensures)
+
+-- the year is the table's too
+year-under : (c : tie.Else2) → Under (start₂ (c .before) .args .year) 9999
+unfolding yearInTable
+year-under c =
+    let s = start₂ (c .before) in
+    let a = and-yes (leZ (pos (startYear + firstYears)) (s .args .year)) (leZ (s .args .year) (pos startYear +ℤ s .args .rule .years))
+    (rw (year-true c) tt) in
+    between-under (s .args .year) (s .args .rule .years) (a .0) (a .1) (s .pre)
+
+span-fits : (c : tie.After-longest-span) → SFits w64 (pos (c .longest-span .result))
+span-fits c = fits (under-pos {k = suc lastClosed} (rw (c .longest-span .ensures) (span-small _ _))) tt
+
+span-test : (c : tie.After-between3) → let s = start₄ (c .before .before) in
+    c .between3 .result ≡ spanInTable (s .args .rule) (s .args .age) (s .args .year) (s .args .term)
 unfolding spanInTable
 span-test c =
     let m = c .before in
-    let s = start₃ m in
-    let a = age-in (m .before .before .before) in
-    rw (toZ-ofZ (span-fits m), toZ-ofZ (s .fits .span), m .most-span .ensures, a .0) at (c .between3 .ensures)
+    let p = m .before in
+    let a = age-in (p .before .before .before .before .before) in
+    rw (toZ-ofZ (span-fits m), span-read p, m .longest-span .ensures, a .0) at (c .between3 .ensures)
 
-span-true : (c : tie.Else3) → let s = start₃ (c .before .before) in spanInTable (s .args .rule) (s .args .age) (s .args .span) ≡ true
-span-true c = sym (span-test (c .before)) ∙ not-false _ (c .if3 .left)
+span-true : (c : tie.Else4) → let s = start₄ (c .before .before .before) in
+    spanInTable (s .args .rule) (s .args .age) (s .args .year) (s .args .term) ≡ true
+span-true c = sym (span-test (c .before)) ∙ not-false _ (c .if4 .left)
 
-rate-test : (c : tie.After-between4) → let s = start₃ (c .before .before .before .before) in
+rate-test : (c : tie.After-between4) → let s = start₄ (c .before .before .before .before .before) in
     c .between4 .result ≡ rateInTable (s .args .rule)
 unfolding rateInTable
 rate-test c =
@@ -106,45 +143,67 @@ returns-2 c =
     let e = sym (year-test b) ∙ not-true _ (c .if2 .taken) in
     rw (age-true (b .before), e)
 
-cast-most-span : tie.Need-cast-most-span
-cast-most-span c =
-    let a = age-in (c .before .before) in
-    rw (a .0, ← a .1) (tt, record { fits = omega (arith, a .2) })
-
-most-span-requires : tie.Need-most-span-requires
-most-span-requires c κs =
-    let a = age-in (c .before .before) in
-    rw (a .0) (a .2)
-
 returns-3 : tie.Need-returns-3
 unfolding firstFailed tableTests
 returns-3 c =
     let b = c .before in
-    let y = b .before .before in
-    let e = sym (span-test b) ∙ not-true _ (c .if3 .taken) in
+    let y = b .before in
+    let e = sym (date-test b) ∙ not-true _ (c .if3 .taken) in
     rw (age-true (y .before .before), year-true y, e)
+
+span-of-requires : tie.Need-span-of-requires
+span-of-requires c κs =
+    let s = start₃ (c .before) in
+    rw (toZ-ofZ (s .fits .year), toZ-ofZ (s .fits .term))
+    (year-under (c .before .before), dated-day (s .args .rule) (s .args .term) (rw (date-true c) tt))
+
+cast-longest-span : tie.Need-cast-longest-span
+cast-longest-span c =
+    let a = age-in (c .before .before .before .before .before) in
+    rw (a .0, ← a .1) (tt, record { fits = omega (arith, a .2) })
+
+longest-span-requires : tie.Need-longest-span-requires
+longest-span-requires c κs =
+    let a = age-in (c .before .before .before .before .before) in
+    rw (a .0) (a .2)
+
+-- the tests before the span's
+before-span : (c : tie.After-span-of) → let s = start₄ c in
+    (ageInTable (s .args .age) ≡ true) × (yearInTable (s .args .rule) (s .args .year) ≡ true) × (dateInTable (s .args .rule) (s .args .term) ≡ true)
+before-span c =
+    let d = c .before in
+    let y = d .before .before in
+    (age-true (y .before .before), year-true y, date-true d)
 
 returns-4 : tie.Need-returns-4
 unfolding firstFailed tableTests
 returns-4 c =
     let b = c .before in
-    let p = b .before .before in
-    let y = p .before .before .before in
-    let e = sym (rate-test b) ∙ not-true _ (c .if4 .taken) in
-    rw (age-true (y .before .before), year-true y, span-true p, e)
+    let t = before-span (b .before .before) in
+    let e = sym (span-test b) ∙ not-true _ (c .if4 .taken) in
+    rw (t .0, t .1, t .2, e)
 
 returns-5 : tie.Need-returns-5
 unfolding firstFailed tableTests
 returns-5 c =
     let b = c .before in
     let p = b .before .before in
-    let y = p .before .before .before in
-    let e = sym (rate-test b) ∙ not-false _ (c .if4 .left) in
-    rw (age-true (y .before .before), year-true y, span-true p, e)
+    let t = before-span (p .before .before .before) in
+    let e = sym (rate-test b) ∙ not-true _ (c .if5 .taken) in
+    rw (t .0, t .1, t .2, span-true p, e)
+
+returns-6 : tie.Need-returns-6
+unfolding firstFailed tableTests
+returns-6 c =
+    let b = c .before in
+    let p = b .before .before in
+    let t = before-span (p .before .before .before) in
+    let e = sym (rate-test b) ∙ not-false _ (c .if5 .left) in
+    rw (t .0, t .1, t .2, span-true p, e)
 
 pub table-refusal-spec : {M : Type 1} → statement M
 table-refusal-spec =
     tie.close
     (tie.spec add-last (λ c. search needs) (λ c κs. search needs) returns (λ c. search needs) (λ c κs. search needs)
-    returns-2 cast-most-span most-span-requires span-fits (λ c κs. search needs) returns-3 (λ c. search needs)
-    (λ c κs. search needs) (λ c κs. search needs) returns-4 returns-5)
+    returns-2 (λ c κs. search needs) returns-3 span-of-requires cast-longest-span longest-span-requires span-fits
+    (λ c κs. search needs) returns-4 (λ c. search needs) (λ c κs. search needs) (λ c κs. search needs) returns-5 returns-6)

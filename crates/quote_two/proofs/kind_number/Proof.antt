@@ -33,8 +33,13 @@ returns-7 : tie.Need-returns-7
 unfolding kindNumber
 returns-7 c = sym (ap kindNumber (c .enum-told7 .given .1))
 
+returns-8 : tie.Need-returns-8
+unfolding kindNumber
+returns-8 c = sym (ap kindNumber (c .enum-told8 .given .1))
+
 pub kind-number-spec : {M : Type 1} → statement M
 kind-number-spec =
     tie.close
     (tie.spec (λ c. search needs) (λ c. search needs) (λ c. search needs) (λ c. search needs) (λ c. search needs)
-    (λ c. search needs) (λ c. search needs) returns returns-2 returns-3 returns-4 returns-5 returns-6 returns-7)
+    (λ c. search needs) (λ c. search needs) (λ c. search needs) returns returns-2 returns-3 returns-4 returns-5 returns-6
+    returns-7 returns-8)

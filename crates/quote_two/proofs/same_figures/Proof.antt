@@ -15,10 +15,10 @@ returns c =
     rw (
       toZ-ofZ (f .age),
       toZ-ofZ (f .year),
-      toZ-ofZ (f .span),
+      toZ-ofZ (f .term),
       toZ-ofZ (f .age2),
       toZ-ofZ (f .year2),
-      toZ-ofZ (f .span2),
+      toZ-ofZ (f .term2),
     ) at (c .same-printed .ensures)
 
 returns-2 : tie.Need-returns-2

@@ -10,16 +10,16 @@ use Rattle.quote_two.proofs.same_printed.Tie as tie
 
 -- what is promised of the two answers
 first : (c : tie.After-quote-of) → let s = c .before in
-    Promised (s .args .p) (s .args .kind) (s .args .age) (s .args .year) (s .args .span) (c .quote-of .result)
+    Promised (s .args .p) (s .args .kind) (s .args .age) (s .args .year) (s .args .term) (c .quote-of .result)
 first c =
     let f = c .before .fits in
-    rw (toZ-ofZ (f .age), toZ-ofZ (f .year), toZ-ofZ (f .span)) at (c .quote-of .ensures)
+    rw (toZ-ofZ (f .age), toZ-ofZ (f .year), toZ-ofZ (f .term)) at (c .quote-of .ensures)
 
 second : (c : tie.After-quote-of2) → let s = c .before .before .before in
-    Promised (s .args .p2) (s .args .kind2) (s .args .age2) (s .args .year2) (s .args .span2) (c .quote-of2 .result)
+    Promised (s .args .p2) (s .args .kind2) (s .args .age2) (s .args .year2) (s .args .term2) (c .quote-of2 .result)
 second c =
     let f = c .before .before .before .fits in
-    rw (toZ-ofZ (f .age2), toZ-ofZ (f .year2), toZ-ofZ (f .span2)) at (c .quote-of2 .ensures)
+    rw (toZ-ofZ (f .age2), toZ-ofZ (f .year2), toZ-ofZ (f .term2)) at (c .quote-of2 .ensures)
 
 -- the first answer, and its steps
 abbrev asked : tie.After-steps-of2 → tie.After-quote-of

@@ -26,7 +26,7 @@ kindOf : ℕ → Kind
 kindOf n =
     getD
     (kind.Death ∷ kind.CohortSurvival ∷ kind.PeriodSurvival ∷ kind.CohortExpectancy ∷ kind.PeriodExpectancy
-    ∷ kind.CohortAnnuity (pos 0) ∷ kind.PeriodAnnuity (pos 0) ∷ [])
+    ∷ kind.CohortAnnuity (pos 0) ∷ kind.PeriodAnnuity (pos 0) ∷ kind.Day ∷ [])
     n kind.Death
 
 number-kind : (k : Kind) → kindOf (kindNumber k) ≡ rateAside k
@@ -38,6 +38,7 @@ number-kind kind.CohortExpectancy = refl
 number-kind kind.PeriodExpectancy = refl
 number-kind (kind.CohortAnnuity rate) = refl
 number-kind (kind.PeriodAnnuity rate) = refl
+number-kind kind.Day = refl
 
 aside-number : (k : Kind) → kindNumber (rateAside k) ≡ kindNumber k
 unfolding kindNumber rateAside withRate
@@ -48,6 +49,7 @@ aside-number kind.CohortExpectancy = refl
 aside-number kind.PeriodExpectancy = refl
 aside-number (kind.CohortAnnuity rate) = refl
 aside-number (kind.PeriodAnnuity rate) = refl
+aside-number kind.Day = refl
 
 pub kinds-one : (k k′ : Kind) → oneKind k k′ ≡ true → OneKind k k′
 unfolding oneKind
@@ -59,8 +61,8 @@ unfolding oneKind
 kinds-other k k′ e one =
     eqb-false (kindNumber k) (kindNumber k′) e (sym (aside-number k) ∙ ap kindNumber one ∙ aside-number k′)
 
-pub not-one-kind : {p : Params} {kind : Kind} {age year span : ℤ} {p′ : Params} {kind′ : Kind} {age′ year′ span′ : ℤ}
-    → oneKind kind kind′ ≡ false → Settled p kind age year span p′ kind′ age′ year′ span′ OtherKind
+pub not-one-kind : {p : Params} {kind : Kind} {age year term : ℤ} {p′ : Params} {kind′ : Kind} {age′ year′ term′ : ℤ}
+    → oneKind kind kind′ ≡ false → Settled p kind age year term p′ kind′ age′ year′ term′ OtherKind
 not-one-kind {kind = k} {kind′ = k′} e =
     record {
       other-kind = (λ q. kinds-other k k′ e, λ n. refl);
@@ -87,13 +89,13 @@ shown-none noFigure e q = clash cc
 
 -- what `quote_of` ensures of its answer
 abbrev pub Promised : Params → Kind → ℤ → ℤ → ℤ → Answer → Type 0
-Promised p kind age year span a = (a ≡ answerOf p kind age year span) × Demand3 p kind age year span a
+Promised p kind age year term a = (a ≡ answerOf p kind age year term) × Demand3 p kind age year term a
 
-module _ {kind : Kind} {p : Params} {age year span : ℤ} {a : Answer} (h : Promised p kind age year span a)
-    {p′ : Params} {kind′ : Kind} {age′ year′ span′ : ℤ} {a′ : Answer} (h′ : Promised p′ kind′ age′ year′ span′ a′)
+module _ {kind : Kind} {p : Params} {age year term : ℤ} {a : Answer} (h : Promised p kind age year term a)
+    {p′ : Params} {kind′ : Kind} {age′ year′ term′ : ℤ} {a′ : Answer} (h′ : Promised p′ kind′ age′ year′ term′ a′)
     (one : OneKind kind kind′) where
   -- one has no printed figure
-  pub first-not-printed : stepsShown (figureShown a) ≡ None → Settled p kind age year span p′ kind′ age′ year′ span′ NotPrinted
+  pub first-not-printed : stepsShown (figureShown a) ≡ None → Settled p kind age year term p′ kind′ age′ year′ term′ NotPrinted
   first-not-printed e =
       record {
         other-kind = (λ q. clash cc, λ n. absurd (n one));
@@ -102,7 +104,7 @@ module _ {kind : Kind} {p : Params} {age year span : ℤ} {a : Answer} (h : Prom
         not-printed = λ q n n′ f f′. shown-none (figureShown a) e (ap figureShown (h .0) ∙ f);
       }
 
-  pub second-not-printed : stepsShown (figureShown a′) ≡ None → Settled p kind age year span p′ kind′ age′ year′ span′ NotPrinted
+  pub second-not-printed : stepsShown (figureShown a′) ≡ None → Settled p kind age year term p′ kind′ age′ year′ term′ NotPrinted
   second-not-printed e =
       record {
         other-kind = (λ q. clash cc, λ n. absurd (n one));
@@ -113,13 +115,13 @@ module _ {kind : Kind} {p : Params} {age year span : ℤ} {a : Answer} (h : Prom
 
   -- both have: the first answer's promise, of the second query
   same : {n n′ : ℕ} → stepsShown (figureShown a) ≡ At n → stepsShown (figureShown a′) ≡ At n′
-      → (n ≡ n′) ↔ OneStepOf p kind age year span p′ kind′ age′ year′ span′
+      → (n ≡ n′) ↔ OneStepOf p kind age year term p′ kind′ age′ year′ term′
   same {n} {n′} e e′ =
-      h .1 .one-step n (shown-at (figureShown a) e) p′ kind′ age′ year′ span′ n′ one
+      h .1 .one-step n (shown-at (figureShown a) e) p′ kind′ age′ year′ term′ n′ one
       (ap figureShown (sym (h′ .0)) ∙ shown-at (figureShown a′) e′)
 
   pub equal-printed : {n n′ : ℕ} → stepsShown (figureShown a) ≡ At n → stepsShown (figureShown a′) ≡ At n′ → n ≡ n′
-      → Settled p kind age year span p′ kind′ age′ year′ span′ Equal
+      → Settled p kind age year term p′ kind′ age′ year′ term′ Equal
   equal-printed e e′ s =
       record {
         other-kind = (λ q. clash cc, λ n. absurd (n one));
@@ -129,7 +131,7 @@ module _ {kind : Kind} {p : Params} {age year span : ℤ} {a : Answer} (h : Prom
       }
 
   pub different-printed : {n n′ : ℕ} → stepsShown (figureShown a) ≡ At n → stepsShown (figureShown a′) ≡ At n′ → (n ≡ n′ → ⊥)
-      → Settled p kind age year span p′ kind′ age′ year′ span′ Different
+      → Settled p kind age year term p′ kind′ age′ year′ term′ Different
   different-printed e e′ d =
       record {
         other-kind = (λ q. clash cc, λ n. absurd (n one));

@@ -2,7 +2,7 @@
 -- the p of its cell.
 use mathlib.Core.Path.{_≡_, refl, ap, sym, _∙_}
 use mathlib.Core.Bool.{Bool, true, false}
-use mathlib.Core.List.{List}
+use mathlib.Core.List.{List, append-nil}
 use Prim.Native.Nat.{ℕ, _-_, _≤_, _<_}
 use native.Mathlib.Nat.{zero-add}
 use native.Mathlib.Omega.{arith}
@@ -14,6 +14,7 @@ use lib.ListN.{take, getD}
 use lib.Seq.{getD-take}
 use mir.Facts.{yes-and}
 use Rattle.number_whole.specs.laws.Table.{listed-map, listed-at}
+use Rattle.number_fraction.specs.Ratio.{whole/}
 use Rattle.number_exponential.specs.declared.Ends.{Ends}
 use Rattle.number_exponential.specs.Billionths.{billionths}
 use Rattle.set_params.specs.declared.Params.{Params}
@@ -23,13 +24,15 @@ use Rattle.set_refusal.specs.Refusals.{refusalNumber}
 use Rattle.model_closure.specs.Weights.{lastClosed}
 use Rattle.number_exact.specs.Figure.{probabilityStep, figureOf}
 use Rattle.model_mortality.specs.Cell as cell
-use Rattle.quote_paths.specs.Path.{Place, placeAt, pathOf, factors, pathInRange}
+use Rattle.quote_paths.specs.Path.{Place, placeAt, pathOf, partYear, factors, pathInRange}
+use Rattle.quote_paths.specs.Values.{gridValue}
+use Rattle.quote_paths.specs.declared.Fold.the-variants as fold
 use Rattle.quote_paths.specs.laws.Answers.{range-out}
 use Rattle.quote_paths.specs.laws.Width.{one-place, one-cell}
 use Rattle.quote_kinds.specs.declared.Kind.{Kind}
 use Rattle.quote_kinds.specs.declared.Kind.the-variants.{Death}
-use Rattle.quote_kinds.specs.Kinds.{ruleOf, countOf, stepOf, mostSpan, rateOf}
-use Rattle.quote_table_tests.specs.TableTests.{ageInTable, yearInTable, spanInTable, rateInTable, firstFailed, tableTests}
+use Rattle.quote_kinds.specs.Kinds.{ruleOf, countOf, stepOf, mostSpan, longestSpan, spanOf, partOf, rateOf}
+use Rattle.quote_table_tests.specs.TableTests.{ageInTable, yearInTable, dateInTable, spanInTable, rateInTable, firstFailed, tableTests}
 use Rattle.quote_table_tests.specs.laws.TableLaws.{InTable}
 use Rattle.quote.specs.Quote.{queryPath, queryEnds, refusalOf, quoteOf, answerBy, answerOf}
 use Rattle.quote.specs.Demand.{shownOf, figureShown}
@@ -47,23 +50,24 @@ pub record Worked (p : Params) (year : ℤ) : Type 0 where
 -- ---- `q` is quoted at each age
 
 -- a query that passes each test is accepted
-pub all-accepted : {p : Params} {k : Kind} {age year span : ℤ} → Passed p k age year span → refusalOf p k age year span ≡ Accepted
+pub all-accepted : {p : Params} {k : Kind} {age year term : ℤ} → Passed p k age year term → refusalOf p k age year term ≡ Accepted
 unfolding refusalOf firstFailed tableTests
-all-accepted {p} {k} {age} {year} {span} h =
+all-accepted {p} {k} {age} {year} {term} h =
     let t = h .table in
     rw (
       is-true (inLimits p) (h .limits),
       is-true (ageInTable age) (t .age-in),
       is-true (yearInTable (ruleOf k) year) (t .year-in),
-      is-true (spanInTable (ruleOf k) age span) (t .span-in),
+      is-true (dateInTable (ruleOf k) term) (t .date-in),
+      is-true (spanInTable (ruleOf k) age year term) (t .span-in),
       is-true (rateInTable (ruleOf k)) (t .rate-in),
-      is-true (pathInRange p (queryPath k age year span)) (h .range),
+      is-true (pathInRange p (queryPath k age year term)) (h .range),
     )
 
 -- the year's cell of age x
-place-here : (n x : ℕ) → x < columnAges → placeAt false 0 n x ≡ record { age = x; year = n }
+place-here : (n x : ℕ) → x < columnAges → placeAt false 0 n x ≡ record { age = x; year = n; part = cell.wholeYear }
 unfolding placeAt
-place-here n x l = ap (λ (y : ℕ). record { age = y; year = n }) (omega arith)
+place-here n x l = ap (λ (y : ℕ). record { age = y; year = n; part = cell.wholeYear }) (omega arith)
 
 -- what it needs is in range
 cell-in-range : (p : Params) (n x : ℕ) → x < columnAges → T (pathInRange p (pathOf false 0 n columnAges))
@@ -76,17 +80,17 @@ cell-in-range p n x l t = go (cell.neededInRange p x n) refl
 
 q-in-range : (p : Params) (year : ℤ) (x : ℕ) → x < columnAges → T (pathInRange p (yearCells year))
     → T (pathInRange p (queryPath Death (pos x) year (pos 0)))
-unfolding yearCells queryPath ruleOf countOf pathInRange
+unfolding yearCells queryPath ruleOf countOf partOf whole/ partYear pathInRange
 q-in-range p year x l t =
     let n = natAbs year - startYear in
     rw (one-place true x n (omega arith)) (yes-and (cell.neededInRange p x n) true (cell-in-range p n x l t) tt)
 
 q-in-table : (year : ℤ) (x : ℕ) → x < columnAges → T (yearInTable (ruleOf Death) year)
     → InTable (ruleOf Death) (pos x) year (pos 0)
-unfolding ageInTable spanInTable rateInTable ruleOf mostSpan rateOf
+unfolding ageInTable dateInTable spanInTable rateInTable ruleOf mostSpan longestSpan spanOf rateOf
 q-in-table year x l y =
     let a : x ≤ lastClosed = omega arith in
-    record { age-in = rw (le-leb 0 x (omega arith), le-leb x lastClosed a) tt; year-in = y; span-in = tt; rate-in = tt }
+    record { age-in = rw (le-leb 0 x (omega arith), le-leb x lastClosed a) tt; year-in = y; date-in = tt; span-in = tt; rate-in = tt }
 
 pub q-accepted : {p : Params} {year : ℤ} (x : ℕ) → x < columnAges → Worked p year
     → refusalOf p Death (pos x) year (pos 0) ≡ Accepted
@@ -97,22 +101,24 @@ q-accepted {p} {year} x l h =
 -- ---- its figure
 
 pub figure-here : {p : Params} {year : ℤ} (x : ℕ) → x < columnAges → Worked p year
-    → figureHere p year x ≡ figureBy (cell.survival billionths p x (natAbs year - startYear))
-unfolding figureHere answerOf answerBy refusalNumber figureShown quoteOf queryEnds queryPath ruleOf countOf stepOf figureBy cell.death
+    → figureHere p year x ≡ figureBy (cell.survival billionths p x (natAbs year - startYear) cell.wholeYear)
+unfolding figureHere answerOf answerBy refusalNumber figureShown quoteOf queryEnds queryPath ruleOf countOf partOf whole/ partYear
+    stepOf figureBy cell.death
 figure-here {p} {year} x l h =
     rw (q-accepted x l h)
     (ap (λ (e : Ends). shownOf (figureOf probabilityStep e))
-    (one-cell billionths (billionths .positive) p true x (natAbs year - startYear) (omega arith)))
+    (ap (gridValue fold.Death billionths p) (append-nil (pathOf true x (natAbs year - startYear) 1))
+    ∙ one-cell billionths (billionths .positive) p true x (natAbs year - startYear) (omega arith)))
 
 -- ---- by the factors of the year's cells
 
 -- the factor of age x
 factor-here : (p : Params) (n x : ℕ) (es : List Ends) → x < columnAges
     → take columnAges es ≡ factors billionths p (pathOf false 0 n columnAges)
-    → getD es x empty ≡ cell.survival billionths p x n
+    → getD es x empty ≡ cell.survival billionths p x n cell.wholeYear
 unfolding factors pathOf
 factor-here p n x es l e =
-    let f : Place → Ends = λ c. cell.survival billionths p (c .age) (c .year) in
+    let f : Place → Ends = λ c. cell.survival billionths p (c .age) (c .year) (c .part) in
     sym (getD-take columnAges es x empty l)
     ∙ ap (λ (a : List Ends). getD a x empty) (e ∙ listed-map f (placeAt false 0 n) 0 columnAges)
     ∙ listed-at (λ (s : ℕ). f (placeAt false 0 n s)) empty 0 columnAges x l

@@ -1,10 +1,13 @@
 -- How great the numbers of a quote are: each end and the steps have at most 15 digits.
-use mathlib.Core.Path.{_≡_}
+use mathlib.Core.Path.{_≡_, refl}
 use mathlib.Core.Bool.{Bool, true, false, cond}
-use Prim.Native.Nat.{ℕ, _-_, _^_, _≤_, _<_}
+use mathlib.Core.List.{List, [], _∷_, _++_}
+use Prim.Native.Nat.{ℕ, zero, suc, _+_, _-_, _^_, _≤_, _<_}
 use native.Mathlib.Omega.{arith}
 use lib.Dec.{eqb}
 use lib.IntN.{ℤ, natAbs}
+use lib.ListN.{length, length-append}
+use Rattle.number_fraction.specs.Ratio.{Ratio}
 use Rattle.text_tokens.specs.Number.{mostDigits}
 use Rattle.number_exponential.specs.declared.Ends.{Ends}
 use Rattle.number_exponential.specs.Billionths.{billionths}
@@ -15,17 +18,19 @@ use Rattle.set_refusal.specs.declared.Refusal.the-variants.{Accepted}
 use Rattle.set_params.specs.Limits.{startYear}
 use Rattle.number_exact.specs.declared.Figure.the-variants.{Printed, Open}
 use Rattle.number_exact.specs.Figure.{halfUp, figureOf}
-use Rattle.quote_paths.specs.laws.Answers.{path-length}
+use Rattle.number_folds.specs.code.Code.{mostFactors}
+use Rattle.quote_paths.specs.Path.{Place, pathOf, partYear}
+use Rattle.quote_paths.specs.laws.Answers.{path-length, no-part}
 use Rattle.quote_paths.specs.laws.Width.{value-small}
 use Rattle.quote_kinds.specs.declared.Kind.{Kind}
 use Rattle.quote_paths.specs.declared.Fold.{Fold}
 use Rattle.quote_paths.specs.declared.Fold.the-variants.{Death, Survival, Expectancy, Annuity}
-use Rattle.quote_kinds.specs.Kinds.{ruleOf, countOf, stepOf}
+use Rattle.quote_kinds.specs.Kinds.{ruleOf, countOf, stepOf, spanOf, partOf}
 use Rattle.quote_along.specs.declared.Quote.{Quote}
 use Rattle.quote_along.specs.declared.Answer.{Answer}
 use Rattle.quote.specs.Quote.{queryPath, queryEnds, refusalOf, quoteOf, answerBy, answerOf}
 use Rattle.quote.specs.laws.AnswerLaws.{AnswerBy, quoted, refused, answer-by}
-use Rattle.quote.specs.laws.Tests.{all-passed, counted, path-room}
+use Rattle.quote.specs.laws.Tests.{all-passed, Counted, counted, path-room, part-after}
 use Rattle.run_figure_text.specs.code.Sizes.{Printable}
 use Rattle.run_answer_text.specs.code.Sizes.{Sized, SizedAnswer}
 
@@ -51,18 +56,61 @@ figure-small f e h = go (eqb (halfUp (stepOf f) (e .lower)) (halfUp (stepOf f) (
 
 -- ---- every answer
 
-quote-sized : (p : Params) (k : Kind) (age year span : ℤ) → refusalOf p k age year span ≡ Accepted
-    → Sized (quoteOf p k age year span)
-unfolding quoteOf queryEnds queryPath
-quote-sized p k age year span e =
-    let c = counted k (all-passed p k age year span e .table) in
+-- its path has no more places than there is room for factors: a part of a year takes one that the whole years leave
+part-length : (x n : ℕ) (part : Ratio) → length (partYear x n part) ≤ 1
+unfolding partYear
+part-length x n part = go (eqb (part .num) 0) _
+  where
+    go : (b : Bool) (c : Place) → length (cond b [] (c ∷ [])) ≤ 1
+    go true c = omega arith
+    go false c = omega arith
+
+module _ (k : Kind) {age year term : ℤ} (c : Counted k age year term) where
+  abbrev n : ℕ
+  n = natAbs year - startYear
+
+  abbrev count : ℕ
+  count = countOf (ruleOf k .fold) n (natAbs (spanOf (ruleOf k) year term))
+
+  abbrev part : Ratio
+  part = partOf (ruleOf k) term
+
+  path-small : length (queryPath k age year term) ≤ mostFactors
+  unfolding queryPath
+  path-small = go (part .num) refl
+    where
+      whole : List Place
+      whole = pathOf (ruleOf k .cohort) (natAbs age) n count
+
+      after : List Place
+      after = partYear (natAbs age + count) (n + count) part
+
+      l : length whole ≡ count
+      l = path-length (ruleOf k .cohort) (natAbs age) n count
+
+      go : (m : ℕ) → part .num ≡ m → length (whole ++ after) ≤ mostFactors
+      go zero e = rw (no-part (natAbs age + count) (n + count) part whole e) (omega (arith, l, path-room k c))
+      go (suc m) e =
+          omega (
+            arith,
+            l,
+            length-append whole after,
+            part-length (natAbs age + count) (n + count) part,
+            part-after k c (λ z. omega (arith, e, z)),
+            c .year-from,
+          )
+
+quote-sized : (p : Params) (k : Kind) (age year term : ℤ) → refusalOf p k age year term ≡ Accepted
+    → Sized (quoteOf p k age year term)
+unfolding quoteOf queryEnds
+quote-sized p k age year term e =
     let f = ruleOf k .fold in
-    let l = path-length (ruleOf k .cohort) (natAbs age) (natAbs year - startYear) (countOf f (natAbs year - startYear) (natAbs span)) in
-    let v = value-small billionths billionths-sound p (queryPath k age year span) (omega (arith, l, path-room k c)) f in
+    let c = counted k (all-passed p k age year term e .table) in
+    let v = value-small billionths billionths-sound p (queryPath k age year term) (path-small k c) f in
     record {
       lower = omega (arith, v .lower);
       upper = omega (arith, v .upper);
-      figure = figure-small f (queryEnds p k age year span) (omega (arith, v .lower));
+      figure = figure-small f (queryEnds p k age year term) (omega (arith, v .lower));
     }
 
 sized-by : (r : Refusal) (a : Quote) → (r ≡ Accepted → Sized a) → SizedAnswer (answerBy r a)
@@ -73,7 +121,7 @@ sized-by r a h = go (answer-by r a)
     go (quoted e) = h e
     go (refused n) = tt
 
-pub answer-sized : (p : Params) (k : Kind) (age year span : ℤ) → SizedAnswer (answerOf p k age year span)
+pub answer-sized : (p : Params) (k : Kind) (age year term : ℤ) → SizedAnswer (answerOf p k age year term)
 unfolding answerOf
-answer-sized p k age year span =
-    sized-by (refusalOf p k age year span) (quoteOf p k age year span) (quote-sized p k age year span)
+answer-sized p k age year term =
+    sized-by (refusalOf p k age year term) (quoteOf p k age year term) (quote-sized p k age year term)

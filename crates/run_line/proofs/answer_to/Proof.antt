@@ -10,7 +10,7 @@ unfolding queryAnswer
 returns c =
     let d = c .before .before .before .struct-told .given in
     let q = c .before .before .before .before .args .query in
-    rw (held (q .age) (d .1 .0 .1), held (q .year) (d .1 .1 .0 .1), held (q .span) (d .1 .1 .1 .0 .1))
+    rw (held (q .age) (d .1 .0 .1), held (q .year) (d .1 .1 .0 .1), held (q .term) (d .1 .1 .1 .0 .1))
     at (c .quote-within .ensures)
 
 pub answer-to-spec : {M : Type 1} → statement M

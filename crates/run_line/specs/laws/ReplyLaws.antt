@@ -56,7 +56,7 @@ query-lengths =
 
 pub query-sized : (p : Params) (q : Query) → SizedAnswer (queryAnswer p q)
 unfolding queryAnswer
-query-sized p q = answer-sized p (q .kind) (q .age) (q .year) (q .span)
+query-sized p q = answer-sized p (q .kind) (q .age) (q .year) (q .term)
 
 -- ---- the text by the mode, from a query's decimals and its answers
 

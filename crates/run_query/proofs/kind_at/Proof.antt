@@ -9,7 +9,7 @@ use lib.ListN.{drop}
 use Rattle.text_tokens.specs.Text.{bytesOf}
 use Rattle.text_tokens.specs.laws.TextLaws.{text-room}
 use Rattle.quote_kinds.specs.declared.Kind.the-variants.{Death, CohortSurvival, PeriodSurvival, CohortExpectancy, PeriodExpectancy}
-use Rattle.quote_kinds.specs.declared.Kind.the-variants.{CohortAnnuity, PeriodAnnuity}
+use Rattle.quote_kinds.specs.declared.Kind.the-variants.{CohortAnnuity, PeriodAnnuity, Day}
 use Rattle.run_query.specs.Query.{wordOf, onOffer, readWord}
 use Rattle.run_query.proofs.WordSteps.{word-found, word-missing}
 use Rattle.run_query.proofs.kind_at.Statement.{statement}
@@ -37,6 +37,9 @@ start₆ c = start₅ (c .before .before .before)
 
 abbrev start₇ : tie.After-text-at7 → tie.Start
 start₇ c = start₆ (c .before .before .before)
+
+abbrev start₈ : tie.After-text-at8 → tie.Start
+start₈ c = start₇ (c .before .before .before)
 
 -- ---- the words that are left after the first n
 
@@ -84,17 +87,23 @@ left₇ c =
     left₆ (c .before .before .before)
     ∙ word-missing _ _ (PeriodAnnuity (pos 0)) _ (c .before .text-at7 .ensures) (c .if7 .left)
 
+left₈ : (c : tie.Else8) → Left 8 (start₈ (c .before))
+unfolding onOffer wordOf bytesOf
+left₈ c =
+    left₇ (c .before .before .before)
+    ∙ word-missing _ _ Day _ (c .before .text-at8 .ensures) (c .if8 .left)
+
 -- ---- the needs
 
-add-t14 : tie.Need-add-t14
-add-t14 c = omega (arith, text-room _ _ _ (sym (c .before .text-at .ensures) ∙ c .if1 .taken))
+add-t15 : tie.Need-add-t15
+add-t15 c = omega (arith, text-room _ _ _ (sym (c .before .text-at .ensures) ∙ c .if1 .taken))
 
 returns : tie.Need-returns
 unfolding onOffer wordOf bytesOf
 returns c = sym (word-found _ _ Death _ (c .before .text-at .ensures) (c .if1 .taken))
 
-add-t19 : tie.Need-add-t19
-add-t19 c = omega (arith, text-room _ _ _ (sym (c .before .text-at2 .ensures) ∙ c .if2 .taken))
+add-t20 : tie.Need-add-t20
+add-t20 c = omega (arith, text-room _ _ _ (sym (c .before .text-at2 .ensures) ∙ c .if2 .taken))
 
 returns-2 : tie.Need-returns-2
 unfolding onOffer wordOf bytesOf
@@ -103,8 +112,8 @@ returns-2 c =
     (left₁ (c .before .before .before)
     ∙ word-found _ _ CohortSurvival _ (c .before .text-at2 .ensures) (c .if2 .taken))
 
-add-t24 : tie.Need-add-t24
-add-t24 c = omega (arith, text-room _ _ _ (sym (c .before .text-at3 .ensures) ∙ c .if3 .taken))
+add-t25 : tie.Need-add-t25
+add-t25 c = omega (arith, text-room _ _ _ (sym (c .before .text-at3 .ensures) ∙ c .if3 .taken))
 
 returns-3 : tie.Need-returns-3
 unfolding onOffer wordOf bytesOf
@@ -113,8 +122,8 @@ returns-3 c =
     (left₂ (c .before .before .before)
     ∙ word-found _ _ PeriodSurvival _ (c .before .text-at3 .ensures) (c .if3 .taken))
 
-add-t29 : tie.Need-add-t29
-add-t29 c = omega (arith, text-room _ _ _ (sym (c .before .text-at4 .ensures) ∙ c .if4 .taken))
+add-t30 : tie.Need-add-t30
+add-t30 c = omega (arith, text-room _ _ _ (sym (c .before .text-at4 .ensures) ∙ c .if4 .taken))
 
 returns-4 : tie.Need-returns-4
 unfolding onOffer wordOf bytesOf
@@ -123,8 +132,8 @@ returns-4 c =
     (left₃ (c .before .before .before)
     ∙ word-found _ _ CohortExpectancy _ (c .before .text-at4 .ensures) (c .if4 .taken))
 
-add-t34 : tie.Need-add-t34
-add-t34 c = omega (arith, text-room _ _ _ (sym (c .before .text-at5 .ensures) ∙ c .if5 .taken))
+add-t35 : tie.Need-add-t35
+add-t35 c = omega (arith, text-room _ _ _ (sym (c .before .text-at5 .ensures) ∙ c .if5 .taken))
 
 returns-5 : tie.Need-returns-5
 unfolding onOffer wordOf bytesOf
@@ -133,8 +142,8 @@ returns-5 c =
     (left₄ (c .before .before .before)
     ∙ word-found _ _ PeriodExpectancy _ (c .before .text-at5 .ensures) (c .if5 .taken))
 
-add-t39 : tie.Need-add-t39
-add-t39 c = omega (arith, text-room _ _ _ (sym (c .before .text-at6 .ensures) ∙ c .if6 .taken))
+add-t40 : tie.Need-add-t40
+add-t40 c = omega (arith, text-room _ _ _ (sym (c .before .text-at6 .ensures) ∙ c .if6 .taken))
 
 returns-6 : tie.Need-returns-6
 unfolding onOffer wordOf bytesOf
@@ -143,8 +152,8 @@ returns-6 c =
     (left₅ (c .before .before .before)
     ∙ word-found _ _ (CohortAnnuity (pos 0)) _ (c .before .text-at6 .ensures) (c .if6 .taken))
 
-add-t44 : tie.Need-add-t44
-add-t44 c = omega (arith, text-room _ _ _ (sym (c .before .text-at7 .ensures) ∙ c .if7 .taken))
+add-t45 : tie.Need-add-t45
+add-t45 c = omega (arith, text-room _ _ _ (sym (c .before .text-at7 .ensures) ∙ c .if7 .taken))
 
 returns-7 : tie.Need-returns-7
 unfolding onOffer wordOf bytesOf
@@ -153,15 +162,24 @@ returns-7 c =
     (left₆ (c .before .before .before)
     ∙ word-found _ _ (PeriodAnnuity (pos 0)) _ (c .before .text-at7 .ensures) (c .if7 .taken))
 
+add-t50 : tie.Need-add-t50
+add-t50 c =
+    omega (arith, start₈ (c .before) .good .0, text-room _ _ _ (sym (c .before .text-at8 .ensures) ∙ c .if8 .taken))
+
 returns-8 : tie.Need-returns-8
+unfolding onOffer wordOf bytesOf
+returns-8 c =
+    sym (left₇ (c .before .before .before) ∙ word-found _ _ Day _ (c .before .text-at8 .ensures) (c .if8 .taken))
+
+returns-9 : tie.Need-returns-9
 unfolding onOffer readWord
-returns-8 c = sym (left₇ c)
+returns-9 c = sym (left₈ c)
 
 pub kind-at-spec : {M : Type 1} → statement M
 kind-at-spec =
     tie.close
-    (tie.spec (λ c. search needs) (λ c κs. search needs) add-t14 returns (λ c. search needs) (λ c κs. search needs)
-    add-t19 returns-2 (λ c. search needs) (λ c κs. search needs) add-t24 returns-3 (λ c. search needs)
-    (λ c κs. search needs) add-t29 returns-4 (λ c. search needs) (λ c κs. search needs) add-t34 returns-5
-    (λ c. search needs) (λ c κs. search needs) add-t39 returns-6 (λ c. search needs) (λ c κs. search needs) add-t44
-    returns-7 returns-8)
+    (tie.spec (λ c. search needs) (λ c κs. search needs) add-t15 returns (λ c. search needs) (λ c κs. search needs)
+    add-t20 returns-2 (λ c. search needs) (λ c κs. search needs) add-t25 returns-3 (λ c. search needs)
+    (λ c κs. search needs) add-t30 returns-4 (λ c. search needs) (λ c κs. search needs) add-t35 returns-5
+    (λ c. search needs) (λ c κs. search needs) add-t40 returns-6 (λ c. search needs) (λ c κs. search needs) add-t45
+    returns-7 (λ c. search needs) (λ c κs. search needs) add-t50 returns-8 returns-9)

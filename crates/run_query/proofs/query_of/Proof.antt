@@ -12,7 +12,7 @@ use Rattle.text_tokens.specs.laws.ReadLaws.{lacks, has, held, read-malformed, r
 use Rattle.text_tokens.specs.laws.Steps.{goes, stops}
 use Rattle.run_query.specs.declared.Query.{Query}
 use Rattle.run_query.specs.Query.{alone, readQuery}
-use Rattle.run_query.proofs.QuerySteps.{lineEnd, fromRate, fromSpan, fromYear, fromAge, fromWord}
+use Rattle.run_query.proofs.QuerySteps.{lineEnd, fromRate, fromTerm, fromYear, fromAge, fromWord}
 use Rattle.run_query.proofs.QuerySteps.{start-malformed, start-taken, followed, at-end, kind-malformed, kind-taken}
 use Rattle.run_query.proofs.query_of.Statement.{statement}
 use Rattle.run_query.proofs.query_of.Tie as tie
@@ -35,7 +35,7 @@ abbrev told₂ : tie.After-known-told3 → tie.After-known-told2
 told₂ c = c .before .before .before .before .before
 
 abbrev told₃ : tie.After-known-told4 → tie.After-known-told3
-told₃ c = c .before .before .before .before .before
+told₃ c = c .before .before .before .before
 
 abbrev told₄ : tie.After-known-told5 → tie.After-known-told4
 told₄ c = c .before .before .before .before
@@ -60,7 +60,7 @@ asked c =
       kind = c .before .kind .given .0 .0;
       age = c₂ .before .age .given .0 .0;
       year = c₃ .before .year .given .0 .0;
-      span = c₄ .before .span .given .0 .0;
+      term = c₄ .before .term .given .0 .0;
     }
 
 -- ---- what each part leaves to be read
@@ -85,28 +85,28 @@ after-age c =
 
 after-year : (c : tie.After-known-told3) → let c₂ = told₂ c in let c₁ = told c₂ in let l = line (start c₁) in
     let g = c .before .year .given .0 in
-    readQuery l ≡ fromSpan (c₁ .before .word .given .0 .0) (c₂ .before .age .given .0 .0) (g .0) (drop (g .1 .0) l)
+    readQuery l ≡ fromTerm (c₁ .before .word .given .0 .0) (c₂ .before .age .given .0 .0) (g .0) (drop (g .1 .0) l)
 unfolding bytesOf
 after-year c =
     after-age (told₂ c)
     ∙ goes _ (read-taken _ (c .before .before .before .field-at2 .ensures) (c .before .year .given .1))
 
-after-span : (c : tie.After-known-told4) → let c₃ = told₃ c in let c₂ = told₂ c₃ in let c₁ = told c₂ in
+after-term : (c : tie.After-known-told4) → let c₃ = told₃ c in let c₂ = told₂ c₃ in let c₁ = told c₂ in
     let l = line (start c₁) in
-    let g = c .before .span .given .0 in
+    let g = c .before .term .given .0 in
     readQuery l
     ≡ fromRate (c₁ .before .word .given .0 .0) (c₂ .before .age .given .0 .0) (c₃ .before .year .given .0 .0) (g .0)
     (drop (g .1 .0) l)
 unfolding bytesOf
-after-span c =
+after-term c =
     after-year (told₃ c)
-    ∙ goes _ (read-taken _ (c .before .before .before .field-at3 .ensures) (c .before .span .given .1))
+    ∙ goes _ (read-taken _ (c .before .before .before .term-at .ensures) (c .before .term .given .1))
 
 after-rate : (c : tie.After-known-told5) → let l = line (start (told (told₂ (told₃ (told₄ c))))) in
     readQuery l ≡ lineEnd (asked c) (drop (c .before .kind .given .0 .1 .0) l)
 unfolding asked bytesOf
 after-rate c =
-    after-span (told₄ c)
+    after-term (told₄ c)
     ∙ goes _ (kind-taken _ (c .before .before .before .rate-at .ensures) (c .before .kind .given .1))
 
 after-end : (c : tie.Else2)
@@ -140,15 +140,14 @@ returns-4 c =
     sym (after-age (f .before .before) ∙ stops _ (read-malformed _ (f .field-at2 .ensures) (c .enum-told3 .given .1)))
 
 returns-5 : tie.Need-returns-5
-unfolding bytesOf
 returns-5 c =
     let f = c .before .before in
-    sym (after-year (f .before .before) ∙ stops _ (read-malformed _ (f .field-at3 .ensures) (c .enum-told4 .given .1)))
+    sym (after-year (f .before) ∙ stops _ (read-malformed _ (f .term-at .ensures) (c .enum-told4 .given .1)))
 
 returns-6 : tie.Need-returns-6
 returns-6 c =
     let k = c .before .before in
-    sym (after-span (k .before) ∙ stops _ (kind-malformed _ (k .rate-at .ensures) (c .enum-told5 .given .1)))
+    sym (after-term (k .before) ∙ stops _ (kind-malformed _ (k .rate-at .ensures) (c .enum-told5 .given .1)))
 
 returns-7 : tie.Need-returns-7
 unfolding bytesOf
@@ -173,7 +172,7 @@ returns-9 c =
     rw (
       held (c₂ .before .age .given .0 .0) (c₂ .known-told2 .given .0 .1),
       held (c₃ .before .year .given .0 .0) (c₃ .known-told3 .given .0 .1),
-      held (c₄ .before .span .given .0 .0) (c₄ .known-told4 .given .0 .1),
+      held (c₄ .before .term .given .0 .0) (c₄ .known-told4 .given .0 .1),
     )
     (sym (after-end (c .before) ∙ at-end _ (line (first (c .before))) (end (c .before)) (omega arith)))
 
@@ -183,6 +182,6 @@ query-of-spec =
     (tie.spec (λ c. search needs) (λ c κs. search needs) returns (λ c κs. search needs) (λ c. search needs)
     (λ c. search needs) returns-2 (λ c. search needs) (λ c κs. search needs) (λ c. search needs) (λ c. search needs)
     returns-3 (λ c. search needs) (λ c κs. search needs) (λ c. search needs) (λ c. search needs) returns-4
-    (λ c. search needs) (λ c κs. search needs) (λ c. search needs) (λ c. search needs) returns-5 (λ c κs. search needs)
+    (λ c κs. search needs) (λ c. search needs) (λ c. search needs) returns-5 (λ c κs. search needs)
     (λ c. search needs) (λ c. search needs) returns-6 (λ c. search needs) (λ c κs. search needs) returns-7 add-if3
     returns-8 returns-9)

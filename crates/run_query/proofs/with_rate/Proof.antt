@@ -44,8 +44,13 @@ returns-7 c =
     let s = c .before .before in
     ap PeriodAnnuity (toZ-ofZ (s .fits .rate)) ∙ at s (c .enum-told7 .given .1)
 
+returns-8 : tie.Need-returns-8
+unfolding withRate
+returns-8 c = at (c .before .before) (c .enum-told8 .given .1)
+
 pub with-rate-spec : {M : Type 1} → statement M
 with-rate-spec =
     tie.close
     (tie.spec (λ c. search needs) (λ c. search needs) (λ c. search needs) (λ c. search needs) (λ c. search needs)
-    (λ c. search needs) (λ c. search needs) returns returns-2 returns-3 returns-4 returns-5 returns-6 returns-7)
+    (λ c. search needs) (λ c. search needs) (λ c. search needs) returns returns-2 returns-3 returns-4 returns-5 returns-6
+    returns-7 returns-8)

@@ -1,7 +1,7 @@
 -- A query and its line: the line of a query reads as the query, and what reads as a query is its line. So each query has
 -- one line, and each line one query. And how long a query's text is.
 use mathlib.Core.Bool.{Bool, true, false, cond}
-use mathlib.Core.Path.{_≡_, refl, _∙_}
+use mathlib.Core.Path.{_≡_, refl, ap, _∙_}
 use Prim.Native.Nat.{ℕ, _+_, _^_, _≤_, _<_}
 use native.Mathlib.Omega.{arith}
 use mathlib.Core.List.{List, [], _∷_, _++_, append-assoc, append-nil}
@@ -18,10 +18,10 @@ use Rattle.text_tokens.specs.laws.NumberTrip.{noDigitFirst, malformed-not-taken
 use Rattle.sheet.specs.laws.SheetTrip.{then-taken}
 use Rattle.quote_kinds.specs.declared.Kind.{Kind}
 use Rattle.quote_kinds.specs.declared.Kind.the-variants.{Death, CohortSurvival, PeriodSurvival, CohortExpectancy, PeriodExpectancy}
-use Rattle.quote_kinds.specs.declared.Kind.the-variants.{CohortAnnuity, PeriodAnnuity}
+use Rattle.quote_kinds.specs.declared.Kind.the-variants.{CohortAnnuity, PeriodAnnuity, Day}
 use Rattle.quote_kinds.specs.Kinds.{ruleOf, takesRate, withRate, rateAside, rateOf}
 use Rattle.run_query.specs.declared.Query.{Query}
-use Rattle.run_query.specs.Query.{wordOf, onOffer, kindRate, rateText, queryText}
+use Rattle.run_query.specs.Query.{wordOf, onOffer, kindRate, termName, rateText, queryText}
 use Rattle.run_query.specs.Query.{readWord, readField, readRate, alone, readQuery}
 
 -- ---- a word
@@ -35,6 +35,7 @@ word-reads CohortExpectancy rest = refl
 word-reads PeriodExpectancy rest = refl
 word-reads (CohortAnnuity rate) rest = refl
 word-reads (PeriodAnnuity rate) rest = refl
+word-reads Day rest = refl
 
 word-read : (ks : List Kind) (bs : List ℕ) {k : Kind} {rest : List ℕ} → readWord ks bs ≡ taken k rest → bs ≡ wordOf k ++ rest
 unfolding readWord
@@ -59,6 +60,7 @@ word-length CohortExpectancy = omega arith
 word-length PeriodExpectancy = omega arith
 word-length (CohortAnnuity rate) = omega arith
 word-length (PeriodAnnuity rate) = omega arith
+word-length Day = omega arith
 
 -- ---- a field
 
@@ -74,6 +76,37 @@ unfolding readField
 field-read name bs {v} {rest} e =
     then-taken (takeText name bs) _ e λ u after q r. rw (takeText-whole name bs q, number-read after v rest r .is)
 
+-- ---- the name of a term
+
+-- it is the same whatever the rate
+term-aside : (k : Kind) → termName (rateAside k) ≡ termName k
+unfolding termName ruleOf rateAside withRate
+term-aside Death = refl
+term-aside CohortSurvival = refl
+term-aside PeriodSurvival = refl
+term-aside CohortExpectancy = refl
+term-aside PeriodExpectancy = refl
+term-aside (CohortAnnuity rate) = refl
+term-aside (PeriodAnnuity rate) = refl
+term-aside Day = refl
+
+-- six bytes, of which the first is no digit
+term-length : (k : Kind) → length (termName k) ≡ 6
+unfolding termName bytesOf
+term-length k = go (ruleOf k .dated)
+  where
+    go : (dated : Bool) → length (cond dated (bytesOf " date=") (bytesOf " span=")) ≡ 6
+    go true = refl
+    go false = refl
+
+term-ends : (k : Kind) (rest : List ℕ) → T (noDigitFirst (termName k ++ rest))
+unfolding termName bytesOf isDigit
+term-ends k rest = go (ruleOf k .dated)
+  where
+    go : (dated : Bool) → T (noDigitFirst (cond dated (bytesOf " date=") (bytesOf " span=") ++ rest))
+    go true = tt
+    go false = tt
+
 -- ---- a rate
 
 rate-reads : (k : Kind) (rest : List ℕ) → natAbs (kindRate k) < 10 ^ mostDigits → T (noDigitFirst rest)
@@ -88,35 +121,40 @@ rate-reads (CohortAnnuity rate) rest h t =
     rw (append-assoc (bytesOf " rate=") (numberText rate) rest) (goes _ (field-reads (bytesOf " rate=") rate rest h t))
 rate-reads (PeriodAnnuity rate) rest h t =
     rw (append-assoc (bytesOf " rate=") (numberText rate) rest) (goes _ (field-reads (bytesOf " rate=") rate rest h t))
+rate-reads Day rest h t = refl
 
--- the bytes are the text of the kind's rate and the rest, and the kind's word is the word that was read
+-- the bytes are the text of the kind's rate and the rest; the kind's word and the name of its term are those of the word that
+-- was read
 record RateOf (word k : Kind) (bs rest : List ℕ) : Type 0 where
   is : bs ≡ rateText k ++ rest
   same : wordOf word ≡ wordOf k
+  term : termName word ≡ termName k
 
 rated : (word : Kind) (rate : ℤ) (bs rest : List ℕ) → takesRate word ≡ true
     → bs ≡ bytesOf " rate=" ++ (numberText rate ++ rest)
     → RateOf word (withRate word rate) bs rest
-unfolding rateText takesRate withRate ruleOf rateOf wordOf
+unfolding rateText takesRate withRate ruleOf rateOf wordOf termName
 rated Death rate bs rest e f = clash cc
 rated CohortSurvival rate bs rest e f = clash cc
 rated PeriodSurvival rate bs rest e f = clash cc
 rated CohortExpectancy rate bs rest e f = clash cc
 rated PeriodExpectancy rate bs rest e f = clash cc
 rated (CohortAnnuity old) rate bs rest e f =
-    record { is = f ∙ rw (append-assoc (bytesOf " rate=") (numberText rate) rest); same = refl }
+    record { is = f ∙ rw (append-assoc (bytesOf " rate=") (numberText rate) rest); same = refl; term = refl }
 rated (PeriodAnnuity old) rate bs rest e f =
-    record { is = f ∙ rw (append-assoc (bytesOf " rate=") (numberText rate) rest); same = refl }
+    record { is = f ∙ rw (append-assoc (bytesOf " rate=") (numberText rate) rest); same = refl; term = refl }
+rated Day rate bs rest e f = clash cc
 
 unrated : (k : Kind) (bs : List ℕ) → takesRate k ≡ false → RateOf k k bs bs
 unfolding rateText takesRate ruleOf rateOf
-unrated Death bs e = record { is = refl; same = refl }
-unrated CohortSurvival bs e = record { is = refl; same = refl }
-unrated PeriodSurvival bs e = record { is = refl; same = refl }
-unrated CohortExpectancy bs e = record { is = refl; same = refl }
-unrated PeriodExpectancy bs e = record { is = refl; same = refl }
+unrated Death bs e = record { is = refl; same = refl; term = refl }
+unrated CohortSurvival bs e = record { is = refl; same = refl; term = refl }
+unrated PeriodSurvival bs e = record { is = refl; same = refl; term = refl }
+unrated CohortExpectancy bs e = record { is = refl; same = refl; term = refl }
+unrated PeriodExpectancy bs e = record { is = refl; same = refl; term = refl }
 unrated (CohortAnnuity rate) bs e = clash cc
 unrated (PeriodAnnuity rate) bs e = clash cc
+unrated Day bs e = record { is = refl; same = refl; term = refl }
 
 rate-read : (word : Kind) (bs : List ℕ) {k : Kind} {rest : List ℕ} → readRate word bs ≡ taken k rest → RateOf word k bs rest
 unfolding readRate
@@ -146,6 +184,7 @@ rate-ends CohortExpectancy = tt
 rate-ends PeriodExpectancy = tt
 rate-ends (CohortAnnuity rate) = tt
 rate-ends (PeriodAnnuity rate) = tt
+rate-ends Day = tt
 
 rate-length : (k : Kind) → length (rateText k) ≤ 22
 unfolding rateText takesRate ruleOf rateOf bytesOf
@@ -156,6 +195,7 @@ rate-length CohortExpectancy = omega arith
 rate-length PeriodExpectancy = omega arith
 rate-length (CohortAnnuity rate) = omega (arith, number-length rate)
 rate-length (PeriodAnnuity rate) = omega (arith, number-length rate)
+rate-length Day = omega arith
 
 -- ---- a query
 
@@ -163,14 +203,14 @@ rate-length (PeriodAnnuity rate) = omega (arith, number-length rate)
 pub record Small (q : Query) : Type 0 where
   pub age : natAbs (q .age) < 10 ^ mostDigits
   pub year : natAbs (q .year) < 10 ^ mostDigits
-  pub span : natAbs (q .span) < 10 ^ mostDigits
+  pub term : natAbs (q .term) < 10 ^ mostDigits
   pub rate : natAbs (kindRate (q .kind)) < 10 ^ mostDigits
 
 -- the text, part by part, with what follows it
 query-apart : (q : Query) (rest : List ℕ)
     → queryText q ++ rest
     ≡ bytesOf "kind=" ++ (wordOf (q .kind) ++ (bytesOf " age=" ++ (numberText (q .age)
-    ++ (bytesOf " year=" ++ (numberText (q .year) ++ (bytesOf " span=" ++ (numberText (q .span)
+    ++ (bytesOf " year=" ++ (numberText (q .year) ++ (termName (q .kind) ++ (numberText (q .term)
     ++ (rateText (q .kind) ++ rest))))))))
 unfolding queryText
 query-apart q rest = simp append-assoc
@@ -189,34 +229,36 @@ query-text line {q} e =
     then-taken (readWord onOffer b₀) _ f₀ λ word b₁ e₁ f₁.
     then-taken (readField (bytesOf " age=") b₁) _ f₁ λ age b₂ e₂ f₂.
     then-taken (readField (bytesOf " year=") b₂) _ f₂ λ year b₃ e₃ f₃.
-    then-taken (readField (bytesOf " span=") b₃) _ f₃ λ span b₄ e₄ f₄.
+    then-taken (readField (termName word) b₃) _ f₃ λ term b₄ e₄ f₄.
     then-taken (readRate word b₄) _ f₄ λ kind b₅ e₅ f₅.
     then-taken (takeText (bytesOf "\n") b₅) _ f₅ λ v b₆ e₆ f₆.
-    let r : Query = record { kind = kind; age = age; year = year; span = span } in
+    let r : Query = record { kind = kind; age = age; year = year; term = term } in
     let (none, same) = alone-taken r b₆ f₆ in
     let a = field-read (bytesOf " age=") b₁ e₂ in
     let y = field-read (bytesOf " year=") b₂ e₃ in
-    let s = field-read (bytesOf " span=") b₃ e₄ in
+    let s = field-read (termName word) b₃ e₄ in
     let k = rate-read word b₄ e₅ in
     let l : b₅ ≡ bytesOf "\n" = takeText-whole (bytesOf "\n") b₅ e₆ ∙ rw (none, append-nil) in
     rw (← same)
     (takeText-whole (bytesOf "kind=") line e₀
-    ∙ rw (word-read onOffer b₀ e₁, k .same, a, y, s, k .is, l, query-apart r (bytesOf "\n")))
+    ∙ rw (word-read onOffer b₀ e₁, k .same, a, y, s, k .term, k .is, l, query-apart r (bytesOf "\n")))
 
 -- the line of a query whose numbers have so few digits reads as the query
 pub query-reads : (q : Query) → Small q → readQuery (queryText q ++ bytesOf "\n") ≡ taken q []
 unfolding readQuery alone bytesOf isDigit
 query-reads q h =
     let r = rateText (q .kind) ++ bytesOf "\n" in
-    let s = bytesOf " span=" ++ (numberText (q .span) ++ r) in
+    let s = termName (q .kind) ++ (numberText (q .term) ++ r) in
     let y = bytesOf " year=" ++ (numberText (q .year) ++ s) in
     let a = bytesOf " age=" ++ (numberText (q .age) ++ y) in
     rw (query-apart q (bytesOf "\n"))
     (goes _ (takeText-split (bytesOf "kind=") (wordOf (q .kind) ++ a))
     ∙ goes _ (word-reads (q .kind) a)
     ∙ goes _ (field-reads (bytesOf " age=") (q .age) y (h .age) tt)
-    ∙ goes _ (field-reads (bytesOf " year=") (q .year) s (h .year) tt)
-    ∙ goes _ (field-reads (bytesOf " span=") (q .span) r (h .span) (rate-ends (q .kind)))
+    ∙ goes _ (field-reads (bytesOf " year=") (q .year) s (h .year) (term-ends (q .kind) _))
+    ∙ goes _
+    (ap (λ (name : List ℕ). readField name s) (term-aside (q .kind))
+    ∙ field-reads (termName (q .kind)) (q .term) r (h .term) (rate-ends (q .kind)))
     ∙ goes _ (rate-reads (q .kind) (bytesOf "\n") (h .rate) tt)
     ∙ goes _ (takeText-split (bytesOf "\n") []))
 
@@ -226,9 +268,9 @@ query-reads q h =
 query-length : (q : Query)
     → length (queryText q)
     ≡ 22 + length (wordOf (q .kind)) + length (numberText (q .age)) + length (numberText (q .year))
-    + length (numberText (q .span)) + length (rateText (q .kind))
+    + length (numberText (q .term)) + length (rateText (q .kind))
 unfolding queryText bytesOf
-query-length q = simp length-append (omega arith)
+query-length q = simp length-append (omega (arith, term-length (q .kind)))
 
 query-between : (q : Query) → (26 ≤ length (queryText q)) × (length (queryText q) ≤ 96)
 query-between q =
@@ -238,7 +280,7 @@ query-between q =
       word-length (q .kind),
       number-length (q .age),
       number-length (q .year),
-      number-length (q .span),
+      number-length (q .term),
       rate-length (q .kind),
     )
 

@@ -4,7 +4,7 @@ use Prim.Native.Nat.{_<_}
 use native.Mathlib.Omega.{arith}
 use Rattle.set_refusal.specs.declared.Refusal.{Refusal}
 use Rattle.set_refusal.specs.declared.Refusal.the-variants.{Accepted, Malformed, OutOfLimits, NoSuchAge, NoSuchYear}
-use Rattle.set_refusal.specs.declared.Refusal.the-variants.{NoSuchSpan, LogForceOutOfRange, BufferTooShort, NoSuchRate, MalformedColumn}
+use Rattle.set_refusal.specs.declared.Refusal.the-variants.{NoSuchSpan, LogForceOutOfRange, BufferTooShort, NoSuchRate, MalformedColumn, NoSuchDate}
 use Rattle.set_refusal.specs.Refusals.{refusalNumber}
 
 pub accepted : (r : Refusal) → refusalNumber r ≡ 0 → r ≡ Accepted
@@ -19,6 +19,7 @@ accepted LogForceOutOfRange e = absurd (omega arith)
 accepted BufferTooShort e = absurd (omega arith)
 accepted NoSuchRate e = absurd (omega arith)
 accepted MalformedColumn e = absurd (omega arith)
+accepted NoSuchDate e = absurd (omega arith)
 
 pub number-small : (r : Refusal) → refusalNumber r < 100
 unfolding refusalNumber
@@ -32,3 +33,4 @@ number-small LogForceOutOfRange = omega arith
 number-small BufferTooShort = omega arith
 number-small NoSuchRate = omega arith
 number-small MalformedColumn = omega arith
+number-small NoSuchDate = omega arith

@@ -1,0 +1,86 @@
+-- `force_at` meets its contract: to age 90 by the age's parameters, above by the closure of its year.
+use mathlib.Core.Path.{_≡_, ap, _∙_}
+use mathlib.Core.List.{[]}
+use Prim.Native.Nat.{ℕ, _-_, _≤_, _<_}
+use native.Mathlib.Omega.{arith}
+use borrow.Author.Needs.{needs}
+use lib.ListN.{getD}
+use Rattle.set_params.specs.Set.{ageOf, four-age}
+use Rattle.model_series.specs.laws.YearLaws.{cell-within, year-force}
+use Rattle.model_closure.specs.Weights.{firstClosed, lastClosed, weightRow}
+use Rattle.model_closure.specs.laws.WeightLaws.{table-row}
+use Rattle.model_closure.specs.examples.Rows.{row-within}
+use Rattle.model_cells.specs.code.Fitted.{FittedOf, lent}
+use Rattle.model_cells.specs.code.Code.{forceCell}
+use Rattle.model_cells.specs.laws.Answers.{young-force, old-force}
+use Rattle.model_part_year.proofs.force_at.Statement.{statement}
+use Rattle.model_part_year.proofs.force_at.Tie as tie
+
+-- ---- to age 90
+
+abbrev young : tie.After-age-of-runs → tie.Then1
+young c = c .before .before .before .before .before .before
+
+age-read : (c : tie.After-age-of-runs) → let s = young c .before .before in c .age-of-runs .result ≡ ageOf (s .args .t1) (s .args .x)
+age-read c = c .age-of-runs .ensures ∙ four-age _ _
+
+young-force-requires : tie.Need-young-force-requires
+young-force-requires c κs =
+    let t = young c in
+    rw (age-read c) (cell-within (t .before .year-at .ensures .1) (t .if1 .taken))
+
+returns : tie.Need-returns
+returns c =
+    let a = c .before in
+    let t = young a in
+    let y = t .before in
+    let s = y .before in
+    rw (age-read a, year-force (y .year-at .ensures .1) (s .args .x)) at (c .young-force .ensures)
+    ∙ young-force (s .args .t1) (y .year-at .result .number) (t .if1 .taken)
+    ∙ ap (forceCell (s .args .t1) (s .args .x)) (y .year-at .ensures .0)
+
+-- ---- above
+
+closed : (c : tie.Else1) → firstClosed ≤ c .before .before .args .x
+closed c = omega (arith, c .if1 .left)
+
+row-read : (c : tie.After-table) → let x = c .before .before .before .args .x in getD (c .table .result) (x - firstClosed) [] ≡ weightRow x
+row-read c = table-row (c .table .result) (c .table .ensures) (closed (c .before)) (c .before .before .before .pre .1)
+
+array-copy-out-row : tie.Need-array-copy-out-row
+array-copy-out-row c = let s = c .before .before .before in omega (arith, s .pre .1, closed (c .before))
+
+mul-row : tie.Need-mul-row
+mul-row c = let s = c .before .before .before in omega (arith, s .pre .1, closed (c .before))
+
+abbrev tabled : tie.After-fitted-in → tie.After-table
+tabled c = c .before .before .before .before .before .before .before
+
+fitted-in-requires : tie.Need-fitted-in-requires
+fitted-in-requires c κs = lent (c .before .before .before .before .before .before .before .before .year-at .ensures .1)
+
+heights : (c : tie.After-fitted-in) → let y = tabled c .before .before in
+    FittedOf (y .before .args .t1) (y .year-at .result .number) (c .fitted-in .result)
+heights c = c .fitted-in .ensures (lent (tabled c .before .before .year-at .ensures .1))
+
+old-force-requires : tie.Need-old-force-requires
+old-force-requires c κs =
+    let t = tabled c in
+    let e = t .before in
+    (rw (row-read t) (row-within (closed e) (e .before .before .pre .1)), heights c .limit)
+
+returns-2 : tie.Need-returns-2
+returns-2 c =
+    let f = c .before in
+    let t = tabled f in
+    let e = t .before in
+    let y = e .before in
+    let s = y .before in
+    rw (row-read t) at (c .old-force .ensures) ∙ old-force (heights f) (closed e)
+    ∙ ap (forceCell (s .args .t1) (s .args .x)) (y .year-at .ensures .0)
+
+pub force-at-spec : {M : Type 1} → statement M
+force-at-spec =
+    tie.close
+    (tie.spec (λ c κs. (c .pre .0, c .pre .2)) (λ c κs. search needs) young-force-requires returns (λ c κs. search needs)
+    mul-row array-copy-out-row fitted-in-requires old-force-requires returns-2)
