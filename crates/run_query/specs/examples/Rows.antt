@@ -1,6 +1,7 @@
 -- Query lines that are read and query lines that are malformed, by computation.
 use mathlib.Core.Path.{_≡_, refl}
-use mathlib.Core.List.{[]}
+use Prim.Native.Nat.{ℕ}
+use mathlib.Core.List.{List, []}
 use lib.IntN.{pos, negsuc}
 use Rattle.text_tokens.specs.Text.{bytesOf, malformed, taken, takeText}
 use Rattle.text_tokens.specs.Number.{isDigit, digits, afterDigits, valueFrom, noLeadingZero, wellFormed}
@@ -46,63 +47,27 @@ day = refl
 
 -- ---- malformed
 
--- no line feed, and a byte after it
-no-line-feed : readQuery (bytesOf "kind=q age=65 year=2020 span=0") ≡ malformed
-unfolding bytesOf takeText wordOf onOffer ruleOf termName takesRate withRate readWord readField readRate alone readQuery
-    isDigit digits afterDigits valueFrom noLeadingZero wellFormed readUnsigned negated positive readNumber
-no-line-feed = refl
+abbrev Malformed : List ℕ → Type 0
+Malformed line = readQuery line ≡ malformed
 
-byte-after : readQuery (bytesOf "kind=q age=65 year=2020 span=0\n\n") ≡ malformed
+malformed-rows :
+    -- no line feed, and a byte after it
+    Malformed (bytesOf "kind=q age=65 year=2020 span=0")
+    × Malformed (bytesOf "kind=q age=65 year=2020 span=0\n\n")
+    -- leading zeros
+    × Malformed (bytesOf "kind=q age=007 year=2020 span=0\n")
+    -- two blanks
+    × Malformed (bytesOf "kind=q  age=65 year=2020 span=0\n")
+    -- a word that is no kind's, and a kind's word with a byte after it
+    × Malformed (bytesOf "kind=Q age=65 year=2020 span=0\n")
+    × Malformed (bytesOf "kind=qx age=65 year=2020 span=0\n")
+    -- an annuity without ` rate=`, and another kind with it
+    × Malformed (bytesOf "kind=acoh age=65 year=2020 span=0\n")
+    × Malformed (bytesOf "kind=q age=65 year=2020 span=0 rate=30000\n")
+    × Malformed (bytesOf "kind=aper age=65 year=2020 span=0 rate=30000 rate=30000\n")
+    -- a survival to a day with ` span=`, and another kind with ` date=`
+    × Malformed (bytesOf "kind=day age=65 year=2020 span=20410315\n")
+    × Malformed (bytesOf "kind=coh age=65 year=2020 date=20410315\n")
 unfolding bytesOf takeText wordOf onOffer ruleOf termName takesRate withRate readWord readField readRate alone readQuery
     isDigit digits afterDigits valueFrom noLeadingZero wellFormed readUnsigned negated positive readNumber
-byte-after = refl
-
--- leading zeros
-leading-zeros : readQuery (bytesOf "kind=q age=007 year=2020 span=0\n") ≡ malformed
-unfolding bytesOf takeText wordOf onOffer ruleOf termName takesRate withRate readWord readField readRate alone readQuery
-    isDigit digits afterDigits valueFrom noLeadingZero wellFormed readUnsigned negated positive readNumber
-leading-zeros = refl
-
--- two blanks
-two-blanks : readQuery (bytesOf "kind=q  age=65 year=2020 span=0\n") ≡ malformed
-unfolding bytesOf takeText wordOf onOffer ruleOf termName takesRate withRate readWord readField readRate alone readQuery
-    isDigit digits afterDigits valueFrom noLeadingZero wellFormed readUnsigned negated positive readNumber
-two-blanks = refl
-
--- a word that is no kind's, and a kind's word with a byte after it
-capital : readQuery (bytesOf "kind=Q age=65 year=2020 span=0\n") ≡ malformed
-unfolding bytesOf takeText wordOf onOffer ruleOf termName takesRate withRate readWord readField readRate alone readQuery
-    isDigit digits afterDigits valueFrom noLeadingZero wellFormed readUnsigned negated positive readNumber
-capital = refl
-
-longer-word : readQuery (bytesOf "kind=qx age=65 year=2020 span=0\n") ≡ malformed
-unfolding bytesOf takeText wordOf onOffer ruleOf termName takesRate withRate readWord readField readRate alone readQuery
-    isDigit digits afterDigits valueFrom noLeadingZero wellFormed readUnsigned negated positive readNumber
-longer-word = refl
-
--- an annuity without ` rate=`, and another kind with it
-no-rate : readQuery (bytesOf "kind=acoh age=65 year=2020 span=0\n") ≡ malformed
-unfolding bytesOf takeText wordOf onOffer ruleOf termName takesRate withRate readWord readField readRate alone readQuery
-    isDigit digits afterDigits valueFrom noLeadingZero wellFormed readUnsigned negated positive readNumber
-no-rate = refl
-
-rate-of-another : readQuery (bytesOf "kind=q age=65 year=2020 span=0 rate=30000\n") ≡ malformed
-unfolding bytesOf takeText wordOf onOffer ruleOf termName takesRate withRate readWord readField readRate alone readQuery
-    isDigit digits afterDigits valueFrom noLeadingZero wellFormed readUnsigned negated positive readNumber
-rate-of-another = refl
-
-rate-twice : readQuery (bytesOf "kind=aper age=65 year=2020 span=0 rate=30000 rate=30000\n") ≡ malformed
-unfolding bytesOf takeText wordOf onOffer ruleOf termName takesRate withRate readWord readField readRate alone readQuery
-    isDigit digits afterDigits valueFrom noLeadingZero wellFormed readUnsigned negated positive readNumber
-rate-twice = refl
-
--- a survival to a day with ` span=`, and another kind with ` date=`
-span-of-day : readQuery (bytesOf "kind=day age=65 year=2020 span=20410315\n") ≡ malformed
-unfolding bytesOf takeText wordOf onOffer ruleOf termName takesRate withRate readWord readField readRate alone readQuery
-    isDigit digits afterDigits valueFrom noLeadingZero wellFormed readUnsigned negated positive readNumber
-span-of-day = refl
-
-date-of-another : readQuery (bytesOf "kind=coh age=65 year=2020 date=20410315\n") ≡ malformed
-unfolding bytesOf takeText wordOf onOffer ruleOf termName takesRate withRate readWord readField readRate alone readQuery
-    isDigit digits afterDigits valueFrom noLeadingZero wellFormed readUnsigned negated positive readNumber
-date-of-another = refl
+malformed-rows = (refl, refl, refl, refl, refl, refl, refl, refl, refl, refl, refl)

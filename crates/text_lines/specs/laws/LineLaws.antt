@@ -106,10 +106,6 @@ lines-split (suc n) bs =
     append-assoc (firstLine bs) (firstLines n (afterLine bs)) (afterLines n (afterLine bs))
     ∙ ap (λ (r : List ℕ). firstLine bs ++ r) (lines-split n (afterLine bs)) ∙ line-split bs
 
-pub lines-drop : (n : ℕ) (bs : List ℕ) → afterLines n bs ≡ drop (length (firstLines n bs)) bs
-lines-drop n bs =
-    sym (drop-append-seam (firstLines n bs) (afterLines n bs)) ∙ ap (drop (length (firstLines n bs))) (lines-split n bs)
-
 -- how long they are: the first, and those after it
 pub lines-length : (n : ℕ) (bs : List ℕ)
     → length (firstLines (suc n) bs) ≡ length (firstLine bs) + length (firstLines n (afterLine bs))
