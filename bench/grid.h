@@ -1,7 +1,8 @@
 /* The grid of paper 01, with the half steps of paper 02, E4, in plain C, for comparison of speed: same terms, same roundings,
    no proofs. The functions with long sums are not marked inline: gcc's code is slower by a tenth where it inlines them
-   everywhere. Sums stop where their terms have run out, as the library's do: from a lower one of 0 and an upper one of at most
-   1 on, what is left is a count. */
+   everywhere. Sums stop where their terms have run out, as the library's do: the logarithm from a lower power of 0 and an upper
+   one of at most 1 on, from where what is left is a count; the exponential holds each upper end less one, from term 1 on, which is
+   f, and stops where both are 0. */
 #ifndef GRID_H
 #define GRID_H
 #include "params.h"
@@ -28,37 +29,33 @@ static inline int64_t ceil_div(int64_t n, int64_t d) { return n > 0 ? 1 + (n - 1
 
 static uint64_t exp_lower(uint64_t z) {
     if (z >= 21 * UNIT) return 0;
-    uint64_t f = z % STEP, low = UNIT, high = UNIT, evens = UNIT, odds = 0, k = 1;
-    for (; k < 13; k += 2) {
-        uint64_t odd = up(high * f, k * UNIT);
-        low = low * f / (k * UNIT) * f / ((k + 1) * UNIT);
-        high = up(odd * f, (k + 1) * UNIT);
-        evens += low;
-        odds += odd;
-        if (high + 2 * low < 2) break;
+    uint64_t f = z % STEP, n = z / STEP, low = f, less = f - 1, evens = UNIT, odds = f, k = 2;
+    if (f == 0) return whole_parts[n];
+    for (; k < 14; k += 2) {
+        uint64_t even = low * f / (k * UNIT);
+        low = even * f / ((k + 1) * UNIT);
+        less = ((less * f + (f - 1)) / (k * UNIT) * f + (f - 1)) / ((k + 1) * UNIT);
+        evens += even;
+        odds += less;
+        if (less + low == 0) break;
     }
-    odds += k < 13 ? high * ((13 - k) / 2) : up(high * f, 13 * UNIT);
-    return (evens - odds) * whole_parts[z / STEP] / UNIT;
+    return (evens - (odds + 6)) * whole_parts[n] / UNIT;
 }
 
 static uint64_t exp_upper(uint64_t z) {
     if (z >= 21 * UNIT) return 1;
-    uint64_t f = z % STEP, n = z / STEP, low = UNIT, high = UNIT, evens = UNIT, odds = 0, k = 1;
-    for (; k < 11; k += 2) {
-        uint64_t odd = low * f / (k * UNIT);
-        low = odd * f / ((k + 1) * UNIT);
-        high = up(up(high * f, k * UNIT) * f, (k + 1) * UNIT);
-        evens += high;
-        odds += odd;
-        if (high + 2 * low < 2) break;
+    uint64_t f = z % STEP, n = z / STEP, low = f, less = f - 1, evens = UNIT, odds = f, k = 2;
+    if (f == 0) return n == 0 ? UNIT : whole_parts[n] + 1;
+    for (; k < 12; k += 2) {
+        uint64_t even = (less * f + (f - 1)) / (k * UNIT);
+        low = low * f / (k * UNIT) * f / ((k + 1) * UNIT);
+        less = (even * f + (f - 1)) / ((k + 1) * UNIT);
+        evens += even;
+        odds += low;
+        if (less + low == 0) break;
     }
-    if (k < 11) {
-        evens += high * ((11 - k) / 2);
-    } else {
-        odds += low * f / (11 * UNIT);
-        evens += up(up(high * f, 11 * UNIT) * f, 12 * UNIT);
-    }
-    uint64_t sum = evens - odds;
+    if (k == 12) evens += (less * f + (f - 1)) / (12 * UNIT);
+    uint64_t sum = evens + 6 - odds;
     if (sum > UNIT) sum = UNIT;
     return n == 0 ? sum : up(sum * (whole_parts[n] + 1), UNIT);
 }

@@ -31,6 +31,7 @@ use Rattle.model_mortality.specs.Cell.{youngForce, fittedEnds, fittedList, fitt
 use Rattle.model_mortality.specs.laws.Answered.{Answered}
 use Rattle.model_mortality.specs.laws.Needed.{old-needed}
 use Rattle.model_mortality.specs.laws.Holds.{fitted-at}
+use Rattle.model_cells.specs.declared.Fitted.{Fitted}
 use Rattle.model_cells.specs.code.Fitted.{FittedOf}
 use Rattle.model_force.proofs.Ends.{under-lower, under-upper, exp-small, log-lower-small, log-upper-small, end-under}
 
@@ -95,14 +96,14 @@ needed : {p : Params} {n : ℕ} → T (inLimits p) → n ≤ lastYears → T (fi
 unfolding neededInRange
 needed t l r = record { limits = t; age = lit≤ tt; year = l; needed = r }
 
-pub fitted-all : (p : Params) (n : ℕ) (es : List SignedEnds) → T (inLimits p) → n ≤ lastYears → FittedTo p n es fitted
-    → FittedOf p n (record { ok = true; ends = es })
+pub fitted-all : (p : Params) (n : ℕ) (f : Fitted) → T (inLimits p) → n ≤ lastYears → f .ok ≡ true → FittedTo p n (f .ends) fitted
+    → FittedOf p n f
 unfolding fittedList
-fitted-all p n es t l f =
-    let e : es ≡ fittedList billionths p n = sym (take-all fitted es (omega (arith, f .size))) ∙ f .ends in
-    let a = needed t l (f .range) in
+fitted-all p n f t l k h =
+    let e : f .ends ≡ fittedList billionths p n = sym (take-all fitted (f .ends) (omega (arith, h .size))) ∙ h .ends in
+    let a = needed t l (h .range) in
     record {
-      ok = sym (is-true (fittedInRange p n fitted) (f .range));
+      ok = k ∙ sym (is-true (fittedInRange p n fitted) (h .range));
       ends = λ t. e;
       limit = λ t i h. rw (e, fitted-at billionths p n i h) (fitted-within p n (firstFitted + i) (old-needed a (lit≤ tt) i h));
     }

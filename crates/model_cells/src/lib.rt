@@ -32,7 +32,10 @@ pub fn fitted_in<'a>(
     requires { ⌜ LentIn (now level) (now slope) (now alpha) (now beta) y ⌝ }
     ensures { λ r. ⌜ FittedIn (now (level .entry)) (now (slope .entry)) (now (alpha .entry)) (now (beta .entry)) y r ⌝ }
 {
-    let mut ends = [SignedEnds { lower: 0, upper: 0 }; 11];
+    let mut fitted = Fitted {
+        ok: true,
+        ends: [SignedEnds { lower: 0, upper: 0 }; 11],
+    };
     let mut i = 0;
     while i < FITTED {
         let m = model_series::log_force_at(
@@ -40,12 +43,13 @@ pub fn fitted_in<'a>(
             y,
         );
         if !model_series::in_range(m) {
-            return Fitted { ok: false, ends };
+            fitted.ok = false;
+            return fitted;
         }
-        ends[i] = model_force::inverse_logistic(m);
+        fitted.ends[i] = model_force::inverse_logistic(m);
         i += 1;
     }
-    Fitted { ok: true, ends }
+    fitted
 }
 
 // The ends of the force or of p, or a needed cell out of range.

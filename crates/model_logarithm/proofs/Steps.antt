@@ -1,7 +1,7 @@
 -- What the two loops have after k terms: the k-th power and the sum of k terms, each with the bound by which it fits.
 use mathlib.Core.Path.{_≡_, refl, sym, ap, _∙_}
 use Prim.Native.Nat.{ℕ, suc, _+_, _-_, _*_, _/_, _≤_, _<_}
-use native.Mathlib.Nat.{mul-le-mul, le-refl, div-le-self, div-one, mul-div-cancel, add-zero, zero-add}
+use native.Mathlib.Nat.{le-refl, div-le-self, div-one, mul-div-cancel, add-zero, zero-add}
 use native.Mathlib.Numerals.{add-one}
 use native.Mathlib.Omega.{arith}
 use lib.Dec.{lit<}
@@ -37,20 +37,15 @@ unfolding powerUpper logTermsUpper
 upper-none u =
     record { power-is = refl; power-small = le-refl _; sum-is = refl; sum-small = omega arith; counted = omega arith }
 
--- the product of u and a power
-pub product-small : {u power : ℕ} → u ≤ billionths .unit → power ≤ billionths .unit
-    → u * power ≤ billionths .unit * billionths .unit
-product-small h k = mul-le-mul h k
-
 -- the next power
-pub lower-next : {u power sum k : ℕ} → u ≤ billionths .unit → LowerSteps u power sum k
+lower-next : {u power sum k : ℕ} → u ≤ billionths .unit → LowerSteps u power sum k
     → (u * power / billionths .unit ≡ powerLower billionths u (suc k)) × (u * power / billionths .unit ≤ billionths .unit)
 unfolding powerLower
 lower-next {u} {power} {sum} {k} h p =
     let e : u * power / billionths .unit ≡ powerLower billionths u (suc k) = rw (p .power-is) in
     (e, rw e (power-lower-bound billionths (lit< tt) u h (suc k)))
 
-pub upper-next : {u power sum k : ℕ} → u ≤ billionths .unit → UpperSteps u power sum k
+upper-next : {u power sum k : ℕ} → u ≤ billionths .unit → UpperSteps u power sum k
     → (ceilDivℕ (u * power) (billionths .unit) ≡ powerUpper billionths u (suc k))
     × (ceilDivℕ (u * power) (billionths .unit) ≤ billionths .unit)
 unfolding powerUpper

@@ -1,6 +1,7 @@
 // −ln(1 − u) on the grid of 10^-9, u in units: the sum of u^k/k, k = 1 to 28, with two ends.
 ghost use mathlib.Core.Path.{_≡_};
-ghost use Prim.Native.Nat.{_/_, _≤_, _<_};
+ghost use Prim.Native.Nat.{_*_, _/_, _≤_, _<_};
+ghost use Rattle.number_whole.specs.Division.{ceilDivℕ};
 ghost use Rattle.number_exponential.specs.Billionths.{billionths};
 ghost use Rattle.model_logarithm.specs.Logarithm.{logLower, logUpper};
 use number_exponential::Ends;
@@ -8,6 +9,25 @@ use number_exponential::UNIT;
 
 // The number of terms.
 pub const TERMS: u64 = 28;
+
+// The place of the power after them.
+const AFTER: u64 = TERMS + 1;
+
+// The power after one, rounded down.
+fn next_down(u: u64, power: u64) -> u64
+    requires { ⌜ (u ≤ billionths .unit) × (power ≤ billionths .unit) ⌝ }
+    ensures { λ r. ⌜ (r ≡ u * power / billionths .unit) × (r ≤ billionths .unit) ⌝ }
+{
+    u * power / UNIT
+}
+
+// The power after one, rounded up.
+fn next_up(u: u64, power: u64) -> u64
+    requires { ⌜ (u ≤ billionths .unit) × (power ≤ billionths .unit) ⌝ }
+    ensures { λ r. ⌜ (r ≡ ceilDivℕ (u * power) (billionths .unit)) × (r ≤ billionths .unit) ⌝ }
+{
+    (u * power + (UNIT - 1)) / UNIT
+}
 
 // A power over its place. Both are below 2^32, where a division takes less time.
 fn over(power: u64, place: u64) -> u64
@@ -17,8 +37,9 @@ fn over(power: u64, place: u64) -> u64
     ((power as u32) / (place as u32)) as u64
 }
 
-// Both ends in one loop, from the first power on, which is u. The lower one: powers and quotients rounded down. The upper one: powers and quotients rounded up, and
-// twice the next power over its place. From powers of 0 and of at most 1 on, what is left is a count.
+// Both ends in one loop, from the first power on, which is u. The lower one: powers and quotients rounded down. The upper one:
+// powers and quotients rounded up, and twice the next power over its place. From powers of 0 and of at most 1 on, what is left is
+// a count.
 pub fn log_between(u: Ends) -> Ends
     requires { ⌜ (u .lower ≤ billionths .unit) × (u .upper ≤ billionths .unit) ⌝ }
     ensures { λ r. ⌜ (r .lower ≡ logLower billionths (u .lower)) × (r .upper ≡ logUpper billionths (u .upper)) ⌝ }
@@ -31,21 +52,21 @@ pub fn log_between(u: Ends) -> Ends
     let mut most = high;
     let mut k = 1;
     while k < TERMS {
-        down = low * down / UNIT;
-        up = (high * up + (UNIT - 1)) / UNIT;
-        least += over(down, k + 1);
-        most += over(up + k, k + 1);
-        k += 1;
+        let place = k + 1;
+        down = next_down(low, down);
+        up = next_up(high, up);
+        least += over(down, place);
+        most += over(up + k, place);
+        k = place;
         if up + 2 * down < 2 {
             return Ends {
                 lower: least,
-                upper: most + up * (TERMS + 1 - k),
+                upper: most + up * (AFTER - k),
             };
         }
     }
-    let rest = 2 * ((high * up + (UNIT - 1)) / UNIT);
     Ends {
         lower: least,
-        upper: most + (rest + TERMS) / (TERMS + 1),
+        upper: most + over(2 * next_up(high, up) + TERMS, AFTER),
     }
 }

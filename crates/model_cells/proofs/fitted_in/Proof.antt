@@ -24,10 +24,11 @@ use Rattle.model_cells.proofs.fitted_in.Statement.{statement}
 use Rattle.model_cells.proofs.fitted_in.Tie as tie
 
 abbrev Inv-loop : tie.InvT-loop
-Inv-loop l s a b y ends₀ i₀ ends i = (o : LentIn l s a b y) → FittedTo (o .set) (y .number) ends i
+Inv-loop l s a b y fitted₀ i₀ fitted i =
+    (fitted .ok ≡ true) × ((o : LentIn l s a b y) → FittedTo (o .set) (y .number) (fitted .ends) i)
 
 abbrev μ-loop : tie.MeasureT-loop
-μ-loop l s a b y ends₀ i₀ ends i = fitted - i
+μ-loop l s a b y fitted₀ i₀ f i = fitted - i
 
 -- the function's start, and a set that lends its runs
 abbrev start : tie.After-age-of-runs Inv-loop μ-loop → tie.Start Inv-loop μ-loop
@@ -58,7 +59,7 @@ in-range : (c : tie.Else1 Inv-loop μ-loop) → let a = c .before .before .befor
 in-range c o = sym (tested (c .before) o) ∙ not-false _ (c .if1 .left)
 
 loop-holds : tie.Need-loop-holds Inv-loop μ-loop
-loop-holds c o = fitted-none (o .set) (c .args .y .number) refl
+loop-holds c = (refl, λ o. fitted-none (o .set) (c .args .y .number) refl)
 
 log-force-at-requires : tie.Need-log-force-at-requires Inv-loop μ-loop
 log-force-at-requires c κs =
@@ -70,7 +71,7 @@ returns c o =
     let a = c .before .before .before in
     let t = a .before in
     let l = t .before in
-    fitted-out (o .set) (start a .args .y .number) (l .loop .i) (l .loop .ends) (t .loop-test .taken)
+    fitted-out (o .set) (start a .args .y .number) (l .loop .i) (l .loop .fitted .ends) (t .loop-test .taken)
     (sym (tested (c .before) o) ∙ not-true _ (c .if1 .taken))
 
 inverse-logistic-requires : tie.Need-inverse-logistic-requires Inv-loop μ-loop
@@ -83,20 +84,22 @@ inverse-logistic-requires c κs =
 
 loop-again : tie.Need-loop-again Inv-loop μ-loop
 unfolding fittedEnds youngForce
-loop-again c o =
+loop-again c =
     let e = c .before in
     let m = e .before .before in
-    let t = m .before .before in
-    fitted-more (t .before .loop .inv o) (t .loop-test .taken) (rw (in-range e o) tt)
-    (c .inverse-logistic .ensures
-    ∙ ap (λ (k : SignedEnds). inverseLogistic billionths k (expBetween billionths (negated k))) (forced m o))
+    let t = m .before .before in (
+      t .before .loop .inv .0,
+      λ o. fitted-more (t .before .loop .inv .1 o) (t .loop-test .taken) (rw (in-range e o) tt)
+          (c .inverse-logistic .ensures
+          ∙ ap (λ (k : SignedEnds). inverseLogistic billionths k (expBetween billionths (negated k))) (forced m o)),
+    )
 
 returns-2 : tie.Need-returns-2 Inv-loop μ-loop
 returns-2 c o =
     let l = c .before in
-    let f = l .loop .inv o in
+    let f = l .loop .inv .1 o in
     let i : l .loop .i ≡ fitted = omega (arith, f .count, c .loop-test .left) in
-    fitted-all (o .set) (l .before .args .y .number) (l .loop .ends) (o .year .limits) (o .year .year) (rw i at f)
+    fitted-all (o .set) (l .before .args .y .number) (l .loop .fitted) (o .year .limits) (o .year .year) (l .loop .inv .0) (rw i at f)
 
 pub fitted-in-spec : {M : Type 1} → statement M
 fitted-in-spec =

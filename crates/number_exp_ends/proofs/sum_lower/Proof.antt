@@ -1,133 +1,128 @@
 -- `sum_lower` meets its contract. The loop's invariant: i pairs of terms are summed, the even ones by their lower ends and
 -- the odd ones by their upper ends; the measure is the pairs left.
-use mathlib.Core.Path.{_≡_, refl}
-use Prim.Native.Nat.{ℕ, suc, _+_, _-_, _*_, _≤_}
+use mathlib.Core.Path.{_≡_, refl, sym}
+use Prim.Native.Nat.{ℕ, suc, _+_, _-_, _≤_, _<_}
 use native.Mathlib.Omega.{arith}
 use borrow.Author.Needs.{needs}
+use Rattle.number_whole.specs.Division.{ceilDivℕ}
 use Rattle.number_taylor.specs.Alternating.{double}
-use Rattle.number_exponential.specs.Exponential.{termLower, sumLower}
+use Rattle.number_exponential.specs.Exponential.{nextLower, nextUpper, termLower, termUpper, total, evens, odds, sumLower}
 use Rattle.number_exponential.specs.Billionths.{billionths}
 use Rattle.number_exponential.specs.laws.Sums.{double-two}
-use Rattle.number_exponential.specs.laws.RunOut.{count-fits, sum-fits}
-use Rattle.number_exp_ends.proofs.Pairs.{Lower, Upper, LowerPairs, none, more, all, lower-next, upper-next, lower-sum, lower-out}
+use Rattle.number_exp_ends.proofs.Pairs.{Lower, Less, LowerPairs, positive, none, more, all, lower-next, less-next, first-upper, lower-sum, lower-out}
 use Rattle.number_exp_ends.proofs.sum_lower.Statement.{statement}
 use Rattle.number_exp_ends.proofs.sum_lower.Tie as tie
 
 abbrev Inv-loop : tie.InvT-loop
-Inv-loop f low₀ high₀ evens₀ odds₀ i₀ low high evens odds i = LowerPairs f low high evens odds i × (i ≤ 6)
+Inv-loop f low₀ less₀ evens₀ odds₀ i₀ low less evens odds i = LowerPairs f low less evens odds i × (i ≤ 6)
 
 abbrev μ-loop : tie.MeasureT-loop
-μ-loop f low₀ high₀ evens₀ odds₀ i₀ low high evens odds i = 6 - i
+μ-loop f low₀ less₀ evens₀ odds₀ i₀ low less evens odds i = 6 - i
 
--- f, and 2i where a turn begins
+-- the function's start, f, which is not 0, and 2i where a turn begins
+abbrev start : tie.In-loop Inv-loop μ-loop → tie.Start Inv-loop μ-loop
+start t = t .before .before .before
+
 abbrev at : tie.In-loop Inv-loop μ-loop → ℕ
-at c = c .before .before .args .f
+at t = start t .args .f
 
-abbrev even : tie.In-loop Inv-loop μ-loop → ℕ
-even c = double (c .before .loop .i)
+some : (t : tie.In-loop Inv-loop μ-loop) → 0 < at t
+some t = positive (t .before .before .if1 .left)
 
--- the terms of a turn, and the last one
-odd-upper : (c : tie.After-next-upper Inv-loop μ-loop) → Upper (at (c .before)) (suc (even (c .before))) (c .next-upper .result)
-odd-upper c =
-    let b = c .before .before in
-    upper-next _ (b .before .pre) (b .loop .inv .0 .upper) (omega (arith, double-two (b .loop .i))) (c .next-upper .ensures)
+abbrev twice : tie.In-loop Inv-loop μ-loop → ℕ
+twice t = double (t .before .loop .i)
 
-odd-lower : (c : tie.After-next-lower Inv-loop μ-loop)
-    → Lower (at (c .before .before)) (suc (even (c .before .before))) (c .next-lower .result)
-odd-lower c =
-    let b = c .before .before .before in
-    lower-next _ (b .before .pre) (b .loop .inv .0 .lower) (omega (arith, double-two (b .loop .i))) (c .next-lower .ensures)
-
-even-lower : (c : tie.After-next-lower2 Inv-loop μ-loop)
-    → Lower (at (c .before .before .before)) (suc (suc (even (c .before .before .before)))) (c .next-lower2 .result)
+-- the terms of a turn
+even-lower : (c : tie.After-next-lower Inv-loop μ-loop) → Lower (at (c .before)) (suc (suc (twice (c .before)))) (c .next-lower .result)
 even-lower c =
-    let b = c .before .before .before .before in
-    lower-next _ (b .before .pre) (odd-lower (c .before)) (omega (arith, double-two (b .loop .i))) (c .next-lower2 .ensures)
+    let l = c .before .before in
+    lower-next _ (start (c .before) .pre) (l .loop .inv .0 .lower) (omega (arith, double-two (l .loop .i))) (c .next-lower .ensures)
 
-even-upper : (c : tie.After-next-upper2 Inv-loop μ-loop)
-    → Upper (at (c .before .before .before .before)) (suc (suc (even (c .before .before .before .before)))) (c .next-upper2 .result)
-even-upper c =
-    let b = c .before .before .before .before .before in
-    upper-next _ (b .before .pre) (odd-upper (c .before .before .before)) (omega (arith, double-two (b .loop .i)))
-    (c .next-upper2 .ensures)
+odd-lower : (c : tie.After-next-lower2 Inv-loop μ-loop) → let t = c .before .before in
+    Lower (at t) (suc (suc (suc (twice t)))) (c .next-lower2 .result)
+odd-lower c =
+    let t = c .before .before in
+    lower-next _ (start t .pre) (even-lower (c .before)) (omega (arith, double-two (t .before .loop .i))) (c .next-lower2 .ensures)
 
-six : (c : tie.After-loop Inv-loop μ-loop)
-    → LowerPairs (c .before .before .args .f) (c .before .loop .low) (c .before .loop .high) (c .before .loop .evens)
-    (c .before .loop .odds) 6
-six c = all 6 (c .before .loop .inv .0) (omega arith)
+even-less : (c : tie.After-next-less Inv-loop μ-loop) → let t = c .before .before .before in
+    Less (at t) (suc (suc (twice t))) (c .next-less .result)
+even-less c =
+    let t = c .before .before .before in
+    let l = t .before in
+    less-next _ (start t .pre) (l .loop .inv .0 .upper) (omega (arith, double-two (l .loop .i))) (c .next-less .ensures)
 
-last-upper : (c : tie.After-next-upper3 Inv-loop μ-loop) → Upper (c .before .before .before .args .f) 13 (c .next-upper3 .result)
-unfolding double
-last-upper c = upper-next _ (c .before .before .before .pre) (six (c .before) .upper) refl (c .next-upper3 .ensures)
+odd-less : (c : tie.After-next-less2 Inv-loop μ-loop) → let t = c .before .before .before .before in
+    Less (at t) (suc (suc (suc (twice t)))) (c .next-less2 .result)
+odd-less c =
+    let t = c .before .before .before .before in
+    less-next _ (start t .pre) (even-less (c .before)) (omega (arith, double-two (t .before .loop .i))) (c .next-less2 .ensures)
+
+-- at f = 0
+returns : tie.Need-returns Inv-loop μ-loop
+unfolding nextLower nextUpper termLower termUpper total evens odds sumLower double ceilDivℕ
+returns c = rw (c .if1 .taken)
 
 loop-holds : tie.Need-loop-holds Inv-loop μ-loop
 unfolding termLower
-loop-holds c = (none _ _ _ refl, omega arith)
+loop-holds c =
+    let f = c .before .args .f in
+    (none f (positive (c .if1 .left)) (c .before .pre) _ _ _ _ refl (sym (first-upper f)), omega arith)
 
 next-lower-requires-2 : tie.Need-next-lower-requires-2 Inv-loop μ-loop
-next-lower-requires-2 c κs = let t = odd-lower c in search needs
+next-lower-requires-2 c κs = let t = even-lower c in search needs
 
-next-upper-requires-2 : tie.Need-next-upper-requires-2 Inv-loop μ-loop
-next-upper-requires-2 c κs = let t = odd-upper (c .before .before) in search needs
+next-less-requires : tie.Need-next-less-requires Inv-loop μ-loop
+next-less-requires c κs = (search needs, some (c .before .before))
+
+next-less-requires-2 : tie.Need-next-less-requires-2 Inv-loop μ-loop
+next-less-requires-2 c κs = let t = even-less c in (search needs, some (c .before .before .before))
 
 add-evens : tie.Need-add-evens Inv-loop μ-loop
-add-evens c = omega (arith, even-lower (c .before))
+add-evens c = omega (arith, even-lower (c .before .before .before))
 
 add-odds : tie.Need-add-odds Inv-loop μ-loop
-add-odds c = omega (arith, odd-upper (c .before .before .before))
+add-odds c = omega (arith, odd-less c)
 
 -- the pairs after a turn
-abbrev turned : (c : tie.After-next-upper2 Inv-loop μ-loop) → let l = c .before .before .before .before .before .loop in
-    LowerPairs (at (c .before .before .before .before)) (c .before .next-lower2 .result) (c .next-upper2 .result)
-    (l .evens + c .before .next-lower2 .result) (l .odds + c .before .before .before .next-upper .result) (l .i + 1)
+turned : (c : tie.After-next-less2 Inv-loop μ-loop) → let o = c .before .before in let e = o .before in let t = e .before in
+    let l = t .before .loop in
+    LowerPairs (at t) (o .next-lower2 .result) (c .next-less2 .result) (l .evens + e .next-lower .result) (l .odds + c .next-less2 .result)
+    (l .i + 1)
 turned c =
-    let l = even-lower (c .before) in
-    more (c .before .before .before .before .before .loop .inv .0) l (even-upper c) l (odd-upper (c .before .before .before))
+    let o = c .before .before in
+    let e = o .before in
+    let h = odd-less c in
+    more (e .before .before .loop .inv .0) (odd-lower o) h (even-lower e) h
+
+add-if2 : tie.Need-add-if2 Inv-loop μ-loop
+add-if2 c = omega (arith, turned c .lower, turned c .upper)
 
 -- ---- where the terms have run out
 
-twice : tie.Need-mul-if1 Inv-loop μ-loop
-twice c = omega (arith, turned c .lower)
+add-result : tie.Need-add-result Inv-loop μ-loop
+add-result c = omega (arith, turned (c .before) .odds-small)
 
-both : tie.Need-add-if1 Inv-loop μ-loop
-both c = omega (arith, turned c .lower, turned c .upper)
-
-left : (c : tie.Then1 Inv-loop μ-loop) → let u = c .before in let l = u .before .before .before .before .before .loop in
-    let o = l .odds + u .before .before .before .next-upper .result + u .next-upper2 .result * (7 - (l .i + 1)) in
-    let e = l .evens + u .before .next-lower2 .result in
-    (o ≤ e) × (e - o ≡ sumLower billionths (at (u .before .before .before .before)))
+left : (c : tie.Then2 Inv-loop μ-loop) → let u = c .before in let o = u .before .before in let e = o .before in let t = e .before in
+    let l = t .before .loop in let E = l .evens + e .next-lower .result in let O = l .odds + u .next-less2 .result + 6 in
+    (O ≤ E) × (E - O ≡ sumLower billionths (at t))
 left c =
     let u = c .before in
-    let b = u .before .before .before .before .before in
-    lower-out _ (b .loop .i) (b .before .pre) (turned u) (omega arith) (omega (arith, c .if1 .taken)) (omega (arith, c .if1 .taken))
-
-mul-result : tie.Need-mul-result Inv-loop μ-loop
-mul-result c = count-fits _ (omega arith) (omega (arith, c .if1 .taken))
-
-add-result : tie.Need-add-result Inv-loop μ-loop
-add-result c =
-    let s = turned (c .before) .odds-small in sum-fits _ _ (omega arith) (omega arith) (omega (arith, c .if1 .taken))
+    let t = u .before .before .before .before in
+    lower-out _ (t .before .loop .i) (start t .pre) (turned u) (omega arith) (omega (arith, c .if2 .taken)) (omega (arith, c .if2 .taken))
 
 -- ---- one turn more, and after the last
 
 loop-again : tie.Need-loop-again Inv-loop μ-loop
 loop-again c = (turned (c .before), omega arith)
 
-add-result-2 : tie.Need-add-result-2 Inv-loop μ-loop
-add-result-2 c = omega (arith, last-upper c)
-
-sub-result-3 : tie.Need-sub-result-3 Inv-loop μ-loop
-sub-result-3 c =
-    lower-sum _ (c .before .before .before .pre) (six (c .before)) (last-upper c) .0
-
-returns-2 : tie.Need-returns-2 Inv-loop μ-loop
-returns-2 c =
-    lower-sum _ (c .before .before .before .pre) (six (c .before)) (last-upper c) .1
+whole : (c : tie.After-loop Inv-loop μ-loop) → let l = c .before .loop in
+    (l .odds + 6 ≤ l .evens) × (l .evens - (l .odds + 6) ≡ sumLower billionths (c .before .before .before .args .f))
+whole c = lower-sum _ (c .before .before .before .pre) (all 6 (c .before .loop .inv .0) (omega arith))
 
 pub sum-lower-spec : {M : Type 1} → statement M
 sum-lower-spec =
     tie.close
-    (tie.spec Inv-loop μ-loop loop-holds (λ c. omega arith) (λ c. omega arith) (λ c κs. search needs)
-    (λ c κs. search needs) (λ c. omega arith) next-lower-requires-2 (λ c. omega arith) next-upper-requires-2 add-evens
-    add-odds (λ c. omega arith) twice both (λ c. omega arith) mul-result add-result (λ c. left c .0) (λ c. left c .1)
-    (λ c. omega arith) loop-again (λ c κs. search needs) add-result-2 sub-result-3 returns-2)
+    (tie.spec Inv-loop μ-loop returns (λ c. positive (c .if1 .left)) loop-holds (λ c. omega arith) (λ c. omega arith)
+    (λ c κs. search needs) (λ c. omega arith) next-lower-requires-2 next-less-requires (λ c. omega arith)
+    next-less-requires-2 add-evens add-odds (λ c. omega arith) add-if2 add-result (λ c. left c .0) (λ c. left c .1)
+    (λ c. omega arith) loop-again (λ c. omega arith) (λ c. whole c .0) (λ c. whole c .1))

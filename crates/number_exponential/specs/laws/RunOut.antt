@@ -84,17 +84,18 @@ unfolding total
 total-run a c k zero h = rw (add-zero k) (omega arith)
 total-run a c k (suc n) h = rw (add-suc k n) (omega (arith, total-run a c k n h, h n))
 
--- n even terms more, and n odd ones, where each from term 2i on is c
-pub even-run : (a : ℕ → ℕ) (c i n : ℕ) → ((m : ℕ) → a (double i + m) ≡ c) → evenTotal a (i + n) ≡ evenTotal a i + n * c
+-- n even terms more, and n odd ones, where each from term 2i + 1 on is c
+pub even-run : (a : ℕ → ℕ) (c i n : ℕ) → ((m : ℕ) → a (suc (double i) + m) ≡ c) → evenTotal a (i + n) ≡ evenTotal a i + n * c
 even-run a c i n h =
     ap (total (λ (j : ℕ). a (double j))) (sym (suc-add i n))
-    ∙ total-run (λ (j : ℕ). a (double j)) c (suc i) n (λ m. ap a (place m) ∙ h (2 + 2 * m))
+    ∙ total-run (λ (j : ℕ). a (double j)) c (suc i) n (λ m. ap a (place m) ∙ h (1 + 2 * m))
   where
-    place : (m : ℕ) → double (suc i + m) ≡ double i + (2 + 2 * m)
+    place : (m : ℕ) → double (suc i + m) ≡ suc (double i) + (1 + 2 * m)
     place m = omega (arith, double-two (suc i + m), double-two i)
 
-pub odd-run : (a : ℕ → ℕ) (c i n : ℕ) → ((m : ℕ) → a (double i + m) ≡ c) → oddTotal a (i + n) ≡ oddTotal a i + n * c
-odd-run a c i n h = total-run (λ (j : ℕ). a (suc (double j))) c i n (λ m. ap a (place m) ∙ h (1 + 2 * m))
+pub odd-run : (a : ℕ → ℕ) (c i n : ℕ) → ((m : ℕ) → a (suc (double i) + m) ≡ c)
+    → oddTotal a (suc i + n) ≡ oddTotal a (suc i) + n * c
+odd-run a c i n h = total-run (λ (j : ℕ). a (suc (double j))) c (suc i) n (λ m. ap a (place m) ∙ h (2 + 2 * m))
   where
-    place : (m : ℕ) → suc (double (i + m)) ≡ double i + (1 + 2 * m)
-    place m = omega (arith, double-two (i + m), double-two i)
+    place : (m : ℕ) → suc (double (suc i + m)) ≡ suc (double i) + (2 + 2 * m)
+    place m = omega (arith, double-two (suc i + m), double-two i)

@@ -6,8 +6,8 @@ use native.Mathlib.Omega.{arith}
 use lib.ListN.{List·getD-eq-default}
 use Rattle.number_exponential.specs.Exponential.{constantLower}
 use Rattle.number_exponential.specs.Billionths.{billionths, wholeParts}
-use Rattle.number_exp_ends.proofs.whole_part.Statement.{statement}
-use Rattle.number_exp_ends.proofs.whole_part.Tie as tie
+use Rattle.number_exp_constants.proofs.whole_part.Statement.{statement}
+use Rattle.number_exp_constants.proofs.whole_part.Tie as tie
 
 of : {n k : ℕ} → n ≡ k → constantLower billionths k ≡ constantLower billionths n
 of e = ap (constantLower billionths) (sym e)
