@@ -1,7 +1,7 @@
 /* Times annuities at 3% in one year by kulfizan_annuity and by the same grid in C, beside the expectancies of the same ages by
    kulfizan_quote, in turns in one run, on one set: cohort and period ones at all ages, and at 65. The library's ends are
-   compared with the C's first, at several rates. The library reads the sheet in each call: as many calls with an age past the
-   last, which read it too and are then refused, are timed in the same turns and taken off. */
+   compared with the C's first, at several rates, also on a set of the table LILEE. The library reads the sheet in each call: as
+   many calls with an age past the last, which read it too and are then refused, are timed in the same turns and taken off. */
 #include <stdio.h>
 #include <string.h>
 
@@ -9,7 +9,8 @@
 #include "kulfizan.h"
 #include "timing.h"
 
-enum { YEAR = 2020, RATE_TIMED = 30000, LOADS = 4 };
+/* The year that is timed, counted from the start: of AG2014 2020. */
+enum { YEAR = 7, RATE_TIMED = 30000, LOADS = 4 };
 
 /* What is timed: the annuities or expectancies of some ages, some times over in a turn; short turns are taken more often. */
 typedef struct {
@@ -28,16 +29,16 @@ static size_t length;
 static uint64_t quotes[KULFIZAN_QUOTE_LENGTH], theirs[2];
 static load work;
 
-/* The library's quote of an annuity, and of an expectancy; the refusal's number, or 0. */
-static int annuity(enum kind kind, int age, int year, int64_t rate) {
+/* The library's quote of an annuity in year n, and of an expectancy; the refusal's number, or 0. */
+static int annuity(enum kind kind, int age, unsigned n, int64_t rate) {
     static const char *const words[] = {[COHORT] = "acoh", [PERIOD] = "aper"};
-    return kulfizan_annuity((const uint8_t *)sheet, length, (const uint8_t *)words[kind], 4, age, year, 0, rate, quotes,
+    return kulfizan_annuity((const uint8_t *)sheet, length, (const uint8_t *)words[kind], 4, age, set.start + n, 0, rate, quotes,
         KULFIZAN_QUOTE_LENGTH);
 }
 
-static int expectancy(enum kind kind, int age, int year) {
+static int expectancy(enum kind kind, int age, unsigned n) {
     static const char *const words[] = {[COHORT] = "ecoh", [PERIOD] = "eper"};
-    return kulfizan_quote((const uint8_t *)sheet, length, (const uint8_t *)words[kind], 4, age, year, 0, quotes,
+    return kulfizan_quote((const uint8_t *)sheet, length, (const uint8_t *)words[kind], 4, age, set.start + n, 0, quotes,
         KULFIZAN_QUOTE_LENGTH);
 }
 
@@ -54,27 +55,29 @@ static void by_expectancies(int past) {
 
 static void by_c(int which) {
     for (int i = 0; i < work.times; i++)
-        for (int x = 0; x < work.count; x++) in_c[which](&set, work.kind, work.first + x, YEAR - START, RATE_TIMED, theirs);
+        for (int x = 0; x < work.count; x++) in_c[which](&set, work.kind, work.first + x, YEAR, RATE_TIMED, theirs);
 }
 
-/* Whether the annuities of all ages in a year are the same by all, and refused past the last age and the highest rate. */
-static int agree(enum kind kind, int year, unsigned rate) {
-    if (annuity(kind, COLUMN, year, rate) != KULFIZAN_NO_SUCH_AGE) return 0;
-    if (expectancy(kind, COLUMN, year) != KULFIZAN_NO_SUCH_AGE) return 0;
-    if (annuity(kind, 0, year, KULFIZAN_HIGHEST_RATE + 1) != KULFIZAN_NO_SUCH_RATE) return 0;
+/* Whether the annuities of all ages in year n are the same by all, and refused past the last age and the highest rate. */
+static int agree(enum kind kind, unsigned n, unsigned rate) {
+    if (annuity(kind, COLUMN, n, rate) != KULFIZAN_NO_SUCH_AGE) return 0;
+    if (expectancy(kind, COLUMN, n) != KULFIZAN_NO_SUCH_AGE) return 0;
+    if (annuity(kind, 0, n, KULFIZAN_HIGHEST_RATE + 1) != KULFIZAN_NO_SUCH_RATE) return 0;
     for (int x = 0; x < COLUMN; x++) {
-        if (annuity(kind, x, year, rate) != KULFIZAN_ACCEPTED) return 0;
+        if (annuity(kind, x, n, rate) != KULFIZAN_ACCEPTED) return 0;
         for (int i = 0; i < compilers; i++) {
-            if (!in_c[i](&set, kind, x, (unsigned)(year - START), rate, theirs)) return 0;
+            if (!in_c[i](&set, kind, x, n, rate, theirs)) return 0;
             if (memcmp(quotes, theirs, sizeof theirs) != 0) return 0;
         }
     }
     return 1;
 }
 
-static int all_agree(void) {
-    static const int years[] = {2014, YEAR, 2064};
-    static const unsigned rates[] = {0, 1, RATE_TIMED, KULFIZAN_HIGHEST_RATE};
+/* Makes a set the one that is worked, and tells whether its annuities are the same by all. */
+static int all_agree(void (*make)(params *)) {
+    static const unsigned years[] = {1, YEAR, QUOTE_YEARS}, rates[] = {0, 1, RATE_TIMED, KULFIZAN_HIGHEST_RATE};
+    make(&set);
+    length = sheet_of(&set, sheet);
     for (int y = 0; y < 3; y++)
         for (int r = 0; r < 4; r++)
             if (!agree(COHORT, years[y], rates[r]) || !agree(PERIOD, years[y], rates[r])) return 0;
@@ -101,9 +104,7 @@ int main(void) {
     const load loads[LOADS] = {{"cohort, mean", COHORT, 0, COLUMN, 1, 40}, {"cohort at 65", COHORT, 65, 1, 20, 200},
         {"period, mean", PERIOD, 0, COLUMN, 1, 200}, {"period at 65", PERIOD, 65, 1, 20, 1000}};
     double took[LOADS][MOST_RUNNERS], best_c[LOADS];
-    realistic(&set);
-    length = sheet_of(&set, sheet);
-    if (!all_agree()) {
+    if (!all_agree(later) || !all_agree(realistic)) {
         puts("the annuities differ");
         return 1;
     }

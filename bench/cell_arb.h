@@ -7,9 +7,9 @@
 
 #define BITS 64
 
-/* The series in a year: K, its yearly step, kappa and its yearly factor; and the eleven H of the closure. */
+/* The series in a year: K, its yearly step, kappa, its yearly factor and its constant; and the eleven H of the closure. */
 typedef struct {
-    arb_t period, theta, kappa, a, fitted[CLOSED];
+    arb_t period, theta, kappa, a, c, fitted[CLOSED];
 } arb_year;
 
 static inline void scaled(arb_t r, int64_t v, ulong unit) {
@@ -17,22 +17,32 @@ static inline void scaled(arb_t r, int64_t v, ulong unit) {
     arb_div_ui(r, r, unit, BITS);
 }
 
+static inline void next_kappa(arb_year *y) {
+    arb_mul(y->kappa, y->kappa, y->a, BITS);
+    arb_add(y->kappa, y->kappa, y->c, BITS);
+}
+
 static inline void year_init(arb_year *y, const params *p, unsigned n) {
-    arb_init(y->period), arb_init(y->theta), arb_init(y->kappa), arb_init(y->a);
+    arb_init(y->period), arb_init(y->theta), arb_init(y->kappa), arb_init(y->a), arb_init(y->c);
     for (int i = 0; i < CLOSED; i++) arb_init(y->fitted[i]);
     scaled(y->period, p->period + (int64_t)n * p->theta, 1000000000);
     scaled(y->theta, p->theta, 1000000000);
     scaled(y->a, p->a, 100000000);
+    scaled(y->c, p->c, 1000000000);
     scaled(y->kappa, p->kappa, 1000000000);
-    arb_t power;
-    arb_init(power);
-    arb_pow_ui(power, y->a, n, BITS);
-    arb_mul(y->kappa, y->kappa, power, BITS);
-    arb_clear(power);
+    if (p->c == 0) {
+        arb_t power;
+        arb_init(power);
+        arb_pow_ui(power, y->a, n, BITS);
+        arb_mul(y->kappa, y->kappa, power, BITS);
+        arb_clear(power);
+        return;
+    }
+    for (unsigned i = 0; i < n; i++) next_kappa(y);
 }
 
 static inline void year_clear(arb_year *y) {
-    arb_clear(y->period), arb_clear(y->theta), arb_clear(y->kappa), arb_clear(y->a);
+    arb_clear(y->period), arb_clear(y->theta), arb_clear(y->kappa), arb_clear(y->a), arb_clear(y->c);
     for (int i = 0; i < CLOSED; i++) arb_clear(y->fitted[i]);
 }
 

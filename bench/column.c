@@ -1,8 +1,8 @@
 /* Times a whole column judged, q at 121 ages in one year, by kulfizan_verdict and by the same grid in C, beside its values by
-   Arb, in turns in one run, on one set. The library's ends are compared with the C's first, and Arb's middles must lie between
-   them; the verdicts on each year's column, and on the same with one entry changed, must be the same. The library reads the
-   sheet and the column in each call: as many calls with a year before the first, which read both too and are then refused, are
-   timed in the same turns and taken off. */
+   Arb, in turns in one run, on one set. The library's ends are compared with the C's first, also on a set of the table LILEE, and
+   Arb's middles must lie between them; the verdicts on each year's column, and on the same with one entry changed, must be the
+   same. The library reads the sheet and the column in each call: as many calls with a year before the first, which read both too
+   and are then refused, are timed in the same turns and taken off. */
 #include <inttypes.h>
 #include <stdio.h>
 #include <string.h>
@@ -11,7 +11,7 @@
 #include "kulfizan.h"
 #include "timing.h"
 
-enum { TURNS = 200, YEARS = 51, LONGEST_ENTRY = 20, CHANGED_AGE = 65 };
+enum { TURNS = 200, YEARS = QUOTE_YEARS, LONGEST_ENTRY = 20, CHANGED_AGE = 65 };
 
 #define COLUMN_ROW(by) NAMED(column, by),
 static column_in_c *const in_c[] = {EACH_COMPILER(COLUMN_ROW)};
@@ -31,21 +31,21 @@ static column columns[YEARS + 1];
 static uint64_t ours[2 * COLUMN], theirs[2 * COLUMN];
 static double middles[COLUMN];
 
-/* The verdict by the library, or -1 and the refusal's number under it. */
-static int judged(int year, const column *c) {
+/* The verdict by the library in year n, or -1 and the refusal's number under it. */
+static int judged(unsigned n, const column *c) {
     uint64_t verdict = 0;
-    int no = kulfizan_verdict((const uint8_t *)sheet, length, year, (const uint8_t *)c->text, c->length, &verdict);
+    int no = kulfizan_verdict((const uint8_t *)sheet, length, set.start + n, (const uint8_t *)c->text, c->length, &verdict);
     return no == KULFIZAN_ACCEPTED ? (int)verdict : -1 - no;
 }
 
 static void by_library(int which) {
     (void)which;
-    for (int n = 1; n <= YEARS; n++) judged(START + n, columns + n);
+    for (unsigned n = 1; n <= YEARS; n++) judged(n, columns + n);
 }
 
 static void by_reading(int which) {
     (void)which;
-    for (int n = 1; n <= YEARS; n++) judged(START, columns + n);
+    for (unsigned n = 1; n <= YEARS; n++) judged(0, columns + n);
 }
 
 static void by_c(int which) {
@@ -64,14 +64,14 @@ static void put_text(column *c) {
     c->length = (size_t)(at - c->text);
 }
 
-/* The ends of a year by the library, and its column: each figure or, where it is open, the lower end's rounding; returns whether
+/* The ends of year n by the library, and its column: each figure or, where it is open, the lower end's rounding; returns whether
    all are printed, or -1 where one is refused. */
-static int work_column(int year, column *c) {
+static int work_column(unsigned n, column *c) {
     int printed = 1;
     for (int x = 0; x < COLUMN; x++) {
         uint64_t quote[KULFIZAN_QUOTE_LENGTH] = {0};
-        if (kulfizan_quote((const uint8_t *)sheet, length, (const uint8_t *)"q", 1, x, year, 0, quote, KULFIZAN_QUOTE_LENGTH) !=
-            KULFIZAN_ACCEPTED)
+        if (kulfizan_quote((const uint8_t *)sheet, length, (const uint8_t *)"q", 1, x, set.start + n, 0, quote,
+                KULFIZAN_QUOTE_LENGTH) != KULFIZAN_ACCEPTED)
             return -1;
         memcpy(ours + 2 * x, quote, 2 * sizeof *quote);
         c->entries[x] = half_up(quote[0]);
@@ -83,7 +83,7 @@ static int work_column(int year, column *c) {
 
 /* Whether a column has the same verdict by all. */
 static int same_verdict(unsigned n, const column *c, int verdict) {
-    if (judged(START + (int)n, c) != verdict) return 0;
+    if (judged(n, c) != verdict) return 0;
     for (int i = 0; i < compilers; i++)
         if (in_c[i](&set, n, c->entries, theirs) != verdict || memcmp(ours, theirs, sizeof ours) != 0) return 0;
     return 1;
@@ -92,9 +92,9 @@ static int same_verdict(unsigned n, const column *c, int verdict) {
 /* Whether the column of year n is the same by all. */
 static int agree(unsigned n) {
     static column other;
-    int printed = work_column(START + (int)n, columns + n);
+    int printed = work_column(n, columns + n);
     if (printed < 0 || !same_verdict(n, columns + n, printed ? KULFIZAN_RIGHT : KULFIZAN_OPEN)) return 0;
-    if (judged(START, columns + n) != -1 - KULFIZAN_NO_SUCH_YEAR) return 0;
+    if (judged(0, columns + n) != -1 - KULFIZAN_NO_SUCH_YEAR) return 0;
     other = columns[n];
     other.entries[CHANGED_AGE] ^= 1;
     put_text(&other);
@@ -111,14 +111,20 @@ static runner all[] = {{"proved library", by_library, 0, 0}, {"Arb at 64 bits", 
     EACH_COMPILER(COLUMN_RUNNER) {"reading taken off", by_reading, 0, 0}};
 static const int runners = sizeof all / sizeof all[0];
 
-int main(void) {
-    realistic(&set);
+/* Makes a set the one that is worked, and tells whether all its columns are the same by all. */
+static int all_agree(void (*make)(params *)) {
+    make(&set);
     length = sheet_of(&set, sheet);
     for (unsigned n = 1; n <= YEARS; n++)
         if (!agree(n)) {
-            printf("the columns of %u differ\n", START + n);
-            return 1;
+            printf("the columns of %d differ\n", (int)set.start + (int)n);
+            return 0;
         }
+    return 1;
+}
+
+int main(void) {
+    if (!all_agree(later) || !all_agree(realistic)) return 1;
     for (int i = 0; i < compilers; i++) all[FIRST_C + i].which = i;
     take_turns(all, runners, TURNS);
     all[LIBRARY].best -= all[runners - 1].best;

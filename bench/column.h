@@ -1,4 +1,4 @@
-/* A column worked by C and by Arb: q at ages 0 to 120 in year n, counted from 2013. */
+/* A column worked by C and by Arb: q at ages 0 to 120 in year n, counted from the start. */
 #ifndef COLUMN_H
 #define COLUMN_H
 #include "compilers.h"

@@ -1,8 +1,8 @@
 /* Times life expectancies in one year by kulfizan_quote, by the same grid in C and by Arb, in turns in one run, on one set:
    cohort ones at all ages, a period one at 65 and a cohort one at 65; and what factors past 120 cost, along the cohort and in
-   one year. The library's ends are compared with the C's first, and Arb's middles must lie between them. The library reads the
-   sheet in each call: as many calls with an age past the last, which read it too and are then refused, are timed in the same
-   turns and taken off. */
+   one year. The library's ends are compared with the C's first, also on a set of the table LILEE, and Arb's middles must lie
+   between them. The library reads the sheet in each call: as many calls with an age past the last, which read it too and are then
+   refused, are timed in the same turns and taken off. */
 #include <stdio.h>
 #include <string.h>
 
@@ -10,17 +10,16 @@
 #include "kulfizan.h"
 #include "timing.h"
 
-enum { FIRST_YEAR = 2014, YEAR = 2020, LAST_YEAR = 2064 };
+/* Years, counted from the start: of AG2014 2014, 2020 and 2064. */
+enum { FIRST_YEAR = 1, YEAR = 7, LAST_YEAR = QUOTE_YEARS };
 
-/* What is timed: the expectancies of some ages, some times over in a turn; short turns are taken more often. */
+/* What is timed: the expectancies of some ages in year n, some times over in a turn; short turns are taken more often. */
 typedef struct {
     const char *name;
     enum kind kind;
-    int first, count, times, turns, year;
+    int first, count, times, turns;
+    unsigned n;
 } load;
-
-/* Its year, counted from 2013. */
-static unsigned year_of(const load *l) { return (unsigned)(l->year - START); }
 
 #define EXPECTANCY_ROW(by) NAMED(expectancy, by),
 static expectancy_in_c *const in_c[] = {EACH_COMPILER(EXPECTANCY_ROW)};
@@ -34,10 +33,10 @@ static double middles[COLUMN];
 static load work;
 
 /* The two ends of an expectancy by the library; the refusal's number, or 0. */
-static int library(enum kind kind, int age, int year, uint64_t *ends) {
+static int library(enum kind kind, int age, unsigned n, uint64_t *ends) {
     static const char *const words[] = {[COHORT] = "ecoh", [PERIOD] = "eper"};
     uint64_t quote[KULFIZAN_QUOTE_LENGTH] = {0};
-    int no = kulfizan_quote((const uint8_t *)sheet, length, (const uint8_t *)words[kind], 4, age, year, 0, quote,
+    int no = kulfizan_quote((const uint8_t *)sheet, length, (const uint8_t *)words[kind], 4, age, set.start + n, 0, quote,
         KULFIZAN_QUOTE_LENGTH);
     memcpy(ends, quote, 2 * sizeof *ends);
     return no;
@@ -46,37 +45,50 @@ static int library(enum kind kind, int age, int year, uint64_t *ends) {
 static void by_library(int which) {
     (void)which;
     for (int i = 0; i < work.times; i++)
-        for (int x = 0; x < work.count; x++) library(work.kind, work.first + x, work.year, ours + 2 * x);
+        for (int x = 0; x < work.count; x++) library(work.kind, work.first + x, work.n, ours + 2 * x);
 }
 
 static void by_reading(int which) {
     (void)which;
-    for (int i = 0; i < work.times * work.count; i++) library(work.kind, COLUMN, work.year, ours);
+    for (int i = 0; i < work.times * work.count; i++) library(work.kind, COLUMN, work.n, ours);
 }
 
 static void by_c(int which) {
     for (int i = 0; i < work.times; i++)
-        for (int x = 0; x < work.count; x++) in_c[which](&set, work.kind, work.first + x, year_of(&work), theirs + 2 * x);
+        for (int x = 0; x < work.count; x++) in_c[which](&set, work.kind, work.first + x, work.n, theirs + 2 * x);
 }
 
 static void by_arb(int which) {
     (void)which;
     for (int i = 0; i < work.times; i++)
-        for (int x = 0; x < work.count; x++) middles[x] = expectancy_by_arb(&set, work.kind, work.first + x, year_of(&work));
+        for (int x = 0; x < work.count; x++) middles[x] = expectancy_by_arb(&set, work.kind, work.first + x, work.n);
 }
 
-/* Whether the expectancies of all ages in a year are the same by all. */
-static int agree(enum kind kind, int year) {
-    if (library(kind, COLUMN, year, ours) != KULFIZAN_NO_SUCH_AGE) return 0;
+/* Whether the expectancies of all ages in year n are the same by all. */
+static int agree(enum kind kind, unsigned n) {
+    if (library(kind, COLUMN, n, ours) != KULFIZAN_NO_SUCH_AGE) return 0;
     for (int x = 0; x < COLUMN; x++)
-        if (library(kind, x, year, ours + 2 * x) != KULFIZAN_ACCEPTED) return 0;
+        if (library(kind, x, n, ours + 2 * x) != KULFIZAN_ACCEPTED) return 0;
     for (int i = 0; i < compilers; i++) {
         for (int x = 0; x < COLUMN; x++)
-            if (!in_c[i](&set, kind, x, (unsigned)(year - START), theirs + 2 * x)) return 0;
+            if (!in_c[i](&set, kind, x, n, theirs + 2 * x)) return 0;
         if (memcmp(ours, theirs, sizeof ours) != 0) return 0;
     }
     for (int x = 0; x < COLUMN; x++)
-        if (!between(ours + 2 * x, expectancy_by_arb(&set, kind, x, (unsigned)(year - START)))) return 0;
+        if (!between(ours + 2 * x, expectancy_by_arb(&set, kind, x, n))) return 0;
+    return 1;
+}
+
+/* Makes a set the one that is worked, and tells whether all its expectancies of three years are the same by all. */
+static int all_agree(void (*make)(params *)) {
+    static const unsigned years[] = {FIRST_YEAR, YEAR, LAST_YEAR};
+    make(&set);
+    length = sheet_of(&set, sheet);
+    for (int i = 0; i < 3; i++)
+        if (!agree(COHORT, years[i]) || !agree(PERIOD, years[i])) {
+            printf("the expectancies of %d differ\n", (int)set.start + (int)years[i]);
+            return 0;
+        }
     return 1;
 }
 
@@ -102,15 +114,8 @@ int main(void) {
         {"cohort at 65", COHORT, 65, 1, 20, 200, YEAR}, {"period at 65", PERIOD, 65, 1, 20, 1000, YEAR},
         {"cohort at 91", COHORT, 91, 1, 20, 100, YEAR}, {"cohort at 120", COHORT, OLDEST, 1, 20, 100, YEAR},
         {"120 in 2014", PERIOD, OLDEST, 1, 20, 1000, FIRST_YEAR}, {"120 in 2064", PERIOD, OLDEST, 1, 20, 1000, LAST_YEAR}};
-    const int years[3] = {FIRST_YEAR, YEAR, LAST_YEAR};
     double took[LOADS][MOST_RUNNERS], best_c[LOADS];
-    realistic(&set);
-    length = sheet_of(&set, sheet);
-    for (int i = 0; i < 3; i++)
-        if (!agree(COHORT, years[i]) || !agree(PERIOD, years[i])) {
-            printf("the expectancies of %d differ\n", years[i]);
-            return 1;
-        }
+    if (!all_agree(later) || !all_agree(realistic)) return 1;
     for (int i = 0; i < compilers; i++) all[FIRST_C + i].which = i;
     for (int l = 0; l < LOADS; l++) best_c[l] = time_load(loads + l, took[l]);
     printf("%-17s", "us an expectancy");
@@ -122,9 +127,9 @@ int main(void) {
     printf("\ncohort, mean: library / faster C %.2f (at most 1.10, goal 1.00); Arb / library %.2f (at least 10.00)\n",
         took[MEAN][LIBRARY] / best_c[MEAN], took[MEAN][ARB] / took[MEAN][LIBRARY]);
     printf("at 65, library: period / cohort %.2f (below 0.20)\n", took[PERIOD_65][LIBRARY] / took[COHORT_65][LIBRARY]);
-    printf("cohort, all %d factors past 120 / from 91 on: library %.2f, faster C %.2f\n", years_on(YEAR - START),
+    printf("cohort, all %d factors past 120 / from 91 on: library %.2f, faster C %.2f\n", years_on(YEAR),
         took[COHORT_120][LIBRARY] / took[COHORT_91][LIBRARY], best_c[COHORT_120] / best_c[COHORT_91]);
-    printf("period at 120, %d factors / %d: library %.2f, faster C %.2f\n", years_on(FIRST_YEAR - START),
-        years_on(LAST_YEAR - START), took[LONGEST][LIBRARY] / took[SHORTEST][LIBRARY], best_c[LONGEST] / best_c[SHORTEST]);
+    printf("period at 120, %d factors / %d: library %.2f, faster C %.2f\n", years_on(FIRST_YEAR), years_on(LAST_YEAR),
+        took[LONGEST][LIBRARY] / took[SHORTEST][LIBRARY], best_c[LONGEST] / best_c[SHORTEST]);
     return 0;
 }

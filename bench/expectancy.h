@@ -1,4 +1,4 @@
-/* Life expectancies worked by C and by Arb, annuities and survival to a day by C, at one age in year n, counted from 2013. */
+/* Life expectancies worked by C and by Arb, annuities and survival to a day by C, at one age in year n, counted from the start. */
 #ifndef EXPECTANCY_H
 #define EXPECTANCY_H
 #include "compilers.h"
@@ -9,8 +9,8 @@ enum kind { COHORT, PERIOD };
 /* The oldest age of the table; its probability serves past it. */
 enum { OLDEST = COLUMN - 1 };
 
-/* The years from year n on, to 2184. */
-static inline int years_on(unsigned n) { return 2184 - START + 1 - (int)n; }
+/* The years from year n on, to the last of the table. */
+static inline int years_on(unsigned n) { return TABLE_YEARS + 1 - (int)n; }
 
 /* The grid of the papers in plain C: the two ends; returns 0 where a needed cell is steep. */
 typedef int expectancy_in_c(const params *p, enum kind kind, int age, unsigned n, uint64_t *ends);

@@ -31,7 +31,7 @@ double expectancy_by_arb(const params *p, enum kind kind, int age, unsigned n) {
         arb_add(total, total, alive, BITS);
         if (kind == COHORT) {
             arb_add(y.period, y.period, y.theta, BITS);
-            arb_mul(y.kappa, y.kappa, y.a, BITS);
+            next_kappa(&y);
         }
     }
     double middle = middle_of(total);

@@ -1,8 +1,8 @@
-/* The grid of paper 01, with the half steps of paper 02, E4, in plain C, for comparison of speed: same terms, same roundings,
-   no proofs. The functions with long sums are not marked inline: gcc's code is slower by a tenth where it inlines them
-   everywhere. Sums stop where their terms have run out, as the library's do: the logarithm from a lower power of 0 and an upper
-   one of at most 1 on, from where what is left is a count; the exponential holds each upper end less one, from term 1 on, which is
-   f, and stops where both are 0. */
+/* The grid of paper 01, with the half steps of paper 02, E4, and its constant of kappa, in plain C, for comparison of speed: same
+   terms, same roundings, no proofs. The functions with long sums are not marked inline: gcc's code is slower by a tenth where it
+   inlines them everywhere. Sums stop where their terms have run out, as the library's do: the logarithm from a lower power of 0
+   and an upper one of at most 1 on, from where what is left is a count; the exponential holds each upper end less one, from term
+   1 on, which is f, and stops where both are 0. */
 #ifndef GRID_H
 #define GRID_H
 #include "params.h"
@@ -104,13 +104,13 @@ static uint64_t logistic_upper(int64_t g) {
     return up(e * UNIT, UNIT + e);
 }
 
-/* K in year n. */
+/* K in year n, counted from the start. */
 static inline int64_t period_in(const params *p, unsigned n) { return p->period + (int64_t)n * p->theta; }
 
 static inline pair next_kappa(const params *p, pair kappa) {
     int64_t least = p->a < 0 ? p->a * kappa.upper : p->a * kappa.lower;
     int64_t most = p->a < 0 ? p->a * kappa.lower : p->a * kappa.upper;
-    pair r = {floor_div(least, RATE), ceil_div(most, RATE)};
+    pair r = {floor_div(least, RATE) + p->c, ceil_div(most, RATE) + p->c};
     return r;
 }
 

@@ -8,15 +8,20 @@
 #define COLUMN 121
 #define FIRST_CLOSED 80
 #define CLOSED 11
-#define START 2013
+
+/* The years of a quote and of the table, counted from the start year. */
+#define QUOTE_YEARS 51
+#define TABLE_YEARS 171
 
 typedef struct {
-    int64_t a, theta, period, kappa;
+    int lilee; /* whether it is of the table LILEE, or of AG2014 */
+    int64_t a, theta, period, kappa, start, c;
     int64_t level[AGES], slope[AGES], alpha[AGES], beta[AGES];
 } params;
 
-/* Parameters of the sizes that a fit gives. */
+/* Parameters of the sizes that a fit gives, of AG2014 and, with a later start and a constant, of the table LILEE. */
 void realistic(params *p);
+void later(params *p);
 
 /* Writes the set's sheet and returns its length. */
 size_t sheet_of(const params *p, char *text);

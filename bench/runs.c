@@ -16,7 +16,7 @@
 #include "params.h"
 #include "timing.h"
 
-enum { TURNS = 80, QUERIES = 1000, KINDS = 7, FIRST_YEAR = 2014, MOST_INPUT = 65536, LONGEST_LINE = 161 };
+enum { TURNS = 80, QUERIES = 1000, KINDS = 7, MOST_INPUT = 65536, LONGEST_LINE = 161 };
 
 /* A kind: its word, how many years it has, whether it has spans, whether it has rates, and the steps of its figure in one. */
 typedef struct {
@@ -25,14 +25,16 @@ typedef struct {
     uint64_t steps;
 } kind;
 
-static const kind kinds[KINDS] = {{"q", 171, 0, 0, 100000}, {"coh", 51, 1, 0, 100000}, {"per", 51, 1, 0, 100000},
-    {"ecoh", 51, 0, 0, 10}, {"eper", 51, 0, 0, 10}, {"acoh", 51, 0, 1, 10}, {"aper", 51, 0, 1, 10}};
+static const kind kinds[KINDS] = {{"q", TABLE_YEARS, 0, 0, 100000}, {"coh", QUOTE_YEARS, 1, 0, 100000},
+    {"per", QUOTE_YEARS, 1, 0, 100000}, {"ecoh", QUOTE_YEARS, 0, 0, 10}, {"eper", QUOTE_YEARS, 0, 0, 10},
+    {"acoh", QUOTE_YEARS, 0, 1, 10}, {"aper", QUOTE_YEARS, 0, 1, 10}};
 
 typedef struct {
     const kind *kind;
     int age, year, span, rate;
 } query;
 
+static params set;
 static query queries[QUERIES];
 static char input[MOST_INPUT + LONGEST_LINE];
 static size_t sheet_length, input_length;
@@ -49,7 +51,7 @@ static void stop(const char *why) {
 
 static query drawn(void) {
     const kind *k = kinds + draw(KINDS - 1);
-    int age = (int)draw(COLUMN - 1), year = FIRST_YEAR + (int)draw(k->years - 1);
+    int age = (int)draw(COLUMN - 1), year = (int)set.start + 1 + (int)draw(k->years - 1);
     query q = {k, age, year, k->spans ? (int)draw(COLUMN - age) : 0, k->rates ? (int)draw(KULFIZAN_HIGHEST_RATE) : 0};
     return q;
 }
@@ -61,7 +63,6 @@ static size_t put_query(const query *q, char *text) {
 
 /* The sheet and the queries as one input, in its file too. */
 static void make_input(const char *name) {
-    static params set;
     realistic(&set);
     sheet_length = input_length = sheet_of(&set, input);
     for (int i = 0; i < QUERIES; i++) {

@@ -4,6 +4,12 @@
 #include <stdbool.h>
 #include <string.h>
 
+#define FIRST_START 2013
+#define LAST_START 2033
+#define TABLE_YEARS 171
+#define RATE 100000000
+#define MOST_KAPPA 50000000000
+
 struct cursor {
     const uint8_t *at, *end;
 };
@@ -61,8 +67,17 @@ static bool take_ages(struct cursor *c, struct sheet *s) {
     return true;
 }
 
+/* The first line and the key of the second, and of AG2014 what its sheet does not say. */
+static bool take_table(struct cursor *c, struct sheet *s) {
+    s->lilee = 0, s->start = FIRST_START, s->c = 0;
+    if (take(c, "table=AG2014\nsex="))
+        return true;
+    s->lilee = 1;
+    return take(c, "table=LILEE\nsex=");
+}
+
 static bool take_sheet(struct cursor *c, struct sheet *s) {
-    if (!take(c, "table=AG2014\nsex="))
+    if (!take_table(c, s))
         return false;
     if (take(c, "M\n"))
         s->sex = 'M';
@@ -71,27 +86,49 @@ static bool take_sheet(struct cursor *c, struct sheet *s) {
     else
         return false;
     return take_line(c, "a", "", &s->a) && take_line(c, "theta", "", &s->theta) && take_line(c, "K", "", &s->period)
-        && take_line(c, "k", "", &s->kappa) && take_ages(c, s) && c->at == c->end;
+        && take_line(c, "k", "", &s->kappa)
+        && (!s->lilee || (take_line(c, "start", "", &s->start) && take_line(c, "c", "", &s->c))) && take_ages(c, s)
+        && c->at == c->end;
 }
 
 static bool within(int64_t v, int64_t limit) {
     return -limit <= v && v <= limit;
 }
 
+static int64_t floor_div(int64_t n, int64_t d) { return n < 0 ? -1 - (-1 - n) / d : n / d; }
+
+static int64_t ceil_div(int64_t n, int64_t d) { return n > 0 ? 1 + (n - 1) / d : n / d; }
+
+/* Kappa's ends in all years, with numbers that are within their sizes. With no constant they never leave k's limit. */
+static bool kappa_in_limits(const struct sheet *s) {
+    int64_t lower = s->kappa, upper = s->kappa;
+    for (int n = 0; n < TABLE_YEARS; n++) {
+        int64_t least = s->a < 0 ? s->a * upper : s->a * lower, most = s->a < 0 ? s->a * lower : s->a * upper;
+        lower = floor_div(least, RATE) + s->c;
+        upper = ceil_div(most, RATE) + s->c;
+        if (!within(lower, MOST_KAPPA) || !within(upper, MOST_KAPPA))
+            return false;
+    }
+    return true;
+}
+
 static bool in_limits(const struct sheet *s) {
+    if (s->lilee && (s->start < FIRST_START || s->start > LAST_START || !within(s->c, 10000000000)))
+        return false;
     if (!within(s->a, 100000000) || !within(s->theta, 10000000000) || !within(s->period, 500000000000)
-        || !within(s->period + 171 * s->theta, 500000000000) || !within(s->kappa, 50000000000))
+        || !within(s->period + TABLE_YEARS * s->theta, 500000000000) || !within(s->kappa, MOST_KAPPA))
         return false;
     for (int x = 0; x < AGES; x++)
         if (!within(s->level[x], 40000000000) || !within(s->slope[x], 10000000) || !within(s->alpha[x], 40000000000)
             || !within(s->beta[x], 10000000))
             return false;
-    return true;
+    return !s->lilee || kappa_in_limits(s);
 }
 
 static int refused(int no, struct sheet *out) {
     memset(out, 0, sizeof *out);
     out->sex = 'M';
+    out->start = FIRST_START;
     return no;
 }
 

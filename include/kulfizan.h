@@ -1,9 +1,16 @@
-/* Kulfizan for C: the AG2014 table with the parameters of a sheet. A sheet read and written, a query of it answered, an
-   annuity of it priced, survival to a day by it, a published column checked by it, and the whole run of an input. `make lib`
-   writes libkulfizan.a and libkulfizan.so into target/lib.
+/* Kulfizan for C: the AG2014 table, or a later fit of the same model, with the parameters of a sheet. A sheet read and written, a
+   query of it answered, an annuity of it priced, survival to a day by it, a published column checked by it, and the whole run of
+   an input. `make lib` writes libkulfizan.a and libkulfizan.so into target/lib.
 
-   A set is 369 numbers: the sex (0 for M, 1 for F), a, theta, K, k, and then for ages 0 to 90 A, B, alpha, beta, in
-   the sheet's order and its units.
+   A set is 372 numbers: the table (0 for AG2014, 1 for LILEE), the sex (0 for M, 1 for F), a, theta, K, k, the start year, the
+   constant c, and then for ages 0 to 90 A, B, alpha, beta, in the sheet's units. A set of AG2014 has the start year 2013 and c 0;
+   one of LILEE has a start year from 2013 to 2033. Years count from the start: queries take those from start + 1 to start + 51, q
+   and columns those to start + 171.
+
+   Earlier the list had 369 numbers: the sex, a, theta, K, k and those of the ages. A program that holds such lists makes room for
+   KULFIZAN_SET_LENGTH numbers, puts a 0 before the sex and 2013 and 0 after k, and finds the sex at place 1, a, theta, K and k at
+   2 to 5, and the ages' numbers from place 8 on. A list of 369 numbers is torn to the writer and short to the reader. The calls
+   that take a sheet's bytes are as they were; a buffer for any sheet has KULFIZAN_LONGEST_SHEET bytes, 45 more than before.
 
    A call gives 0, or the number of its refusal and then leaves everything that it is lent as it was. The lowest number
    that applies is given, where 8 comes after 5 and before 6, 9 after 2 and before 4, and 10 after 4 and before 5.
@@ -17,11 +24,11 @@
 #include <stddef.h>
 #include <stdint.h>
 
-#define KULFIZAN_SET_LENGTH 369
+#define KULFIZAN_SET_LENGTH 372
 #define KULFIZAN_QUOTE_LENGTH 4
 
 /* No sheet that is written, and none that is accepted, has more bytes. */
-#define KULFIZAN_LONGEST_SHEET 8483
+#define KULFIZAN_LONGEST_SHEET 8528
 
 /* No longer input is read. */
 #define KULFIZAN_LONGEST_INPUT 65536
@@ -36,9 +43,11 @@
 enum kulfizan_refusal {
     KULFIZAN_ACCEPTED = 0,
     KULFIZAN_TORN = 1,         /* the sheet, the kind's word or the list of numbers breaks its form */
-    KULFIZAN_OFF_SCALE = 2,    /* a parameter, or K + 171*theta, is past its size */
+    KULFIZAN_OFF_SCALE = 2,    /* a parameter, or K + 171*theta, is past its size, or kappa in some year from the start to
+                                  start + 171; the start year is outside 2013 to 2033; a set of AG2014 has another start than
+                                  2013 or another c than 0 */
     KULFIZAN_NO_SUCH_AGE = 3,  /* the age is outside 0 to 120 */
-    KULFIZAN_NO_SUCH_YEAR = 4, /* the year is outside the kind's range */
+    KULFIZAN_NO_SUCH_YEAR = 4, /* the year is outside the kind's range, which counts from the set's start year */
     KULFIZAN_NO_SUCH_SPAN = 5, /* the span is outside 0 to 121 - age; for q, expectancies and annuities, not 0; a date is
                                   outside its term */
     KULFIZAN_STEEP = 6,        /* a needed cell's log force leaves its range */
@@ -59,48 +68,51 @@ enum kulfizan_column_verdict {
 extern "C" {
 #endif
 
-/* Reads a sheet into the first 369 numbers; those after them keep their values. Torn where the sheet has more than
-   65,536 bytes or breaks its form, off scale, and short where there are fewer than 369 numbers. */
+/* Reads a sheet of either table into the first 372 numbers; those after them keep their values. A sheet of AG2014 gives the table
+   0, the start year 2013 and c 0. Torn where the sheet has more than 65,536 bytes or breaks its form, off scale, and short where
+   there are fewer than 372 numbers. */
 uint8_t kulfizan_read(const uint8_t *sheet, size_t sheet_length, int64_t *values, size_t values_length);
 
-/* Writes the one sheet of a set's numbers into the buffer, and its length; bytes after the sheet keep their values. Torn
-   where there are not exactly 369 numbers or the first is neither 0 nor 1, off scale, and short where the buffer can't
-   take the sheet. */
+/* Writes the one sheet of a set's numbers, of its table, into the buffer, and its length; bytes after the sheet keep their values.
+   Torn where there are not exactly 372 numbers, or the first or the second is neither 0 nor 1, off scale, and short where the
+   buffer can't take the sheet. */
 uint8_t kulfizan_write(const int64_t *values, size_t values_length, uint8_t *buffer, size_t buffer_length,
                        uint64_t *length);
 
-/* Answers one query of a sheet. The kind is one of the words q, coh, per, ecoh and eper, with no byte after it. The first
-   four numbers of the quote are then the lower end and the upper end in units of 10^-9, 1 where the figure is printed and
-   0 where it is open, and the figure's number of steps (of 0.00001, for an expectancy 0.1), 0 where it is open; numbers
-   after them keep their values. Torn where the sheet or the kind is, off scale, no such age, year or span, steep, and
-   short where there are fewer than four numbers. */
+/* Answers one query of a sheet. The kind is one of the words q, coh, per, ecoh and eper, with no byte after it. The year is one
+   from start + 1 to start + 51, for q to start + 171: for AG2014 2014 to 2064, and to 2184. The first four numbers of the quote
+   are then the lower end and the upper end in units of 10^-9, 1 where the figure is printed and 0 where it is open, and the
+   figure's number of steps (of 0.00001, for an expectancy 0.1), 0 where it is open; numbers after them keep their values. Torn
+   where the sheet or the kind is, off scale, no such age, year or span, steep, and short where there are fewer than four
+   numbers. */
 uint8_t kulfizan_quote(const uint8_t *sheet, size_t sheet_length, const uint8_t *kind, size_t kind_length, int64_t age,
                        int64_t year, int64_t span, uint64_t *quote, size_t quote_length);
 
 /* Prices one annuity of a sheet: 1 paid now and on each 1 January while alive. The kind is one of the words acoh and aper,
-   with no byte after it, and the rate is in units of 10^-6. The quote is as above, in steps of 0.1. Torn where the sheet or
-   the kind is, off scale, no such age, year, span or rate, steep, and short where there are fewer than four numbers. */
+   with no byte after it, the year one from start + 1 to start + 51, and the rate is in units of 10^-6. The quote is as above, in
+   steps of 0.1. Torn where the sheet or the kind is, off scale, no such age, year, span or rate, steep, and short where there are
+   fewer than four numbers. */
 uint8_t kulfizan_annuity(const uint8_t *sheet, size_t sheet_length, const uint8_t *kind, size_t kind_length, int64_t age,
                          int64_t year, int64_t span, int64_t rate, uint64_t *quote, size_t quote_length);
 
-/* Survival to a day of one life of a sheet, along the cohort, from 1 January of the year. The date is the number YYYYMMDD, from
-   that day to 31 December of the year in which age 120 is held. The quote is as above, in steps of 0.00001. Torn where the sheet
-   is, off scale, no such age or year, no such date, no such span where it is a day outside that term, steep, and short where
-   there are fewer than four numbers. */
+/* Survival to a day of one life of a sheet, along the cohort, from 1 January of the year, one from start + 1 to start + 51. The
+   date is the number YYYYMMDD, from that day to 31 December of the year in which age 120 is held. The quote is as above, in steps
+   of 0.00001. Torn where the sheet is, off scale, no such age or year, no such date, no such span where it is a day outside that
+   term, steep, and short where there are fewer than four numbers. */
 uint8_t kulfizan_day(const uint8_t *sheet, size_t sheet_length, int64_t age, int64_t year, int64_t date, uint64_t *quote,
                      size_t quote_length);
 
 /* Checks a column of q for one year that somebody published: 121 lines `age=0 q=0.00312`, each ended by a line feed, in any order,
    each age from 0 to 120 once. The verdict is wrong where some age with a printed figure here has another entry; else open, where
    some age's figure is open here; else right. Torn where the sheet is, off scale, torn column, no such year where it is none of
-   those of q, and steep. */
+   those of q, start + 1 to start + 171, and steep. */
 uint8_t kulfizan_verdict(const uint8_t *sheet, size_t sheet_length, int64_t year, const uint8_t *column,
                          size_t column_length, uint64_t *verdict);
 
 /* Writes the whole run of an input into the buffer, and its length; bytes after the output keep their values. The input is
-   a sheet and then query lines, as the programs take it from standard input; with `ends` 0 the output is what the program
-   `quotes` prints, with any other number what `ends` prints. A refused sheet and a refused query are lines of the output.
-   Short where the buffer has fewer than KULFIZAN_RUN_ROOM(input_length) bytes, and no other refusal. */
+   a sheet of either table and then query lines, as the programs take it from standard input; with `ends` 0 the output is what
+   the program `quotes` prints, with any other number what `ends` prints. A refused sheet and a refused query are lines of the
+   output. Short where the buffer has fewer than KULFIZAN_RUN_ROOM(input_length) bytes, and no other refusal. */
 uint8_t kulfizan_run(const uint8_t *input, size_t input_length, uint8_t ends, uint8_t *buffer, size_t buffer_length,
                      uint64_t *length);
 

@@ -1,11 +1,17 @@
-"""Kulfizan for Python: the AG2014 table with the parameters of a sheet, worked so that every printed digit is proved.
+"""Kulfizan for Python: the AG2014 table, or a later fit of the same model, with the parameters of a sheet, worked so that every
+printed digit is proved.
 
 It calls the proved library through the standard `ctypes`. The library is the file that the environment variable
 KULFIZAN_LIBRARY names, else libkulfizan.so beside this file, else the one that `make lib` writes into target/lib.
 
-A set is a list of 369 whole numbers: the sex (0 for M, 1 for F), a, theta, K, k, and then for ages 0 to 90 A, B, alpha and
-beta, in the sheet's order and its units. A refused call raises `Refused`, which has the refusal's number: also
-where a number is past 64 bits, since out of the table is out of the table, however far.
+A set is a list of 372 whole numbers: first those that `HEAD` names, the table (0 for AG2014, 1 for LILEE), the sex (0 for M, 1
+for F), a, theta, K, k, the start year and the constant c, and then for ages 0 to 90 A, B, alpha and beta, in the sheet's units; so
+`dict(zip(kulfizan.HEAD, kulfizan.read(sheet)))` has the first ones by their names. A set of AG2014 has the start year 2013 and c 0.
+Years count from the start: a quote takes those from start + 1 to start + 51, q and a column those to start + 171. Earlier the list
+had 369 numbers, with neither table, start nor c.
+
+A refused call raises `Refused`, which has the refusal's number: also where a number is past 64 bits, since out of the table is out
+of the table, however far.
 """
 import array
 import collections
@@ -15,16 +21,20 @@ import operator
 import os
 import pathlib
 
-SET_LENGTH = 369
+# The names of a set's first numbers, in their order, and of the tables and the sexes by their numbers.
+HEAD = ("table", "sex", "a", "theta", "K", "k", "start", "c")
+TABLES = ("AG2014", "LILEE")
+SEXES = ("M", "F")
+SET_LENGTH = len(HEAD) + 4 * 91
 QUOTE_LENGTH = 4
-LONGEST_SHEET = 8_483
+LONGEST_SHEET = 8_528
 LEAST, GREATEST = -(2**63), 2**63 - 1
 
 REFUSALS = {
     1: "torn: the sheet, the kind's word or the list of numbers breaks its form",
-    2: "off scale: a parameter, or K + 171*theta, is past its size",
+    2: "off scale: a parameter, K + 171*theta or kappa is past its size, or the start year or c is none of the table's",
     3: "no such age: the age is outside 0 to 120",
-    4: "no such year: the year is outside the kind's range",
+    4: "no such year: the year is outside the kind's range, which counts from the start year",
     5: "no such span: the span is outside 0 to 121 - age; for q, expectancies and annuities, not 0; a date is outside its term",
     6: "steep: a needed cell's log force leaves its range",
     7: "short: what is lent has too little room",
@@ -86,8 +96,8 @@ def accepted(number):
 
 def signed(values):
     """Numbers of 64 bits for a call, of at least one place, so that the pointer is never one to nothing. A number past 64 bits
-    goes in as the nearest that fits: both ends of 64 bits are outside every age, year, span and rate of the table, no date and
-    past every parameter's size, so that the refusal is the same."""
+    goes in as the nearest that fits: both ends of 64 bits are outside every age, year, span and rate of the table, no table, sex,
+    start year or date and past every parameter's size, so that the refusal is the same."""
     checked = array.array("q", (max(LEAST, min(GREATEST, operator.index(value))) for value in values))
     return (ctypes.c_int64 * max(1, len(checked)))(*checked), len(checked)
 
@@ -100,7 +110,7 @@ def written(call, *given, room):
 
 
 def read(sheet):
-    """The set of a sheet's bytes."""
+    """The set of a sheet's bytes, of either table."""
     sheet = bytes(sheet)
     values = (ctypes.c_int64 * SET_LENGTH)()
     accepted(LIBRARY.kulfizan_read(sheet, len(sheet), values, SET_LENGTH))
@@ -108,7 +118,7 @@ def read(sheet):
 
 
 def write(values):
-    """The one sheet of a set, as bytes."""
+    """The one sheet of a set, as bytes: 370 lines for AG2014, 372 for LILEE."""
     numbers, count = signed(values)
     return written(LIBRARY.kulfizan_write, numbers, count, room=LONGEST_SHEET)
 

@@ -8,11 +8,13 @@ import pathlib
 import subprocess
 import sys
 
+from grid import AG2014, LILEE
+
 ROOT = pathlib.Path(__file__).resolve().parent.parent
 EXAMPLE = ROOT / "target" / "examples" / "quote"
 LEAST, GREATEST = -(2**63), 2**63 - 1
 GUARD = 0x5A
-SET_LENGTH, QUOTE_LENGTH = 369, 4
+SET_LENGTH, QUOTE_LENGTH = 372, 4
 
 
 def built():
@@ -30,6 +32,12 @@ def built():
     import kulfizan
 
     return kulfizan
+
+
+def listed(which):
+    """A set as the library has it: the table, the sex, a, theta, K, k, the start year, c and the numbers of the ages."""
+    head = [(AG2014, LILEE).index(which.table), "MF".index(which.sex), *which.numbers[:4], which.start, which.c]
+    return head + list(which.numbers[4:])
 
 
 class Count:

@@ -1,4 +1,5 @@
-"""The grid of paper 01, with the half steps of paper 02, E4, in whole numbers, written from the papers' text."""
+"""The grid of paper 01, with the half steps of paper 02, E4, and the start years and the constant of its sheets of another table,
+in whole numbers, written from the papers' text."""
 from fractions import Fraction
 
 UNIT = 10**9
@@ -49,12 +50,16 @@ def exp_ends(z):
     return down(lower * below, UNIT), up(upper * above, UNIT)
 
 
-# ---- one cell of the table: a set is a dict with a, theta, K, k and the runs A, B, al, be of 91 numbers
+# ---- one cell of the table: a set is a dict with its table, its start year, its sex, a, theta, K, k, the constant c and the runs
+# A, B, al, be of 91 numbers
 
 RATE = 10**8
 LOG_TERMS = 28
 LOWEST, HIGHEST = -30 * 10**9, -7 * 10**8
+# The two tables, the start year of the first, and what all its sets have.
+AG2014, LILEE = "AG2014", "LILEE"
 START = 2013
+OF_AG2014 = {"table": AG2014, "start": START, "c": 0}
 
 
 def products(c, ends):
@@ -64,12 +69,12 @@ def products(c, ends):
 
 
 def kappas(params, years):
-    """Kappa's ends in each year from the start year on."""
+    """Kappa's ends in each year from the start year on: each year's product outward, and then c added."""
     ends = (params["k"], params["k"])
     out = [ends]
     for _ in range(years):
         least, greatest = products(params["a"], ends)
-        ends = (down(least, RATE), up(greatest, RATE))
+        ends = (down(least, RATE) + params["c"], up(greatest, RATE) + params["c"])
         out.append(ends)
     return out
 
@@ -145,7 +150,7 @@ def death(force):
 
 def column(params, year, kappa=None):
     """The ends of q at ages 0 to 120 in a year, None where a needed cell is steep."""
-    n = year - START
+    n = year - params["start"]
     period = params["K"] + n * params["theta"]
     kappa = kappa or kappas(params, n)[n]
     ms = [log_force(params, x, period, kappa) for x in range(91)]
@@ -161,4 +166,5 @@ def column(params, year, kappa=None):
 def flat():
     """The flat sheet: every A = −1000000000, all else 0."""
     zero = [0] * 91
-    return {"sex": "M", "a": 0, "theta": 0, "K": 0, "k": 0, "A": [-(10**9)] * 91, "B": zero, "al": zero, "be": zero}
+    series = {"a": 0, "theta": 0, "K": 0, "k": 0}
+    return {**OF_AG2014, "sex": "M", **series, "A": [-(10**9)] * 91, "B": zero, "al": zero, "be": zero}

@@ -1,7 +1,7 @@
 """Quotes of all eight kinds, written from paper 01 and, for annuities, lives past 120 and survival to a day, paper 02: their
 refusals, their ends on the grid, their figures, and their exact values to many digits. A query is a kind, an age, a year and a
-span, and for an annuity a rate; survival to a day has a date, a number YYYYMMDD, in the span's place. The calendar is that of
-Python's datetime."""
+span, and for an annuity a rate; survival to a day has a date, a number YYYYMMDD, in the span's place. The years count from the
+start year of the set. The calendar is that of Python's datetime."""
 import datetime
 from decimal import Decimal
 from functools import cache
@@ -9,7 +9,7 @@ from functools import cache
 import exact
 import grid
 from grid import START, UNIT, down, up
-from reader import in_limits, numbers_of
+from reader import YEARS, in_limits, set_from
 
 SURVIVALS, EXPECTANCIES, ANNUITIES = ("coh", "per"), ("ecoh", "eper"), ("acoh", "aper")
 DAY = "day"
@@ -20,10 +20,19 @@ UNRATED = ("q",) + SURVIVALS + EXPECTANCIES
 KINDS = UNRATED + ANNUITIES + (DAY,)
 OFF_SCALE, NO_AGE, NO_YEAR, NO_SPAN, STEEP, NO_RATE, NO_DATE = 2, 3, 4, 5, 6, 8, 10
 OLDEST, LAST_FITTED, CLOSURE = 120, 90, range(80, 91)
-FIRST_YEAR, LAST_YEAR, LAST_CELL = 2014, 2064, 2184
+QUOTE_YEARS = 51
 RATE_UNIT, MOST_RATE = 10**6, 200_000
 FIRST_DATED, LAST_DATED = 1000, 9999
 OPEN = "open"
+
+
+def years_of(start):
+    """The first and the last year of a quote, and the last year of the table, of sets with a start year."""
+    return start + 1, start + QUOTE_YEARS, start + YEARS
+
+
+# Those of AG2014.
+FIRST_YEAR, LAST_YEAR, LAST_CELL = years_of(START)
 
 
 def step(kind):
@@ -67,9 +76,9 @@ def width(kind, age, year, span, *_):
     return 10_000_000 if kind in TENTHS else 30_000 + last if kind == DAY else 30_000
 
 
-def factors_from(year):
-    """How many factors an expectancy or an annuity of a year has, whatever the age."""
-    return LAST_CELL + 1 - year
+def factors_from(start, year):
+    """How many factors an expectancy or an annuity of a year has, whatever the age: to the last year of the table."""
+    return years_of(start)[2] + 1 - year
 
 
 def path_to(age, year, day):
@@ -80,13 +89,13 @@ def path_to(age, year, day):
     return [(age + s, year + s) for s in range(whole)] + last
 
 
-def path(kind, age, year, span):
+def path(start, kind, age, year, span):
     """The cells, (age, year), whose p or q an accepted quote is made of, and for a part year its days and how many the year
     has. The probability of age 120, in the year reached, serves all older ages; expectancies and annuities have a factor for
-    each year to 2184, period ones as many."""
+    each year to the last of the table, period ones as many."""
     if kind == DAY:
         return path_to(age, year, day_of(span))
-    count = span if kind in SURVIVALS else 1 if kind == "q" else factors_from(year)
+    count = span if kind in SURVIVALS else 1 if kind == "q" else factors_from(start, year)
     on = 1 if kind in COHORT else 0
     return [(min(age + s, OLDEST), year + on * s) for s in range(count)]
 
@@ -141,7 +150,7 @@ class Cells:
     fit once a year, and only the cells that are asked for."""
 
     def __init__(self, params):
-        self.params = params
+        self.params, self.start = params, params["start"]
         self.m, self.force, self.fitted, self.p = map(cache, (self.m, self.force, self.fitted, self.p))
 
     def force(self, age, year):
@@ -163,11 +172,11 @@ class GridCells(Cells):
 
     def __init__(self, params):
         super().__init__(params)
-        self.kappas, self.steep = grid.kappas(params, LAST_CELL - START), cache(self.steep)
+        self.kappas, self.steep = grid.kappas(params, YEARS), cache(self.steep)
 
     def m(self, age, year):
-        period = self.params["K"] + (year - START) * self.params["theta"]
-        return grid.log_force(self.params, age, period, self.kappas[year - START])
+        period = self.params["K"] + (year - self.start) * self.params["theta"]
+        return grid.log_force(self.params, age, period, self.kappas[year - self.start])
 
     def p(self, age, year, *part):
         return grid.exp_between(self.passed(age, year, part))
@@ -181,10 +190,10 @@ class ExactCells(Cells):
 
     def __init__(self, params):
         super().__init__(params)
-        self.kappa = cache(lambda year: exact.kappa(params, year))
+        self.kappas = exact.kappas(params, YEARS)
 
     def m(self, age, year):
-        return exact.log_force(self.params, age, year, self.kappa(year))
+        return exact.log_force(self.params, age, year, self.kappas[year - self.start])
 
     def p(self, age, year, *part):
         return exact.survival(self.passed(age, year, part))
@@ -194,7 +203,7 @@ class Quotes:
     """The quotes of one set."""
 
     def __init__(self, params):
-        self.in_limits = in_limits(numbers_of(params))
+        self.start, self.in_limits = params["start"], in_limits(set_from(params))
         if self.in_limits:
             self.grid, self.exact = GridCells(params), ExactCells(params)
 
@@ -205,7 +214,8 @@ class Quotes:
             return OFF_SCALE
         if not 0 <= age <= OLDEST:
             return NO_AGE
-        if not FIRST_YEAR <= year <= (LAST_CELL if kind == "q" else LAST_YEAR):
+        first_year, last_year, last_cell = years_of(self.start)
+        if not first_year <= year <= (last_cell if kind == "q" else last_year):
             return NO_YEAR
         if kind == DAY:
             day, (first, last) = day_of(span), term(age, year)
@@ -217,15 +227,15 @@ class Quotes:
             return NO_SPAN
         if kind in ANNUITIES and not 0 <= rate <= MOST_RATE:
             return NO_RATE
-        return STEEP if any(self.grid.steep(*cell) for cell in path(kind, age, year, span)) else 0
+        return STEEP if any(self.grid.steep(*cell) for cell in path(self.start, kind, age, year, span)) else 0
 
     def ends(self, kind, age, year, span, rate=None):
         """The two ends of an accepted quote."""
-        return grid_ends(kind, [self.grid.p(*cell) for cell in path(kind, age, year, span)], rate)
+        return grid_ends(kind, [self.grid.p(*cell) for cell in path(self.start, kind, age, year, span)], rate)
 
     def value(self, kind, age, year, span, rate=None):
         """The exact value of an accepted quote, in units."""
-        factors = [self.exact.p(*cell) for cell in path(kind, age, year, span)]
+        factors = [self.exact.p(*cell) for cell in path(self.start, kind, age, year, span)]
         if kind == "q":
             return (1 - factors[0]) * UNIT
         if kind in ANNUITIES:

@@ -1,13 +1,13 @@
-"""Parameter sets and their sheets, for the tests: written from paper 01, "Parameter sheet"."""
-from grid import HIGHEST, LOWEST, RATE, START, flat
-from reader import SIZES, Set, numbers_of, sheet_of
+"""Parameter sets and their sheets, for the tests: written from paper 01, "Parameter sheet", and from paper 02."""
+from grid import HIGHEST, LILEE, LOWEST, OF_AG2014, RATE, START, flat, kappas
+from reader import SIZES, kappa_within, set_from, sheet_of
 
 AGES = 91
 
 
 def text(params):
     """The one sheet of a set."""
-    return sheet_of(Set(params["sex"], numbers_of(params)))
+    return sheet_of(set_from(params))
 
 
 def clamp(value, size):
@@ -25,7 +25,7 @@ def series(draw, a, spread):
 
 def realistic(draw):
     """Parameters of the sizes that a fit gives."""
-    out = {"sex": draw.choice("MF")}
+    out = {**OF_AG2014, "sex": draw.choice("MF")}
     out.update(a=draw.randrange(85 * 10**6, 10**8), theta=-draw.randrange(10**9, 28 * 10**8), K=-draw.randrange(10**10), k=draw.randrange(-(10**10), 10**10))
     base = [-(85 * 10**8) + x * 85 * 10**6 + draw.randrange(-(10**8), 10**8) for x in range(AGES)]
     out["A"] = [clamp(b, 4 * 10**10) for b in base]
@@ -35,13 +35,16 @@ def realistic(draw):
     return out
 
 
-def extreme(draw, a, year, spread=1.0, margin=40):
-    """A set with large parameters whose cells lie in the range in one year, some within a margin of its very ends."""
-    out = {"sex": draw.choice("MF"), **series(draw, a, spread)}
+def large(draw, a, spread):
+    """Large parameters of a set, but for A and al."""
+    out = {**OF_AG2014, "sex": draw.choice("MF"), **series(draw, a, spread)}
     out["B"] = [draw.randrange(-(10**7), 10**7 + 1) for _ in range(AGES)]
     out["be"] = [draw.randrange(-(10**7), 10**7 + 1) for _ in range(AGES)]
-    period = out["K"] + (year - START) * out["theta"]
-    kappa = out["k"] * (out["a"] / RATE) ** (year - START)
+    return out
+
+
+def centred(draw, out, period, kappa, margin):
+    """The set with A and al such that its cells lie in the range with these K and kappa, some within a margin of its very ends."""
     out["A"], out["al"] = [], []
     for x in range(AGES):
         drift = int((out["B"][x] * period + out["be"][x] * kappa) / RATE)
@@ -51,6 +54,38 @@ def extreme(draw, a, year, spread=1.0, margin=40):
         out["A"].append(first)
         out["al"].append(clamp(base - first, 4 * 10**10))
     return out
+
+
+def extreme(draw, a, year, spread=1.0, margin=40):
+    """A set with large parameters whose cells lie in the range in one year, some within a margin of its very ends."""
+    out, n = large(draw, a, spread), year - START
+    return centred(draw, out, out["K"] + n * out["theta"], out["k"] * (out["a"] / RATE) ** n, margin)
+
+
+def any_constant(draw, a, kappa, most=SIZES["c"]):
+    """A constant, of a size that is halved until kappa keeps within its limit."""
+    c = draw.randint(-most, most)
+    while not kappa_within(a, kappa, c):
+        c = int(c / 2)
+    return c
+
+
+def of_lilee(params, start, c=0):
+    """The set as one of the table LILEE, with a start year and a constant."""
+    return dict(params, table=LILEE, start=start, c=c)
+
+
+def realistic_lilee(draw, start):
+    """As `realistic`, of the table LILEE, with a constant that takes kappa to at most 10 in the long run."""
+    out = realistic(draw)
+    return of_lilee(out, start, any_constant(draw, out["a"], out["k"], 100 * (RATE - out["a"])))
+
+
+def extreme_lilee(draw, a, start, year, spread, margin=40):
+    """As `extreme`, of the table LILEE, with a constant as large as kappa's limit allows, or some halves of it."""
+    out, n = large(draw, a, spread), year - start
+    out = of_lilee(out, start, any_constant(draw, a, out["k"]))
+    return centred(draw, out, out["K"] + n * out["theta"], kappas(out, n)[n][0], margin)
 
 
 def at_edge(draw, year, offset):

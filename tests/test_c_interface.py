@@ -20,10 +20,10 @@ import whole_run
 import c_interface
 import sheets
 import test_quotes
-from c_interface import GREATEST, LEAST, QUOTE_LENGTH, ROOT
+from c_interface import GREATEST, LEAST, QUOTE_LENGTH, ROOT, SET_LENGTH, listed
 from grid import flat
 from quotes import ANNUITIES, DAY, KINDS, OPEN, UNRATED, Quotes, figure
-from reader import KEYS, LIMITS, LONGEST, SHORT, SIZES, TORN, numbers_of, params_of, read
+from reader import KEYS, LIMITS, LONGEST, SHORT, SIZES, TORN, Set, params_of, read, set_from
 
 SEED = 20142065
 PLACES = (QUOTE_LENGTH, QUOTE_LENGTH, QUOTE_LENGTH, QUOTE_LENGTH + 1, 9, QUOTE_LENGTH - 1, 2, 1, 0)
@@ -214,9 +214,9 @@ def far_refusals(module, sheet, values):
         yield 10, module.day, sheet, 65, 2020, far
         yield 10, module.day, sheet, 65, 2020, far + 20200101
         yield TORN, module.quote, sheet, "ecoh", 65, 2020, 0, far
-        yield TORN, module.write, [far] + values[1:]
+        yield from ((TORN, module.write, values[:i] + [far] + values[i + 1 :]) for i in (0, 1))
         yield TORN, module.write, values + [far]
-        yield from ((2, module.write, values[:i] + [far] + values[i + 1 :]) for i in (1, 2, 3, 4, 5, 6, 7, 8, 368))
+        yield from ((2, module.write, values[:i] + [far] + values[i + 1 :]) for i in (*range(2, 12), SET_LENGTH - 1))
 
 
 def compare_days(count, module, sheet, given):
@@ -232,11 +232,11 @@ def compare_days(count, module, sheet, given):
 
 def compare_module(count, draw, module):
     params = sheets.realistic(draw)
-    sheet, values = sheets.text(params), ["MF".index(params["sex"]), *numbers_of(params)]
+    sheet, values = sheets.text(params), listed(set_from(params))
     count.take(module.read(sheet) == values, "read gives another set")
     count.take(module.read(bytearray(sheet)) == values, "read gives another set for a bytearray")
     count.take(module.write(values) == sheet, "write gives another sheet")
-    largest = [1] + [0 if key == "theta" else -most for key, most in zip(KEYS, LIMITS)]
+    largest = listed(Set("F", tuple(0 if key == "theta" else -most for key, most in zip(KEYS, LIMITS))))
     count.take(module.read(module.write(largest)) == largest, "a set at its limits is not read back")
     given = Quotes(params)
     asked = [("q", 65, 2020, 0), ("ecoh", 65, 2020, 0), ("per", 30, 2064, 0)]
@@ -254,7 +254,8 @@ def compare_module(count, draw, module):
     off_scale, steep = sheets.text(dict(flat(), a=SIZES["a"] + 1)), sheets.text(dict(flat(), A=[0] * 91))
     refusals = [
         (TORN, module.read, b""), (2, module.read, off_scale), (TORN, module.write, []), (TORN, module.write, values + [0]),
-        (TORN, module.write, [2] + values[1:]), (2, module.write, [0, GREATEST] + values[2:]),
+        (TORN, module.write, [2] + values[1:]), (TORN, module.write, [0, 2] + values[2:]),
+        (2, module.write, [0, 0, GREATEST] + values[3:]),
         (TORN, module.quote, sheet, "", 65, 2020), (TORN, module.quote, sheet, "\u00e9", 65, 2020),
         (2, module.quote, off_scale, "q", 121, 2020), (3, module.quote, sheet, "q", 121, 2020),
         (3, module.quote, sheet, "q", LEAST, LEAST, LEAST), (4, module.quote, sheet, "q", 65, 2185),

@@ -78,9 +78,9 @@ def compare(job):
     answers, said = asked(params, years)
     if said:
         return 0, 0, [said]
-    kappas = grid.kappas(params, max(years) - grid.START)
+    kappas = grid.kappas(params, max(years) - params["start"])
     for i, year in enumerate(years):
-        want = grid.column(params, year, kappas[year - grid.START])
+        want = grid.column(params, year, kappas[year - params["start"]])
         digits = exact.column(params, year)
         steep += want.count(None)
         for x, answer in zip(AGES, answers[i * len(AGES) :]):

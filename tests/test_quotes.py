@@ -24,7 +24,7 @@ from whole_run import figure_text
 from grid import HIGHEST, LOWEST, RATE, START, UNIT, down, flat, kappas, log_force, up
 from quotes import ANNUITIES, CLOSURE, COHORT, DAY, EXPECTANCIES, FIRST_YEAR, KINDS, LAST_CELL, LAST_FITTED, LAST_YEAR
 from quotes import MOST_RATE, OLDEST, OPEN, RATE_UNIT, STEEP, SURVIVALS, TENTHS, UNRATED, GridCells, Quotes, day_of, figure
-from quotes import grid_ends, number_of, part_year, path, rounded, step, term, width
+from quotes import grid_ends, number_of, part_year, path, rounded, step, term, width, years_of
 from reader import LONGEST, SIZES, params_of, read
 
 SEED = 20142064
@@ -192,10 +192,10 @@ EVEN = (
 
 
 def even_sum(alive_in, kind, year, rate=0):
-    """An expectancy or a price where a year has one p at all ages: a plain sum over the years to 2184, of which a period quote
-    takes its own each time."""
+    """An expectancy or a price where a year has one p at all ages: a plain sum over the years to the last, of which a period
+    quote takes its own each time."""
     alive, total = Decimal(1), Decimal(1)
-    for now in range(year, LAST_CELL + 1):
+    for now in range(year, max(alive_in) + 1):
         alive *= alive_in[now if kind in COHORT else year] * RATE_UNIT / (RATE_UNIT + rate)
         total += alive
     return (total - (Decimal(1) / 2 if kind in EXPECTANCIES else 0)) * UNIT
@@ -258,12 +258,12 @@ def refused_cases(draw):
         yield case(f"theta = {theta}", dict(flat(), theta=theta), queries)
 
 
-def mild(draw):
-    """A realistic set in whose years no cell that an expectancy needs is steep."""
+def mild(draw, *start):
+    """A realistic set in whose years no cell that an expectancy needs is steep; with a start year, of the table LILEE."""
     while True:
-        params = sheets.realistic(draw)
-        given = Quotes(params)
-        if not any(given.refusal(*query) for query in (("eper", 0, 2014, 0), ("ecoh", 90, 2014, 0), ("ecoh", 0, 2014, 0))):
+        params = sheets.realistic_lilee(draw, *start) if start else sheets.realistic(draw)
+        given, year = Quotes(params), years_of(params["start"])[0]
+        if not any(given.refusal(*query) for query in (("eper", 0, year, 0), ("ecoh", 90, year, 0), ("ecoh", 0, year, 0))):
             return params
 
 
@@ -399,7 +399,7 @@ def moving(params, key, query):
     kind, age, year, span, *rate = query
     if key == "K" or age in CLOSURE:
         return lambda by: Quotes(moved(params, key, age, by)).ends(*query)
-    cells, (first, *others) = GridCells(params), path(kind, age, year, span)
+    cells, (first, *others) = GridCells(params), path(params["start"], kind, age, year, span)
     later = [cells.p(*cell) for cell in others]
     return lambda by: grid_ends(kind, [GridCells(moved(params, key, age, by)).p(*first), *later], *rate)
 
@@ -414,13 +414,14 @@ def lasting(draw, kind, age, year):
 
 def searched(job):
     """Sheets in which a quote's lower end (side 0), upper end (1) or middle (2) lies at a half step, or as near as can be on
-    either side of it: by secants over K, or A at an age, and then by some tries close by."""
-    kind, side, seed = job
+    either side of it: by secants over K, or A at an age, and then by some tries close by. A job may have a start year."""
+    kind, side, seed, *start = job
     draw = random.Random(seed)
     out = []
     while not out:
-        params, long = mild(draw), kind in TENTHS and kind in COHORT
-        age, year = draw.randint(40, 79 if long else 105), draw.randint(FIRST_YEAR, LAST_YEAR)
+        params, long = mild(draw, *start), kind in TENTHS and kind in COHORT
+        first, last, _ = years_of(params["start"])
+        age, year = draw.randint(40, 79 if long else 105), draw.randint(first, last)
         query = (kind, age, year, lasting(draw, kind, age, year), *any_rate(draw, kind))
         key = "A" if long or age <= 79 and kind not in TENTHS and draw.randrange(2) else "K"
         ends_at, kept = moving(params, key, query), {}
@@ -459,7 +460,7 @@ def searched(job):
 def steep_to_120(given, query):
     """Whether a cell of an expectancy or annuity is steep on the way to 120."""
     kind, age, year, span = query[:4]
-    return any(given.grid.steep(*cell) for cell in path(kind, age, year, span)[: OLDEST + 1 - age])
+    return any(given.grid.steep(*cell) for cell in path(given.start, kind, age, year, span)[: OLDEST + 1 - age])
 
 
 def complaints(given, no, query, line, counts):

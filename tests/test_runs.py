@@ -21,7 +21,7 @@ import whole_run
 import programs
 import sheets
 from grid import HIGHEST, flat
-from quotes import ANNUITIES, DAY, FIRST_YEAR, KINDS, LAST_CELL, OLDEST, UNRATED
+from quotes import ANNUITIES, DAY, KINDS, OLDEST, UNRATED, years_of
 from reader import KEYS, LONGEST, SIZES
 from test_quotes import at_limits, line_of, mild, searched, usual
 
@@ -400,6 +400,16 @@ def shown_runs():
         yield name.decode(), Input(f"README.md, {files.decode()}", data), out
 
 
+def shown_heads():
+    """What is wrong with the starts of files that README.md shows."""
+    guide = (programs.ROOT / "README.md").read_bytes()
+    shown = re.findall(rb"(?m)^\$ head -n ([0-9]+) (.*)\n((?:(?!\$ |```).*\n)*)", guide)
+    for count, file, out in shown:
+        lines = (programs.ROOT / file.decode()).read_bytes().splitlines(keepends=True)
+        yield None if b"".join(lines[: int(count)]) == out else f"README.md shows another start of {file.decode()}"
+    yield None if shown else "README.md shows the start of no file"
+
+
 def guide_jobs():
     """Runs of the programs, and of the second implementation, against what the guide shows."""
     runs = list(shown_runs())
@@ -412,9 +422,10 @@ def guide_jobs():
 
 def steep_examples():
     """The realistic examples have no steep cell."""
-    for name in ("men", "women", "women-b", "women-c"):
+    for name in ("men", "women", "women-b", "women-c", "research"):
         cells = whole_run.sheet_of((EXAMPLES / f"{name}.sheet").read_bytes()).quotes.grid
-        if any(cells.steep(age, year) for age in range(OLDEST + 1) for year in range(FIRST_YEAR, LAST_CELL + 1)):
+        first, _, last = years_of(cells.start)
+        if any(cells.steep(age, year) for age in range(OLDEST + 1) for year in range(first, last + 1)):
             return f"examples/{name}.sheet has a steep cell"
     return None
 
@@ -639,7 +650,7 @@ def main():
     absent = [what for what in wanted_counts() if not counts[what]]
     found.append(f"no case of: {', '.join(absent)}" if absent else None)
     found.append(None if len(everything) >= LEAST_INPUTS else f"{len(everything)} inputs, not {LEAST_INPUTS}")
-    found += [*fixed_lines(), steep_examples()]
+    found += [*fixed_lines(), *shown_heads(), steep_examples()]
     wrong = [said for said in found if said]
     for message in wrong[:20]:
         print(message)

@@ -1,4 +1,4 @@
-"""The sheet's reader and writer against a second reader and writer, written from paper 01.
+"""The sheet's reader and writer against a second reader and writer, written from the papers, over both tables.
 
 It hands sheets and sets by the thousand to the library's calls and compares the refusal, every number or byte that was lent,
 and the length. Sheets are damaged at every place in a word of eight bytes, and lent so that reading past their end is seen. An
@@ -7,6 +7,7 @@ argument is taken as the seed, so that a run can be repeated.
 import collections
 import ctypes
 import faulthandler
+import itertools
 import mmap
 import random
 import re
@@ -14,10 +15,11 @@ import sys
 import time
 
 import c_interface
-from c_interface import GREATEST, LEAST, SET_LENGTH
-from grid import flat
-from reader import ACCEPTED, KEYS, LIMITS, LONGEST, OFF_SCALE, SHORT, SIZES, TORN, YEARS
-from reader import Set, in_limits, lines_of, numbers_of, read, sheet_of, text, write
+from c_interface import GREATEST, LEAST, SET_LENGTH, listed
+from grid import AG2014, LILEE, START, flat
+from reader import ACCEPTED, FIRST_START, KEYS, KEYS_OF, LAST_START, LIMITS, LONGEST, OFF_SCALE, SHORT, SIZES, TORN, YEARS
+from reader import Set, in_limits, lines_of, read, set_from, sheet_of, text, write
+from sheets import any_constant
 
 FILL = b"\xaa"
 LARGEST_ROOM, LARGEST_SHEET = 16_384, 70_000
@@ -27,14 +29,27 @@ NO_ACCESS = 0
 # ---- sets
 
 def flat_set():
-    return Set("M", numbers_of(flat()))
+    return set_from(flat())
 
 
 def changed(which, key, v, *more):
-    numbers = list(which.numbers)
-    numbers[KEYS.index(key)] = v
-    out = Set(which.sex, tuple(numbers))
+    if key in KEYS:
+        at = KEYS.index(key)
+        out = which._replace(numbers=which.numbers[:at] + (v,) + which.numbers[at + 1 :])
+    else:
+        out = which._replace(**{key: v})
     return changed(out, *more) if more else out
+
+
+def line_of(which, key):
+    """The place of a key's line in a set's sheet."""
+    return 2 + KEYS_OF[which.table].index(key)
+
+
+def edges_of(key):
+    """The least and the greatest value of a key."""
+    size = SIZES.get(key.split(".")[0])
+    return (FIRST_START, LAST_START) if key == "start" else (-size, size)
 
 
 def signed(draw, size):
@@ -45,10 +60,23 @@ def signed(draw, size):
 def random_set(draw):
     numbers = [signed(draw, most) for most in LIMITS]
     theta = KEYS.index("theta")
-    while not in_limits(numbers):
+    while not in_limits(Set("M", tuple(numbers))):
         numbers[theta] //= 2
         numbers[KEYS.index("K")] //= 2
     return Set(draw.choice("MF"), tuple(numbers))
+
+
+def lilee_set(draw):
+    """Such a set of the table LILEE, with any start year and a constant of any length."""
+    which = random_set(draw)
+    a, kappa = which.numbers[0], which.numbers[3]
+    c = any_constant(draw, a, kappa, 10 ** draw.randint(1, 10))
+    return which._replace(table=LILEE, start=draw.randint(FIRST_START, LAST_START), c=c)
+
+
+def of_each_table(draw):
+    """A name and a set for each table."""
+    return ("random", random_set(draw)), ("LILEE", lilee_set(draw))
 
 
 def edge_set(sign):
@@ -107,16 +135,19 @@ VALUES = [
 
 
 def limits_tried(name, which):
-    for key, most in zip(KEYS, LIMITS):
-        for v in (most, most + 1, -most, -most - 1):
+    for key in KEYS_OF[which.table]:
+        least, most = edges_of(key)
+        for v in (most, most + 1, least, least - 1):
             yield f"{name}: {key}={v}", text(lines_of(changed(which, key, v)))
 
 
 def values_tried(draw, name, which):
     """Every form of a number, in some lines."""
-    for key in KEYS[:8] + KEYS[-4:] + draw.sample(KEYS[8:-4], 4):
-        lines, i = lines_of(which), KEYS.index(key) + 2
-        for value in VALUES + [b"%d" % (sign * (LIMITS[i - 2] - 1)) for sign in (1, -1)]:
+    keys = KEYS_OF[which.table]
+    for key in keys[:10] + keys[-4:] + draw.sample(keys[10:-4], 4):
+        lines, i = lines_of(which), line_of(which, key)
+        least, most = edges_of(key)
+        for value in VALUES + [b"%d" % v for v in (most - 1, least + 1)]:
             line = key.encode() + b"=" + value
             yield f"{name}: {line}", text(lines[:i] + [line] + lines[i + 1:])
 
@@ -132,6 +163,13 @@ def sums_tried():
             yield f"K={period} theta={theta}", sheet_of(changed(zero, "K", period, "theta", theta))
 
 
+FIRST_LINES = (
+    b"table=AG2012", b"table=AG20144", b"table=ag2014", b"Table=AG2014", b"table=", b"table", b"", b"table=AG2014",
+    b"table=LILEE", b"table=LILEE ", b" table=LILEE", b"table= LILEE", b"table=LILEE\r", b"table=LILEE\0", b"table=LILE",
+    b"table=LILEEE", b"table=lilee", b"table=LI-LEE", b"Table=LILEE", b"table=LILEE2014", b"table=AG2014LILEE", b"LILEE",
+)
+
+
 def whole_inputs(draw, name, sheet):
     """Inputs that are not a sheet's lines, or not all of them, or more."""
     lines = sheet.split(b"\n")[:-1]
@@ -140,7 +178,7 @@ def whole_inputs(draw, name, sheet):
     yield "a line feed", b"\n"
     yield f"{name}: carriage returns", sheet.replace(b"\n", b"\r\n")
     yield f"{name}: carriage returns alone", sheet.replace(b"\n", b"\r")
-    for i in (0, 1, 2, 100, 369):
+    for i in (0, 1, 2, 100, len(lines) - 1):
         yield f"{name}: carriage return in line {i}", text(lines[:i] + [lines[i] + b"\r"] + lines[i + 1:])
     yield f"{name}: no last line feed", sheet[:-1]
     for more in (b"\n", b"\x00", b"0", b" ", b"\r", b"b", b"\xaa", b"be.91=0\n", sheet):
@@ -148,7 +186,7 @@ def whole_inputs(draw, name, sheet):
         yield f"{name}: after {more[:20]}", more + sheet
     for more in (b"\xef\xbb\xbf", b"#\n"):
         yield f"{name}: after {more}", more + sheet
-    for line in (b"table=AG2012", b"table=AG20144", b"table=ag2014", b"Table=AG2014", b"table=", b"table", b""):
+    for line in FIRST_LINES:
         yield f"{name}: {line}", text([line] + lines[1:])
     for line in (b"sex=m", b"sex=X", b"sex=MF", b"sex=", b"sex", b"Sex=M", b"sex=\x00", b"sex= M"):
         yield f"{name}: {line}", text([lines[0], line] + lines[2:])
@@ -171,8 +209,10 @@ def whole_inputs(draw, name, sheet):
 
 def torn_and_off_scale(draw, which):
     """Refusal 1 is decided over the whole sheet before 2."""
-    for key in KEYS[:8] + draw.sample(KEYS[8:], 30):
-        sheet = text(lines_of(changed(which, key, draw.choice((-1, 1)) * (LIMITS[KEYS.index(key)] + 1))))
+    keys = KEYS_OF[which.table]
+    for key in keys[:10] + draw.sample(keys[10:], 30):
+        least, most = edges_of(key)
+        sheet = text(lines_of(changed(which, key, draw.choice((least - 1, most + 1)))))
         yield f"{key} off scale", sheet
         yield f"{key} off scale and no last line feed", sheet[:-1]
         yield f"{key} off scale and a byte more", sheet + b"0"
@@ -181,19 +221,21 @@ def torn_and_off_scale(draw, which):
 
 
 def sheets(draw):
-    for name, which in (("flat", flat_set()), ("random", random_set(draw))):
+    both = of_each_table(draw)
+    for name, which in (("flat", flat_set()), *both):
         sheet = sheet_of(which)
         yield from torn_at(draw, name, sheet)
         yield from whole_inputs(draw, name, sheet)
         yield from values_tried(draw, name, which)
-    yield from lines_moved(draw, name, sheet)
-    yield from limits_tried(name, which)
-    for name, which in (("random", which), ("upper edge", edge_set(1)), ("lower edge", edge_set(-1))):
+    for name, which in both:
+        yield from lines_moved(draw, name, sheet_of(which))
+        yield from limits_tried(name, which)
+    for name, which in (*both, ("upper edge", edge_set(1)), ("lower edge", edge_set(-1))):
         yield name, sheet_of(which)
         yield from torn_and_off_scale(draw, which)
     yield from sums_tried()
     for i in range(600):
-        yield f"random set {i}", sheet_of(random_set(draw))
+        yield f"random set {i}", sheet_of((random_set, lilee_set)[i % 2](draw))
 
 
 # ---- sheets damaged at the places of words of eight bytes
@@ -269,29 +311,32 @@ def digits_tried(draw, which, key):
 
 
 def damaged_sheets(draw):
-    which = random_set(draw)
+    which, other = random_set(draw), lilee_set(draw)
     yield from places_tried(draw, sheet_of(which))
     yield from ends_tried(draw, which)
     for key in (draw.choice(KEYS[:-4]), "be.90"):
         yield from digits_tried(draw, which, key)
+    yield from places_tried(draw, sheet_of(other))
+    for key in ("start", "c"):
+        yield from digits_tried(draw, other, key)
 
 
 def of_each_length(draw):
-    """A set for each length of a sheet modulo 8, by the digits of k."""
-    for rest in range(WORD):
-        which = changed(random_set(draw), "k", 1)
+    """A set of each table for each length of a sheet modulo 8, by the digits of A at age 0."""
+    for rest, make in itertools.product(range(WORD), (random_set, lilee_set)):
+        which = changed(make(draw), "A.0", 1)
         digits = 1 + (rest - len(sheet_of(which))) % WORD
-        yield changed(which, "k", number_of(draw, digits))
+        yield changed(which, "A.0", number_of(draw, digits))
 
 
 def counts_tried(draw, which, key):
     """Numbers of 1 to 17 digits, with and without a minus and a leading zero, and their refusals."""
-    lines, i = lines_of(which), KEYS.index(key) + 2
+    lines, i = lines_of(which), line_of(which, key)
     for digits in range(1, MOST_DIGITS + 3):
         for size in (10 ** (digits - 1), 10**digits - 1, number_of(draw, digits)):
             for v in (size, -size):
                 out = changed(which, key, v)
-                good = ACCEPTED if in_limits(out.numbers) else OFF_SCALE
+                good = ACCEPTED if in_limits(out) else OFF_SCALE
                 yield f"{key}={v}", sheet_of(out), TORN if digits > MOST_DIGITS else good
         for value in (b"0%d" % size, b"-0%d" % size, b"0" * (digits + 1), b"-" + b"0" * digits):
             line = key.encode() + b"=" + value
@@ -311,8 +356,10 @@ def known_sheets(draw):
             for more in (b"\n" * n, b"0" * n, bytes(n), b"\xff" * n, (b"be.91=0\n" * 2)[:n], draw.randbytes(n)):
                 yield f"{name} and {more}", sheet + more, TORN
         yield from counts_tried(draw, which, "be.90")
-    for key in KEYS[:8] + draw.sample(KEYS[8:-4], 8):
-        yield from counts_tried(draw, which, key)
+    for _, which in of_each_table(draw):
+        keys = KEYS_OF[which.table]
+        for key in keys[:10] + draw.sample(keys[10:-4], 8):
+            yield from counts_tried(draw, which, key)
 
 
 def parts(draw):
@@ -334,8 +381,8 @@ def parts(draw):
 
 def raw_sets(draw):
     """Sets with the room for each: in limits at every kind of room, and past them at any number."""
-    for i in range(200):
-        which = random_set(draw)
+    for i in range(300):
+        which = (random_set, lilee_set)[i % 2](draw)
         length = len(sheet_of(which))
         rooms = (length, length - 1, length + 1, length + draw.randrange(1000), draw.randrange(length), 0, LARGEST_ROOM)
         for room in rooms[:3] + (draw.choice(rooms[3:]),):
@@ -345,11 +392,11 @@ def raw_sets(draw):
         length = len(sheet_of(which))
         for room in (length, length - 1, length + 1, LARGEST_ROOM, 1, 0):
             yield f"edge set {sign}", which, room
-    base = random_set(draw)
-    for key, most in zip(KEYS, LIMITS):
-        extremes = (GREATEST, LEAST, most + 1, -most - 1, draw.randint(LEAST, GREATEST))
-        for v in extremes:
-            yield f"{key} is {v}", changed(base, key, v), draw.choice((0, 5000, 9000))
+    for (name, base), more in zip(of_each_table(draw), (KEYS, ["start", "c"])):
+        for key in more:
+            least, most = edges_of(key)
+            for v in (GREATEST, LEAST, most + 1, least - 1, draw.randint(LEAST, GREATEST)):
+                yield f"{name}: {key} is {v}", changed(base, key, v), draw.choice((0, 5000, 9000))
     zero = Set("M", (0,) * len(KEYS))
     most = GREATEST // YEARS
     for theta in (GREATEST, LEAST, most, most + 1, -most, -most - 1, 2_923_976_608, -2_923_976_609):
@@ -357,25 +404,27 @@ def raw_sets(draw):
             yield f"K is {period} and theta {theta}", changed(zero, "K", period, "theta", theta), 9000
     for i in range(100):
         numbers = tuple(draw.randint(LEAST, GREATEST) for _ in KEYS)
-        yield f"random numbers {i}", Set(draw.choice("MF"), numbers), draw.choice((0, 9000))
+        which = Set(draw.choice("MF"), numbers, draw.choice((AG2014, LILEE)), *(draw.randint(LEAST, GREATEST) for _ in "12"))
+        yield f"random numbers {i}", which, draw.choice((0, 9000))
+    for start, c in itertools.product((START, 2012, 2014, LAST_START, 0, LEAST, GREATEST), (0, 1, -1, SIZES["c"], GREATEST)):
+        which = random_set(draw)._replace(start=start, c=c)
+        yield f"of AG2014, start {start} and c {c}", which, draw.choice((0, 9000))
 
 
 def no_sets(draw):
-    """Lists that are no set: too few or too many numbers, or a first that is no sex."""
-    numbers = numbers_in(random_set(draw))
-    for count in (0, 1, 4, 5, SET_LENGTH - 1, SET_LENGTH + 1, SET_LENGTH + 4, 2 * SET_LENGTH):
-        yield f"{count} numbers", (numbers * 2)[:count]
-    for first in (2, -1, 3, 256, 2**32, 2**32 + 1, 2**62, GREATEST, LEAST, LEAST + 1, draw.randint(2, GREATEST)):
-        yield f"the sex is {first}", [first] + numbers[1:]
-        yield f"the sex is {first}, and a number is off scale", [first] + numbers[1:-1] + [GREATEST]
+    """Lists that are no set: too few or too many numbers, a first that is no table or a second that is no sex."""
+    for _, which in of_each_table(draw):
+        numbers = listed(which)
+        for count in (0, 1, 2, 4, 5, 8, *range(SET_LENGTH - 5, SET_LENGTH), SET_LENGTH + 1, SET_LENGTH + 4, 2 * SET_LENGTH):
+            yield f"{count} numbers", (numbers * 2)[:count]
+        for at, what in enumerate(("table", "sex")):
+            for v in (2, -1, 3, 256, 2**32, 2**32 + 1, 2**62, GREATEST, LEAST, LEAST + 1, draw.randint(2, GREATEST)):
+                other = numbers[:at] + [v] + numbers[at + 1 :]
+                yield f"the {what} is {v}", other
+                yield f"the {what} is {v}, and a number is off scale", other[:-1] + [GREATEST]
 
 
 # ---- comparing
-
-def numbers_in(which):
-    """A set as the library has it."""
-    return ["MF".index(which.sex), *which.numbers]
-
 
 def compare_reading(count, library, name, data, places, meant=None):
     no, which = read(data)
@@ -384,7 +433,7 @@ def compare_reading(count, library, name, data, places, meant=None):
     before = list(range(-3, places - 3))
     if not no and places < SET_LENGTH:
         no = SHORT
-    after = before if no else numbers_in(which) + before[SET_LENGTH:]
+    after = before if no else listed(which) + before[SET_LENGTH:]
     got = c_interface.read(library, data, before)
     count.take(got == (no, after), f"{name}, {places} places: read as {got[0]} and not {no}, or other numbers")
 
@@ -408,7 +457,7 @@ class Fence:
 def compare_fenced(count, library, fence, name, data, behind):
     no, which = read(data)
     before = list(range(SET_LENGTH))
-    after = before if no else numbers_in(which)
+    after = before if no else listed(which)
     values = c_interface.held("q", before)
     address = ctypes.c_char_p(fence.put(data + behind))
     got = library.kulfizan_read(address, len(data), values, SET_LENGTH), c_interface.kept(values, before)
@@ -417,7 +466,7 @@ def compare_fenced(count, library, fence, name, data, behind):
 
 def compare_writing(count, library, name, which, room):
     no, length, buffer = write(which, FILL * room)
-    got = c_interface.write(library, numbers_in(which), FILL * room, UNTOLD)
+    got = c_interface.write(library, listed(which), FILL * room, UNTOLD)
     good = got == (no, UNTOLD if no else length, buffer)
     count.take(good, f"{name}, room {room}: written as {got[:2]} and not {no, length}, or other bytes")
 

@@ -1,5 +1,5 @@
 """The whole run of the rate sheet's programs, from input bytes to output bytes, written from paper 01, "The quote program",
-and for annuities, survival to a day and `verdict` from paper 02.
+and for annuities, survival to a day, sheets of the table LILEE and `verdict` from paper 02.
 
 `quotes` echoes a query with its figure, `ends` with its two ends ahead of the figure. `compare` reads two sheets and echoes a
 query with the figure of each and what the two pairs of ends tell of the two values. `verdict` reads a sheet, a year and a
@@ -12,7 +12,7 @@ from columns import columns_of
 from quotes import ANNUITIES, DAY, OPEN, TENTHS, UNRATED, Quotes, figure
 from reader import LONGEST, NUMBER, TORN, params_of, read
 
-SHEET_LINES = 370
+SHEET_LINES, LILEE_LINES, LILEE_FIRST = 370, 372, b"table=LILEE\n"
 
 
 def form(kinds, *keys):
@@ -30,6 +30,12 @@ FORMS = (
 def lines_in(data):
     """The bytes cut after each line feed; what follows the last one is a line too where it is not empty."""
     return re.findall(rb"[^\n]*\n|[^\n]+", data)
+
+
+def parted(lines):
+    """The sheet at the front of lines, of as many as its first line says, and the lines after it."""
+    count = LILEE_LINES if lines[:1] == [LILEE_FIRST] else SHEET_LINES
+    return b"".join(lines[:count]), lines[count:]
 
 
 def query_of(line):
@@ -94,11 +100,11 @@ def run(data, with_ends):
     """What a program prints for its whole input."""
     if len(data) > LONGEST:
         return text([refused(TORN)])
-    lines = lines_in(data)
-    sheet = sheet_of(b"".join(lines[:SHEET_LINES]))
+    given, lines = parted(lines_in(data))
+    sheet = sheet_of(given)
     if sheet.no:
         return text([refused(sheet.no)])
-    return text(sheet.printed(line, with_ends) for line in lines[SHEET_LINES:])
+    return text(sheet.printed(line, with_ends) for line in lines)
 
 
 def text(lines):
@@ -144,12 +150,13 @@ def compare(data):
     """What `compare` prints for its whole input."""
     if len(data) > LONGEST:
         return text([refused(TORN)])
-    lines = lines_in(data)
-    first, second = (sheet_of(b"".join(lines[at : at + SHEET_LINES])) for at in (0, SHEET_LINES))
+    one, rest = parted(lines_in(data))
+    other, lines = parted(rest)
+    first, second = sheet_of(one), sheet_of(other)
     for number, sheet in ((1, first), (2, second)):
         if sheet.no:
             return text([f"sheet={number} {refused(sheet.no)}"])
-    return text(compared(first, second, line) for line in lines[2 * SHEET_LINES :])
+    return text(compared(first, second, line) for line in lines)
 
 
 # ---- a published column
@@ -159,14 +166,14 @@ YEAR = re.compile(b"year=(%b)\n" % NUMBER.pattern)
 
 def verdict(data):
     """What `verdict` prints for its whole input: a torn year's line comes before a sheet that is off scale."""
-    lines = lines_in(data)
-    sheet, given = b"".join(lines[:SHEET_LINES]), YEAR.fullmatch(b"".join(lines[SHEET_LINES : SHEET_LINES + 1]))
+    sheet, lines = parted(lines_in(data))
+    given = YEAR.fullmatch(b"".join(lines[:1]))
     if len(data) > LONGEST or not given:
         return text([refused(TORN)])
     columns, year = columns_of(sheet), int(given[1])
     if columns.no:
         return text([refused(columns.no)])
-    no, said = columns.verdict(year, b"".join(lines[SHEET_LINES + 1 :]))
+    no, said = columns.verdict(year, b"".join(lines[1:]))
     return text([f"year={year} {refused(no) if no else f'verdict={said}'}"])
 
 

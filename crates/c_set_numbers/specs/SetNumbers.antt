@@ -1,4 +1,4 @@
--- A parameter set as a list of 369 numbers, as programs in other languages hold it, and what the calls over such lists
+-- A parameter set as a list of 372 numbers, as programs in other languages hold it, and what the calls over such lists
 -- give.
 use Prim.Native.Nat.{ℕ, zero, suc, _+_}
 use mathlib.Core.Bool.{Bool, false, _&&_, cond}
@@ -7,43 +7,55 @@ use lib.Dec.{eqb, leb}
 use lib.IntN.{ℤ, pos, negsuc}
 use lib.ListN.{length, getD, take, drop}
 use Rattle.set_params.specs.declared.Params.{Params}
+use Rattle.set_params.specs.declared.Table.{Table}
+use Rattle.set_params.specs.declared.Table.the-variants.{Ag2014, LiLee}
 use Rattle.set_params.specs.declared.Sex.{Sex}
 use Rattle.set_params.specs.declared.Sex.the-variants.{M, F}
 use Rattle.set_refusal.specs.declared.Refusal.the-variants.{Malformed, BufferTooShort}
 use Rattle.set_refusal.specs.Refusals.{refusalNumber}
 use Rattle.sheet.specs.declared.Written.{Written}
-use Rattle.sheet.specs.Sheet.{values, paramsOf, sheetText, readSheet, writeRefusal, writtenBuffer}
+use Rattle.sheet.specs.Sheet.{allValues, paramsOf, sheetText, readSheet, writeRefusal, writtenBuffer}
 
 -- ---- a set's numbers
 
--- the sex and the 368 values
+-- the table, the sex and the 370 numbers of a set
 abbrev pub setLength : ℕ
-setLength = 369
+setLength = 372
+
+unfoldable pub tableNumber : Table → ℤ
+tableNumber Ag2014 = pos 0
+tableNumber LiLee = pos 1
 
 unfoldable pub sexNumber : Sex → ℤ
 sexNumber M = pos 0
 sexNumber F = pos 1
 
--- the sex, then the values in the sheet's order
+-- the table, the sex, a, theta, K, k, the start and c, and then A, B, alpha and beta of each age, whichever the table
 unfoldable pub setNumbers : Params → List ℤ
-setNumbers p = sexNumber (p .sex) ∷ values p
+setNumbers p = tableNumber (p .table) ∷ sexNumber (p .sex) ∷ allValues p
 
-unfoldable pub isSex : ℤ → Bool
-isSex (pos n) = leb n 1
-isSex (negsuc n) = false
+-- 0 or 1
+unfoldable pub isLabel : ℤ → Bool
+isLabel (pos n) = leb n 1
+isLabel (negsuc n) = false
+
+unfoldable pub tableOf : ℤ → Table
+tableOf (pos zero) = Ag2014
+tableOf (pos (suc n)) = LiLee
+tableOf (negsuc n) = LiLee
 
 unfoldable pub sexOf : ℤ → Sex
 sexOf (pos zero) = M
 sexOf (pos (suc n)) = F
 sexOf (negsuc n) = F
 
--- these numbers are a set's: there are 369, and the first is 0 or 1
+-- these numbers are a set's: there are 372, and the first two are each 0 or 1
 unfoldable pub areSet : List ℤ → Bool
-areSet ns = eqb (length ns) setLength && isSex (getD ns 0 (pos 0))
+areSet ns = eqb (length ns) setLength && (isLabel (getD ns 0 (pos 0)) && isLabel (getD ns 1 (pos 0)))
 
 -- the set that they are
 unfoldable pub setOf : List ℤ → Params
-setOf ns = paramsOf (sexOf (getD ns 0 (pos 0))) (drop 1 ns)
+setOf ns = paramsOf (tableOf (getD ns 0 (pos 0))) (sexOf (getD ns 1 (pos 0))) (drop 2 ns)
 
 -- ---- reading a sheet into numbers
 

@@ -12,8 +12,8 @@ ghost use Rattle.kulfizan.specs.Run.{runNo, runBuffer, runLength};
 use run::Program;
 use run_line::Mode;
 
-// Reads a sheet into the first 369 numbers: the sex, a, theta, K and k, and then A, B, alpha and beta of each age. The
-// refusal's number, or 0; refused, the call leaves every number as it was.
+// Reads a sheet into the first 372 numbers: the table, the sex, a, theta, K, k, the start and c, and then A, B, alpha and beta of
+// each age. The refusal's number, or 0; refused, the call leaves every number as it was.
 #[no_mangle]
 pub extern "C" fn kulfizan_read(sheet: &[u8], values: &mut [i64]) -> u8
     ensures { λ r. ⌜ r ≡ readNo (now (sheet .entry)) (length (now (values .entry))) ⌝ }
@@ -22,7 +22,7 @@ pub extern "C" fn kulfizan_read(sheet: &[u8], values: &mut [i64]) -> u8
     c_set_numbers::read_into(sheet, values)
 }
 
-// Writes the sheet of a set's 369 numbers into the buffer, and its length. The refusal's number, or 0; refused, the call
+// Writes the sheet of a set's 372 numbers into the buffer, and its length. The refusal's number, or 0; refused, the call
 // leaves every byte and the length as they were.
 #[no_mangle]
 pub extern "C" fn kulfizan_write(values: &[i64], buffer: &mut [u8], len: &mut u64) -> u8

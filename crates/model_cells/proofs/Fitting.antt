@@ -18,11 +18,12 @@ use Rattle.number_whole.specs.laws.Table.{listed-more}
 use Rattle.number_exponential.specs.Billionths.{billionths}
 use Rattle.number_exponential.specs.Exponential.{expBetween}
 use Rattle.set_params.specs.declared.Params.{Params}
-use Rattle.set_params.specs.Limits.{inLimits, lastYears}
+use Rattle.set_limits.specs.InLimits.{inLimits}
+use Rattle.set_params.specs.Limits.{lastYears}
 use Rattle.number_whole.specs.declared.SignedEnds.{SignedEnds}
 use Rattle.number_whole.specs.code.Sizes.{Within}
-use Rattle.model_series.specs.Series.{logForce, inRange}
-use Rattle.model_series.specs.code.Within.{logForceWidth, Negated}
+use Rattle.model_log_force.specs.LogForce.{logForce, inRange}
+use Rattle.model_log_force.specs.code.Within.{logForceWidth, Negated}
 use Rattle.model_logarithm.specs.Logarithm.{inverseLogistic}
 use Rattle.model_closure.specs.Weights.{firstFitted, fitted, lastClosed}
 use Rattle.model_closure.specs.code.Code.{endLimit}

@@ -2,14 +2,14 @@
 // parameters at ages to 90 and by the closure above, which is fitted to the ages 80 to 90 of the year.
 ghost use mathlib.Core.Path.{_≡_};
 ghost use lib.Dec.{T};
-ghost use Rattle.model_series.specs.Series.{cellForce};
+ghost use Rattle.model_log_force.specs.LogForce.{cellForce};
 ghost use Rattle.model_closure.specs.code.Code.{InLimit, RowWithin};
-ghost use Rattle.model_series.specs.code.Year.{CellWithin};
+ghost use Rattle.model_log_force.specs.code.Year.{CellWithin};
 ghost use Rattle.model_cells.specs.code.Code.{youngForceCell, oldForceCell, livedCell, youngCell, oldCell};
 ghost use Rattle.model_cells.specs.code.Fitted.{LentIn, FittedIn};
 use model_closure::FIRST_FITTED;
 use model_closure::FITTED;
-use model_series::Year;
+use model_log_force::Year;
 use number_exponential::Ends;
 use number_whole::SignedEnds;
 use set_params::AGES;
@@ -38,11 +38,11 @@ pub fn fitted_in<'a>(
     };
     let mut i = 0;
     while i < FITTED {
-        let m = model_series::log_force_at(
+        let m = model_log_force::log_force_at(
             set_params::age_of_runs(level, slope, alpha, beta, FIRST_FITTED + i),
             y,
         );
-        if !model_series::in_range(m) {
+        if !model_log_force::in_range(m) {
             fitted.ok = false;
             return fitted;
         }
@@ -63,8 +63,8 @@ pub fn young_force(age: Age, y: Year) -> Cell
     requires { ⌜ CellWithin age y ⌝ }
     ensures { λ r. ⌜ r ≡ youngForceCell (cellForce age (y .period) (y .kappas)) ⌝ }
 {
-    let m = model_series::log_force_at(age, y);
-    if !model_series::in_range(m) {
+    let m = model_log_force::log_force_at(age, y);
+    if !model_log_force::in_range(m) {
         return Cell::LogForceOutOfRange;
     }
     Cell::Of(model_force::force_to_90(m))

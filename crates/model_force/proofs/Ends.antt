@@ -22,8 +22,8 @@ use Rattle.number_exponential.specs.Billionths.{billionths}
 use Rattle.number_exponential.specs.laws.BillionthsFacts.{billionths-sound}
 use Rattle.number_exponential.specs.laws.AtMostOne.{exp-lower-one, exp-upper-one}
 use Rattle.number_whole.proofs.Signed.{sum}
-use Rattle.model_series.specs.Series.{lowestForce}
-use Rattle.model_series.specs.code.Within.{Negated}
+use Rattle.model_log_force.specs.LogForce.{lowestForce}
+use Rattle.model_log_force.specs.code.Within.{Negated}
 use Rattle.model_logarithm.specs.Logarithm.{powerLower, powerUpper, logTermsLower, logTermsUpper, logRest, logLower, logUpper}
 use Rattle.model_logarithm.specs.laws.Powers.{power-lower-bound, power-upper-bound}
 use Rattle.model_logistic.proofs.Force.{negated}

@@ -4,7 +4,7 @@ ghost use mathlib.Core.Path.{_≡_};
 ghost use Prim.Native.Nat.{_≤_};
 ghost use Rattle.number_exponential.specs.Billionths.{billionths};
 ghost use Rattle.number_exponential.specs.Exponential.{expBetween};
-ghost use Rattle.model_series.specs.code.Within.{logForceWidth, Negated};
+ghost use Rattle.model_log_force.specs.code.Within.{logForceWidth, Negated};
 ghost use Rattle.model_logarithm.specs.Logarithm.{inverseLogistic};
 ghost use Rattle.model_force.specs.Force.{negated, deathOf};
 use number_exponential::Ends;

@@ -13,7 +13,7 @@ use Rattle.number_exponential.specs.declared.Ends.{Ends}
 use Rattle.number_exponential.specs.Exponential.{expBetween}
 use Rattle.number_exponential.specs.Outward.{outwardOver}
 use Rattle.set_params.specs.declared.Params.{Params}
-use Rattle.model_series.specs.Series.{logForce, inRange}
+use Rattle.model_log_force.specs.LogForce.{logForce, inRange}
 use Rattle.model_logarithm.specs.Logarithm.{inverseLogistic}
 use Rattle.model_closure.specs.Weights.{fitted, firstFitted, firstClosed}
 use Rattle.model_logistic.specs.Logistic.{logistic}

@@ -10,7 +10,7 @@ use Rattle.number_fraction.specs.Bracket.{Bracket}
 use Rattle.number_fraction.specs.Fraction.{Fraction, _+ℚ_, quotientℚ, signed, absolute}
 use Rattle.number_taylor.specs.Order.{orderLower, orderUpper}
 use Rattle.set_params.specs.declared.Params.{Params}
-use Rattle.model_series.specs.Exact.{exactLogForce}
+use Rattle.model_log_force.specs.Exact.{exactLogForce}
 use Rattle.model_logarithm.specs.Exact.{orderLogLower, orderLogUpper}
 use Rattle.model_closure.specs.Weights.{fitted, firstFitted, firstClosed}
 use Rattle.model_logistic.specs.Units.{Interval}

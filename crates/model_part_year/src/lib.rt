@@ -6,7 +6,8 @@ ghost use lib.Dec.{T};
 ghost use Rattle.number_exponential.specs.Billionths.{billionths};
 ghost use Rattle.number_exponential.specs.Exponential.{expBetween};
 ghost use Rattle.number_exponential.specs.Outward.{outwardOver};
-ghost use Rattle.set_params.specs.Limits.{inLimits, lastYears};
+ghost use Rattle.set_limits.specs.InLimits.{inLimits};
+ghost use Rattle.set_params.specs.Limits.{lastYears};
 ghost use Rattle.model_closure.specs.Weights.{lastClosed};
 ghost use Rattle.model_part_year.specs.code.Code.{partCell, DaysWithin};
 ghost use Rattle.model_cells.specs.code.Code.{forceCell};
@@ -21,7 +22,7 @@ fn force_at(p: Params, x: usize, n: u64) -> Cell
     requires { ⌜ T (inLimits p) × (x ≤ lastClosed) × (n ≤ lastYears) ⌝ }
     ensures { λ r. ⌜ r ≡ forceCell p x n ⌝ }
 {
-    let y = model_series::year_at(p, n);
+    let y = model_log_force::year_at(p, n);
     if x < FIRST_CLOSED {
         let four = set_params::age_of_runs(&p.level, &p.slope, &p.alpha, &p.beta, x);
         return model_cells::young_force(four, y);

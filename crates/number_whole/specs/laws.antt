@@ -7,3 +7,4 @@ pub mod Bound
 pub mod EndLaws
 pub mod Table
 pub mod Clash
+pub mod OrderTests

@@ -2,21 +2,22 @@
 use mathlib.Core.Path.{_≡_, refl, ap, sym, _∙_}
 use mathlib.Core.Bool.{Bool, true, false, cond}
 use mathlib.Core.List.{List, [], _∷_, _++_}
-use Prim.Native.Nat.{_-_, _≤_}
+use Prim.Native.Nat.{_≤_}
 use native.Mathlib.Omega.{arith}
 use borrow.Author.Tests.{ne-eqb}
 use lib.Dec.{T}
-use lib.IntN.{ℤ, pos, negsuc, natAbs, _-ℤ_}
+use lib.IntN.{ℤ, natAbs}
 use lib.Ieee.Bits.{is-true}
 use Rattle.number_whole.specs.laws.Clash.{clash}
 use Rattle.number_whole.specs.code.Sizes.{Under}
 use Rattle.number_whole.specs.laws.Bound.{under-pos}
-use Rattle.number_whole.specs.laws.Split.{split, split-sub}
 use Rattle.number_fraction.specs.Ratio.{whole/}
 use Rattle.set_params.specs.declared.Params.{Params}
 use Rattle.set_refusal.specs.declared.Refusal.{Refusal}
 use Rattle.set_refusal.specs.declared.Refusal.the-variants.{Accepted, OutOfLimits, LogForceOutOfRange}
-use Rattle.set_params.specs.Limits.{inLimits, startYear, lastYears}
+use Rattle.set_limits.specs.InLimits.{inLimits}
+use Rattle.set_params.specs.Set.{yearNumber}
+use Rattle.set_params.specs.Limits.{lastYears}
 use Rattle.set_refusal.specs.Refusals.{refusalNumber}
 use Rattle.quote_paths.specs.Path.{pathInRange}
 use Rattle.quote_paths.specs.declared.Part.{Part}
@@ -64,20 +65,20 @@ module _ (p : Params) (k : Kind) (age year term : ℤ) where
   out-of-limits e = rw e
 
   -- the table refuses
-  pub table-refuses : T (inLimits p) → (firstFailed (tableTests (ruleOf k) age year term) ≡ Accepted → ⊥)
-      → refusalOf p k age year term ≡ firstFailed (tableTests (ruleOf k) age year term)
+  pub table-refuses : T (inLimits p) → (firstFailed (tableTests (p .start) (ruleOf k) age year term) ≡ Accepted → ⊥)
+      → refusalOf p k age year term ≡ firstFailed (tableTests (p .start) (ruleOf k) age year term)
   unfolding refusalOf
-  table-refuses t n = first-passed _ _ t ∙ failed-append (tableTests (ruleOf k) age year term) _ n
+  table-refuses t n = first-passed _ _ t ∙ failed-append (tableTests (p .start) (ruleOf k) age year term) _ n
 
   -- the table has it, so the cells decide
-  pub cells-decide : T (inLimits p) → InTable (ruleOf k) age year term
-      → refusalOf p k age year term ≡ cond (pathInRange p (queryPath k age year term)) Accepted LogForceOutOfRange
+  pub cells-decide : T (inLimits p) → InTable (p .start) (ruleOf k) age year term
+      → refusalOf p k age year term ≡ cond (pathInRange p (queryPath (p .start) k age year term)) Accepted LogForceOutOfRange
   unfolding refusalOf firstFailed tableTests
   cells-decide t h =
       rw (
         is-true (inLimits p) t,
         is-true (ageInTable age) (h .age-in),
-        is-true (yearInTable (ruleOf k) year) (h .year-in),
+        is-true (yearInTable (p .start) (ruleOf k) year) (h .year-in),
         is-true (dateInTable (ruleOf k) term) (h .date-in),
         is-true (spanInTable (ruleOf k) age year term) (h .span-in),
         is-true (rateInTable (ruleOf k)) (h .rate-in),
@@ -90,11 +91,11 @@ unfolding answerBy refusalNumber
 decided true q = refl
 decided false q = refl
 
-pub along-answer : (p : Params) (k : Kind) (age year term : ℤ) → T (inLimits p) → InTable (ruleOf k) age year term
-    → pathAnswer p (ruleOf k .fold) (queryPath k age year term) ≡ answerOf p k age year term
+pub along-answer : (p : Params) (k : Kind) (age year term : ℤ) → T (inLimits p) → InTable (p .start) (ruleOf k) age year term
+    → pathAnswer p (ruleOf k .fold) (queryPath (p .start) k age year term) ≡ answerOf p k age year term
 unfolding pathAnswer answerOf quoteOf queryEnds
 along-answer p k age year term t h =
-    rw (cells-decide p k age year term t h) (decided (pathInRange p (queryPath k age year term)) (quoteOf p k age year term))
+    rw (cells-decide p k age year term t h) (decided (pathInRange p (queryPath (p .start) k age year term)) (quoteOf p k age year term))
 
 -- the years of a kind
 pub years-under : (k : Kind) → Under (ruleOf k .years) lastYears
@@ -117,24 +118,18 @@ unfolding refusalNumber
 number-none = refl
 
 pub table-answer : (p : Params) (k : Kind) (age year term : ℤ) {r : Refusal} → T (inLimits p)
-    → r ≡ firstFailed (tableTests (ruleOf k) age year term) → (refusalNumber r ≡ 0 → ⊥) → Refused r ≡ answerOf p k age year term
+    → r ≡ firstFailed (tableTests (p .start) (ruleOf k) age year term) → (refusalNumber r ≡ 0 → ⊥) → Refused r ≡ answerOf p k age year term
 unfolding answerOf
 table-answer p k age year term {r} t e n =
     refused r (quoteOf p k age year term) n
     ∙ ap (λ (s : Refusal). answerBy s (quoteOf p k age year term))
     (e ∙ sym (table-refuses p k age year term t (λ a. n (ap refusalNumber (e ∙ a) ∙ number-none))))
 
--- ---- the years from the start year
-
-pub years-from : {z : ℤ} → pos (natAbs z) ≡ z → startYear ≤ natAbs z → z -ℤ pos startYear ≡ pos (natAbs z - startYear)
-years-from {z = pos n} e l = omega (split, split-sub (pos n) (pos startYear))
-years-from {z = negsuc n} e l = clash cc
-
 -- ---- the part of a year after the path, as the code has it
 
-pub part-room : (k : Kind) {age year term : ℤ} {cohort : Bool} {r : Part} → (c : Counted k age year term)
+pub part-room : (k : Kind) {start age year term : ℤ} {cohort : Bool} {r : Part} → (c : Counted start k age year term)
     → IsPart r (partOf (ruleOf k) term)
-    → let n = natAbs year - startYear in
+    → let n = yearNumber start year in
     PartWithin (record { cohort = cohort; age = natAbs age; year = n; count = countOf (ruleOf k .fold) n (natAbs (spanOf (ruleOf k) year term)) }) r
 unfolding whole/
 part-room k {term = term} c i =

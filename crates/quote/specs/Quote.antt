@@ -2,7 +2,7 @@
 -- that takes a rate has it. The term is a span, or of the kind `day` a date.
 use mathlib.Core.Bool.{cond}
 use mathlib.Core.List.{List, [], _∷_, _++_}
-use Prim.Native.Nat.{_+_, _-_}
+use Prim.Native.Nat.{_+_}
 use lib.Dec.{eqb}
 use lib.IntN.{ℤ, natAbs}
 use Rattle.number_exponential.specs.declared.Ends.{Ends}
@@ -11,7 +11,8 @@ use Rattle.set_params.specs.declared.Params.{Params}
 use Rattle.set_refusal.specs.declared.Refusal.{Refusal}
 use Rattle.set_refusal.specs.declared.Refusal.the-variants.{OutOfLimits, LogForceOutOfRange}
 use Rattle.set_refusal.specs.Refusals.{refusalNumber}
-use Rattle.set_params.specs.Limits.{inLimits, startYear}
+use Rattle.set_limits.specs.InLimits.{inLimits}
+use Rattle.set_params.specs.Set.{yearNumber}
 use Rattle.number_exact.specs.Value.{Exact}
 use Rattle.number_exact.specs.Figure.{figureOf}
 use Rattle.quote_paths.specs.Path.{Place, pathOf, partYear, pathInRange}
@@ -26,18 +27,18 @@ use Rattle.quote_along.specs.declared.Answer.the-variants.{Quoted, Refused}
 -- ---- the path, the ends and the exact value, of an age, a year and a term in the table
 
 -- years are counted from the start year; to a day "the last part year" comes after the whole ones
-unfoldable pub queryPath : Kind → ℤ → ℤ → ℤ → List Place
-queryPath kind age year term =
+unfoldable pub queryPath : ℤ → Kind → ℤ → ℤ → ℤ → List Place
+queryPath start kind age year term =
     let r = ruleOf kind in
-    let n = natAbs year - startYear in
+    let n = yearNumber start year in
     let k = countOf (r .fold) n (natAbs (spanOf r year term)) in
     pathOf (r .cohort) (natAbs age) n k ++ partYear (natAbs age + k) (n + k) (partOf r term)
 
 unfoldable pub queryEnds : Params → Kind → ℤ → ℤ → ℤ → Ends
-queryEnds p kind age year term = gridValue (ruleOf kind .fold) billionths p (queryPath kind age year term)
+queryEnds p kind age year term = gridValue (ruleOf kind .fold) billionths p (queryPath (p .start) kind age year term)
 
 unfoldable pub exactQuery : Params → Kind → ℤ → ℤ → ℤ → Exact
-exactQuery p kind age year term = exactValue (ruleOf kind .fold) p (queryPath kind age year term)
+exactQuery p kind age year term = exactValue (ruleOf kind .fold) p (queryPath (p .start) kind age year term)
 
 -- ---- the answer
 
@@ -45,8 +46,8 @@ exactQuery p kind age year term = exactValue (ruleOf kind .fold) p (queryPath ki
 unfoldable pub refusalOf : Params → Kind → ℤ → ℤ → ℤ → Refusal
 refusalOf p kind age year term =
     firstFailed
-    (record { passed = inLimits p; refusal = OutOfLimits } ∷ tableTests (ruleOf kind) age year term
-    ++ (record { passed = pathInRange p (queryPath kind age year term); refusal = LogForceOutOfRange } ∷ []))
+    (record { passed = inLimits p; refusal = OutOfLimits } ∷ tableTests (p .start) (ruleOf kind) age year term
+    ++ (record { passed = pathInRange p (queryPath (p .start) kind age year term); refusal = LogForceOutOfRange } ∷ []))
 
 unfoldable pub quoteOf : Params → Kind → ℤ → ℤ → ℤ → Quote
 quoteOf p kind age year term =

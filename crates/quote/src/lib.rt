@@ -2,14 +2,13 @@
 // numbered refusal.
 ghost use mathlib.Core.Path.{_≡_};
 ghost use lib.Dec.{T};
-ghost use Rattle.set_params.specs.Limits.{inLimits};
+ghost use Rattle.set_limits.specs.InLimits.{inLimits};
 ghost use Rattle.quote.specs.Quote.{answerOf};
 ghost use Rattle.quote.specs.Demand.{Demand3};
 use quote_along::Answer;
 use quote_kinds::Kind;
 use quote_paths::Path;
 use set_params::Params;
-use set_params::START_YEAR;
 use set_refusal::Refusal;
 
 // The answer to a query of a set in its limits.
@@ -18,12 +17,12 @@ pub fn quote_within(p: Params, kind: Kind, age: i64, year: i64, term: i64) -> An
     ensures { λ r. ⌜ r ≡ answerOf p kind age year term ⌝ }
 {
     let rule = quote_kinds::rule_of(kind);
-    let refusal = quote_table_tests::table_refusal(rule, age, year, term);
+    let refusal = quote_table_tests::table_refusal(p.start, rule, age, year, term);
     if set_refusal::refusal_number(refusal) != 0 {
         return Answer::Refused(refusal);
     }
     let fold = rule.fold;
-    let n = (year - START_YEAR) as u64;
+    let n = set_params::year_number(p.start, year);
     let span = quote_kinds::span_of(rule, year, term);
     let path = Path {
         cohort: rule.cohort,

@@ -15,6 +15,7 @@ use number_folds::MOST_FACTORS;
 use quote_paths::Part;
 use quote_paths::Path;
 use quote_walks::Walk;
+use set_params::Dynamics;
 use set_params::Params;
 
 // The factors of a path, where every cell that they need is in range.
@@ -73,6 +74,11 @@ fn old_factors(p: Params, path: Path, walk: Walk) -> Factors
     let count = path.count;
     let worked = worked_count(cohort, age, count);
     let table = model_closure::table();
+    let d = Dynamics {
+        a: p.a,
+        theta: p.theta,
+        c: p.c,
+    };
     let mut done = walk.done;
     let mut ends = walk.ends;
     let mut year = walk.year;
@@ -86,7 +92,7 @@ fn old_factors(p: Params, path: Path, walk: Walk) -> Factors
         ends[done] = e;
         done += 1;
         let on = quote_walks::goes_on(cohort, done, count);
-        year = quote_walks::year_after(p.a, p.theta, year, on);
+        year = quote_walks::year_after(d, year, on);
         if on {
             fitted = model_cells::fitted_in(&p.level, &p.slope, &p.alpha, &p.beta, year);
         }

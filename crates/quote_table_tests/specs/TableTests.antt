@@ -1,13 +1,12 @@
 -- The tests of an age, a year, a term and a rate against the table, and the refusal of the first that fails (paper 01, "Figures
--- on offer"; paper 02, E1 and E6).
+-- on offer"; paper 02, E1, E6 and E7).
 use mathlib.Core.Bool.{Bool, true, cond, _&&_}
 use mathlib.Core.List.{List, [], _∷_}
-use Prim.Native.Nat.{_+_}
 use lib.IntN.{ℤ, pos, natAbs, _+ℤ_}
 use lib.Signed.{leZ}
 use Rattle.set_refusal.specs.declared.Refusal.{Refusal}
 use Rattle.set_refusal.specs.declared.Refusal.the-variants.{Accepted, NoSuchAge, NoSuchYear, NoSuchSpan, NoSuchRate, NoSuchDate}
-use Rattle.set_params.specs.Limits.{startYear, firstYears}
+use Rattle.set_params.specs.Limits.{firstYears}
 use Rattle.model_closure.specs.Weights.{lastClosed}
 use Rattle.number_annuity.specs.Annuity.{mostRate}
 use Rattle.quote_calendar.specs.Calendar.{isDay}
@@ -24,9 +23,9 @@ between low high z = leZ low z && leZ z high
 unfoldable pub ageInTable : ℤ → Bool
 ageInTable age = between (pos 0) (pos lastClosed) age
 
--- "no such year": "year outside the kind's range"
-unfoldable pub yearInTable : Rule → ℤ → Bool
-yearInTable rule year = between (pos (startYear + firstYears)) (pos startYear +ℤ rule .years) year
+-- "no such year": "year outside the kind's range", which moves "with the start"
+unfoldable pub yearInTable : ℤ → Rule → ℤ → Bool
+yearInTable start rule year = between (start +ℤ pos firstYears) (start +ℤ rule .years) year
 
 -- "no such date": "any number that isn't a day in that form by the Gregorian rule", where the term is a date
 unfoldable pub dateInTable : Rule → ℤ → Bool
@@ -51,11 +50,11 @@ unfoldable pub firstFailed : List Test → Refusal
 firstFailed [] = Accepted
 firstFailed (t ∷ ts) = cond (t .passed) (firstFailed ts) (t .refusal)
 
--- those of the table, 3 to 5, 8 and 10
-unfoldable pub tableTests : Rule → ℤ → ℤ → ℤ → List Test
-tableTests rule age year term =
+-- those of the table of a start year, 3 to 5, 8 and 10
+unfoldable pub tableTests : ℤ → Rule → ℤ → ℤ → ℤ → List Test
+tableTests start rule age year term =
     record { passed = ageInTable age; refusal = NoSuchAge } ∷
-    record { passed = yearInTable rule year; refusal = NoSuchYear } ∷
+    record { passed = yearInTable start rule year; refusal = NoSuchYear } ∷
     record { passed = dateInTable rule term; refusal = NoSuchDate } ∷
     record { passed = spanInTable rule age year term; refusal = NoSuchSpan } ∷
     record { passed = rateInTable rule; refusal = NoSuchRate } ∷ []

@@ -2,12 +2,12 @@
 ghost use mathlib.Core.Path.{_≡_};
 ghost use Rattle.number_whole.specs.code.Sizes.{Under};
 ghost use Rattle.set_params.specs.Limits.{lastYears};
+ghost use Rattle.set_params.specs.code.Within.{StartWithin};
 ghost use Rattle.quote_table_tests.specs.TableTests.{between, dateInTable, tableTests, firstFailed};
 use model_closure::LAST_CLOSED;
 use number_annuity::MOST_RATE;
 use quote_kinds::Rule;
 use set_params::FIRST_YEARS;
-use set_params::START_YEAR;
 use set_refusal::Refusal;
 
 // Whether v is at least low and at most high.
@@ -30,17 +30,19 @@ fn date_in_table(rule: Rule, term: i64) -> bool
     quote_calendar::is_day(term)
 }
 
-// The refusal that the table gives an age, a year, a term and a kind's rate, the first of 3, 4, 10, 5 and 8 that applies.
-pub fn table_refusal(rule: Rule, age: i64, year: i64, term: i64) -> Refusal
-    requires { ⌜ Under (rule .years) lastYears ⌝ }
-    ensures { λ r. ⌜ r ≡ firstFailed (tableTests rule age year term) ⌝ }
+// The refusal that the table of a start year gives an age, a year, a term and a kind's rate, the first of 3, 4, 10, 5 and 8 that
+// applies.
+pub fn table_refusal(start: i64, rule: Rule, age: i64, year: i64, term: i64) -> Refusal
+    requires { ⌜ StartWithin start × Under (rule .years) lastYears ⌝ }
+    ensures { λ r. ⌜ r ≡ firstFailed (tableTests start rule age year term) ⌝ }
 {
     let fold = rule.fold;
-    let last = START_YEAR + rule.years;
+    let first = start + FIRST_YEARS;
+    let last = start + rule.years;
     if !between(0, LAST_CLOSED as i64, age) {
         return Refusal::NoSuchAge;
     }
-    if !between(START_YEAR + FIRST_YEARS, last, year) {
+    if !between(first, last, year) {
         return Refusal::NoSuchYear;
     }
     if !date_in_table(rule, term) {

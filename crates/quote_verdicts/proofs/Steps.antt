@@ -13,7 +13,7 @@ use Rattle.number_exponential.specs.declared.Ends.{Ends}
 use Rattle.set_params.specs.declared.Params.{Params}
 use Rattle.set_refusal.specs.declared.Refusal.{Refusal}
 use Rattle.set_refusal.specs.declared.Refusal.the-variants.{Accepted, OutOfLimits, NoSuchYear, LogForceOutOfRange, MalformedColumn}
-use Rattle.set_params.specs.Limits.{inLimits}
+use Rattle.set_limits.specs.InLimits.{inLimits}
 use Rattle.set_refusal.specs.Refusals.{refusalNumber}
 use Rattle.quote_paths.specs.Path.{factors, pathInRange}
 use Rattle.quote_kinds.specs.declared.Kind.the-variants.{Death}
@@ -58,36 +58,36 @@ unfolding columnRead entriesIn
 answered p year column w e = (rw w e, rw e (verdict-honest p year (taken column [])))
 
 -- of age 0 the table tests the year alone
-year-tested : (year : ℤ)
-    → firstFailed (tableTests (ruleOf Death) (pos 0) year (pos 0)) ≡ cond (yearInTable (ruleOf Death) year) Accepted NoSuchYear
+year-tested : (start year : ℤ) → firstFailed (tableTests start (ruleOf Death) (pos 0) year (pos 0))
+    ≡ cond (yearInTable start (ruleOf Death) year) Accepted NoSuchYear
 unfolding firstFailed tableTests ageInTable dateInTable spanInTable rateInTable ruleOf mostSpan longestSpan spanOf rateOf
-year-tested year = refl
+year-tested start year = refl
 
 module _ (p : Params) (year : ℤ) (column : List ℕ) (t : T (inLimits p)) where
   -- a year that is none of `q`
-  pub year-out : {r : Refusal} → r ≡ firstFailed (tableTests (ruleOf Death) (pos 0) year (pos 0)) → (refusalNumber r ≡ 0 → ⊥)
+  pub year-out : {r : Refusal} → r ≡ firstFailed (tableTests (p .start) (ruleOf Death) (pos 0) year (pos 0)) → (refusalNumber r ≡ 0 → ⊥)
       → Refused r ≡ judged p year (taken column [])
   unfolding judged columnRefusal columnTests firstFailed judgedBy refusalNumber
-  year-out {r} e n = go (yearInTable (ruleOf Death) year) refl (e ∙ year-tested year)
+  year-out {r} e n = go (yearInTable (p .start) (ruleOf Death) year) refl (e ∙ year-tested (p .start) year)
     where
-      go : (b : Bool) → yearInTable (ruleOf Death) year ≡ b → r ≡ cond b Accepted NoSuchYear
+      go : (b : Bool) → yearInTable (p .start) (ruleOf Death) year ≡ b → r ≡ cond b Accepted NoSuchYear
           → Refused r ≡ judged p year (taken column [])
       go true q f = absurd (n (ap refusalNumber f))
       go false q f = rw (f, is-true (inLimits p) t, q)
 
-  module _ (y : T (yearInTable (ruleOf Death) year)) where
+  module _ (y : T (yearInTable (p .start) (ruleOf Death) year)) where
     -- a cell out of range
-    pub cell-out : pathInRange p (yearCells year) ≡ false → Refused LogForceOutOfRange ≡ judged p year (taken column [])
+    pub cell-out : pathInRange p (yearCells (p .start) year) ≡ false → Refused LogForceOutOfRange ≡ judged p year (taken column [])
     unfolding judged columnRefusal columnTests firstFailed judgedBy refusalNumber
-    cell-out e = rw (is-true (inLimits p) t, is-true (yearInTable (ruleOf Death) year) y, e)
+    cell-out e = rw (is-true (inLimits p) t, is-true (yearInTable (p .start) (ruleOf Death) year) y, e)
 
     -- the verdict by the factors of the year's cells
-    pub verdict-by : (es : List Ends) {v : Verdict} → T (pathInRange p (yearCells year))
-        → take columnAges es ≡ factors billionths p (yearCells year)
+    pub verdict-by : (es : List Ends) {v : Verdict} → T (pathInRange p (yearCells (p .start) year))
+        → take columnAges es ≡ factors billionths p (yearCells (p .start) year)
         → v ≡ verdictTo (figureIn es) (entryAt column) columnAges → Of v ≡ judged p year (taken column [])
     unfolding judged columnRefusal columnTests firstFailed judgedBy refusalNumber verdictOf entriesIn
     verdict-by es r f e =
-        rw (is-true (inLimits p) t, is-true (yearInTable (ruleOf Death) year) y, is-true (pathInRange p (yearCells year)) r)
+        rw (is-true (inLimits p) t, is-true (yearInTable (p .start) (ruleOf Death) year) y, is-true (pathInRange p (yearCells (p .start) year)) r)
         (ap Of
         (e ∙ verdict-same (figureIn es) _ (entryAt column) columnAges
         (figures-in es (record { limits = t; year-in = y; range = r }) f)))

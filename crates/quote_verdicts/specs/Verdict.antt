@@ -2,16 +2,17 @@
 -- that was read is its 121 entries by age, each a number of steps of 0.00001.
 use mathlib.Core.Bool.{Bool, true, false, cond, not, _||_}
 use mathlib.Core.List.{List, [], _∷_}
-use Prim.Native.Nat.{ℕ, zero, suc, _-_}
+use Prim.Native.Nat.{ℕ, zero, suc}
 use lib.Dec.{eqb}
-use lib.IntN.{ℤ, pos, natAbs}
+use lib.IntN.{ℤ, pos}
 use lib.ListN.{getD}
 use Rattle.text_tokens.specs.Text.{bytesOf, Parse, malformed, taken, isTaken}
 use Rattle.set_params.specs.declared.Params.{Params}
 use Rattle.set_refusal.specs.declared.Refusal.{Refusal}
 use Rattle.set_refusal.specs.declared.Refusal.the-variants.{OutOfLimits, NoSuchYear, LogForceOutOfRange, MalformedColumn}
 use Rattle.set_refusal.specs.Refusals.{refusalNumber}
-use Rattle.set_params.specs.Limits.{inLimits, startYear}
+use Rattle.set_limits.specs.InLimits.{inLimits}
+use Rattle.set_params.specs.Set.{yearNumber}
 use Rattle.model_closure.specs.Weights.{lastClosed}
 use Rattle.quote_paths.specs.Path.{Place, pathOf, pathInRange}
 use Rattle.quote_kinds.specs.declared.Kind.the-variants.{Death}
@@ -74,8 +75,8 @@ verdictOf p year column = verdictTo (figureHere p year) (entryAt column) columnA
 -- ---- what is answered
 
 -- the cells of ages 0 to 120 in a year
-unfoldable pub yearCells : ℤ → List Place
-yearCells year = pathOf false 0 (natAbs year - startYear) columnAges
+unfoldable pub yearCells : ℤ → ℤ → List Place
+yearCells start year = pathOf false 0 (yearNumber start year) columnAges
 
 -- "9 torn column, .. after 2 and before 4 and 6": the years are those of `q`, and 6 is given where a cell that some age needs is
 -- out of range
@@ -83,8 +84,8 @@ unfoldable pub columnTests : Params → ℤ → Parse (List ℕ) → List Test
 columnTests p year read =
     record { passed = inLimits p; refusal = OutOfLimits } ∷
     record { passed = isTaken read; refusal = MalformedColumn } ∷
-    record { passed = yearInTable (ruleOf Death) year; refusal = NoSuchYear } ∷
-    record { passed = pathInRange p (yearCells year); refusal = LogForceOutOfRange } ∷ []
+    record { passed = yearInTable (p .start) (ruleOf Death) year; refusal = NoSuchYear } ∷
+    record { passed = pathInRange p (yearCells (p .start) year); refusal = LogForceOutOfRange } ∷ []
 
 unfoldable pub columnRefusal : Params → ℤ → Parse (List ℕ) → Refusal
 columnRefusal p year read = firstFailed (columnTests p year read)

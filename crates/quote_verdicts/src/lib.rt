@@ -5,7 +5,7 @@ ghost use mathlib.Core.List.{[]};
 ghost use lib.Dec.{T};
 ghost use Rattle.text_tokens.specs.Text.{taken};
 ghost use Rattle.number_exponential.specs.Billionths.{billionths};
-ghost use Rattle.set_params.specs.Limits.{inLimits};
+ghost use Rattle.set_limits.specs.InLimits.{inLimits};
 ghost use Rattle.number_folds.specs.code.Code.{AtMost, Chances};
 ghost use Rattle.quote_verdicts.specs.Verdict.{columnAges, entryAt, verdictTo, judged};
 ghost use Rattle.quote_verdicts.specs.Meaning.{Honest};
@@ -18,7 +18,6 @@ use number_folds::MOST_FACTORS;
 use quote_kinds::Kind;
 use quote_paths::Path;
 use set_params::Params;
-use set_params::START_YEAR;
 use set_refusal::Refusal;
 
 // Ages 0 to 120.
@@ -90,11 +89,11 @@ pub fn judge_within(p: Params, year: i64, column: [u64; COLUMN_AGES]) -> Judged
     ensures { λ r. ⌜ r ≡ judged p year (taken column []) ⌝ }
 {
     let rule = quote_kinds::rule_of(Kind::Death);
-    let refusal = quote_table_tests::table_refusal(rule, 0, year, 0);
+    let refusal = quote_table_tests::table_refusal(p.start, rule, 0, year, 0);
     if set_refusal::refusal_number(refusal) != 0 {
         return Judged::Refused(refusal);
     }
-    let n = (year - START_YEAR) as u64;
+    let n = set_params::year_number(p.start, year);
     let cells = Path {
         cohort: false,
         age: 0,

@@ -15,15 +15,16 @@ use Rattle.number_whole.specs.Listed.{listed}
 use Rattle.number_exponential.specs.declared.Ends.{Ends}
 use Rattle.number_exponential.specs.Billionths.{billionths}
 use Rattle.set_params.specs.declared.Params.{Params}
+use Rattle.set_params.specs.Set.{dynamicsOf}
 use Rattle.set_params.specs.Limits.{lastYears}
 use Rattle.model_cells.specs.declared.Cell.{Cell}
 use Rattle.model_cells.specs.declared.Cell.the-variants.{LogForceOutOfRange, Of}
-use Rattle.model_series.specs.declared.Year.{Year}
+use Rattle.model_log_force.specs.declared.Year.{Year}
 use Rattle.model_mortality.specs.Cell.{wholeYear, survival, neededInRange}
-use Rattle.model_series.specs.code.Year.{YearWithin}
+use Rattle.model_log_force.specs.code.Year.{YearWithin}
 use Rattle.model_cells.specs.code.Code.{cellOf}
 use Rattle.model_cells.specs.laws.Answers.{cell-there, cell-gone}
-use Rattle.model_series.specs.laws.YearLaws.{year-within, year-next}
+use Rattle.model_log_force.specs.laws.YearLaws.{year-within, year-next}
 use Rattle.number_folds.specs.code.Code.{mostFactors}
 use Rattle.quote_paths.specs.Path.{placeAt, pathOf, factors, pathInRange}
 use Rattle.quote_paths.specs.laws.Answers.{path-length, factors-length, path-more, factors-append, in-range-more, range-out}
@@ -117,7 +118,7 @@ module _ {p : Params} {w : Path} {y : Year} {s : ℕ} (k : PathWithin p w) (h : 
   room : (w .cohort ≡ true) × (suc s < w .count) → y .number < lastYears
   room g = omega (arith, h .place l, next-place w s (g .0), k .years (suc s) (g .1))
 
-  pub year-may : {on : Bool} → on ≡ (w .cohort && ltb (s + 1) (w .count)) → T on → YearWithin (p .a) (p .theta) y
+  pub year-may : {on : Bool} → on ≡ (w .cohort && ltb (s + 1) (w .count)) → T on → YearWithin (dynamicsOf p) y
   year-may e t = year-within (h .year) (room (goes e t))
 
   -- where it stays in its year
@@ -125,7 +126,7 @@ module _ {p : Params} {w : Path} {y : Year} {s : ℕ} (k : PathWithin p w) (h : 
   stays true q e m = absurd (false≢true (e ∙ lt-ltb (s + 1) (w .count) (omega arith)))
   stays false q e m = h .place l ∙ sym (same-place w s q)
 
-  pub year-step : (on : Bool) {r : Year} → on ≡ (w .cohort && ltb (s + 1) (w .count)) → Advanced (p .a) (p .theta) y on r
+  pub year-step : (on : Bool) {r : Year} → on ≡ (w .cohort && ltb (s + 1) (w .count)) → Advanced (dynamicsOf p) y on r
       → YearAt p w (s + 1) r
   year-step true e a =
       let g = goes e tt in

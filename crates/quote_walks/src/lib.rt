@@ -4,14 +4,15 @@ ghost use mathlib.Core.Bool.{_&&_};
 ghost use Prim.Native.Nat.{_-_, min};
 ghost use lib.Dec.{T, ltb};
 ghost use Rattle.model_closure.specs.Weights.{firstClosed};
-ghost use Rattle.model_series.specs.code.Year.{YearWithin};
+ghost use Rattle.model_log_force.specs.code.Year.{YearWithin};
 ghost use Rattle.quote_walks.specs.code.Code.{PathWithin, Advanced, WalkOf};
 use model_cells::Cell;
 use model_closure::FIRST_CLOSED;
-use model_series::Year;
+use model_log_force::Year;
 use number_exponential::Ends;
 use number_folds::MOST_FACTORS;
 use quote_paths::Path;
+use set_params::Dynamics;
 use set_params::Params;
 
 // The factors of a path's first `done` cells, where those are in range, and the year of the next.
@@ -46,12 +47,12 @@ pub fn goes_on(cohort: bool, s: usize, count: usize) -> bool
 }
 
 // The year after, or the same.
-pub fn year_after(a: i64, theta: i64, y: Year, on: bool) -> Year
-    requires { ⌜ (T on → YearWithin a theta y) ⌝ }
-    ensures { λ r. ⌜ Advanced a theta y on r ⌝ }
+pub fn year_after(d: Dynamics, y: Year, on: bool) -> Year
+    requires { ⌜ (T on → YearWithin d y) ⌝ }
+    ensures { λ r. ⌜ Advanced d y on r ⌝ }
 {
     if on {
-        return model_series::next_year(a, theta, y);
+        return model_log_force::next_year(d, y);
     }
     y
 }
@@ -65,7 +66,12 @@ pub fn young_factors(p: Params, path: Path) -> Walk
     let age = path.age;
     let count = path.count;
     let young = young_count(age, count);
-    let mut year = model_series::year_at(p, path.year);
+    let d = Dynamics {
+        a: p.a,
+        theta: p.theta,
+        c: p.c,
+    };
+    let mut year = model_log_force::year_at(p, path.year);
     let mut ends = [Ends { lower: 0, upper: 0 }; MOST_FACTORS];
     let mut done = 0;
     while done < young {
@@ -80,7 +86,7 @@ pub fn young_factors(p: Params, path: Path) -> Walk
         };
         ends[done] = e;
         done += 1;
-        year = year_after(p.a, p.theta, year, goes_on(cohort, done, count));
+        year = year_after(d, year, goes_on(cohort, done, count));
     }
     Walk {
         ok: true,

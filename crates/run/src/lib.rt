@@ -3,7 +3,7 @@ ghost use mathlib.Core.Path.{_≡_};
 ghost use Prim.Native.Nat.{_+_, _*_, _≤_, _<_};
 ghost use lib.Dec.{T, leb};
 ghost use lib.ListN.{length};
-ghost use Rattle.set_params.specs.Limits.{inLimits};
+ghost use Rattle.set_limits.specs.InLimits.{inLimits};
 ghost use Rattle.text_printing.specs.code.Put.{Put};
 ghost use Rattle.run_line.specs.Line.{lineAnswer, longestLine};
 ghost use Rattle.run.specs.Answers.{answersFrom};

@@ -13,7 +13,7 @@ use Rattle.text_tokens.specs.Text.{malformed, taken}
 use Rattle.model_closure.specs.Weights.{lastClosed}
 use Rattle.quote_table_tests.specs.TableTests.{ageInTable}
 use Rattle.quote_table_tests.specs.laws.TableLaws.{within}
-use Rattle.quote_table_tests.proofs.Signs.{below-not-least, not-below-least}
+use Rattle.number_whole.specs.laws.OrderTests.{below-not-least, not-below-least}
 use Rattle.run_column_text.specs.declared.Entry.{Entry}
 use Rattle.run_column_text.specs.code.Table.{isFree, placed, withEntry}
 

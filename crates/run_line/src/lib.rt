@@ -4,7 +4,7 @@ ghost use Prim.Native.Nat.{_+_, _≤_};
 ghost use lib.Dec.{T};
 ghost use lib.ListN.{length};
 ghost use Rattle.text_printing.specs.code.Put.{Room, Put};
-ghost use Rattle.set_params.specs.Limits.{inLimits};
+ghost use Rattle.set_limits.specs.InLimits.{inLimits};
 ghost use Rattle.run_line.specs.Line.{kindDecimals, queryAnswer, reply, lineAnswer, longestLine};
 use quote_along::Answer;
 use quote_kinds::Kind;

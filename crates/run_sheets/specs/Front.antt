@@ -1,4 +1,4 @@
--- The front of an input: one sheet, or two that stand one after the other.
+-- The front of an input: one sheet, or two that stand one after the other, each with its own number of lines.
 use mathlib.Core.Bool.{Bool, cond}
 use mathlib.Core.List.{List}
 use Prim.Native.Nat.{ℕ, _+_}
@@ -8,18 +8,9 @@ use Rattle.set_refusal.specs.declared.Refusal.{Refusal}
 use Rattle.set_refusal.specs.declared.Refusal.the-variants.{Malformed}
 use Rattle.set_refusal.specs.Refusals.{refusalNumber}
 use Rattle.set_params.specs.Set.{blank}
-use Rattle.sheet.specs.declared.Reading.{Reading}
-use Rattle.sheet.specs.Sheet.{mostBytes, readSheet, sheetLines}
-use Rattle.text_lines.specs.Lines.{firstLines}
+use Rattle.sheet.specs.Sheet.{mostBytes}
+use Rattle.sheet_reader.specs.Front.{sheetOf, sheetEnd}
 use Rattle.run_sheets.specs.declared.Front.{Front}
-
--- "The sheet is the first 370 lines; fewer are a torn sheet": a reading of fewer is malformed
-unfoldable pub sheetOf : List ℕ → Reading
-sheetOf input = readSheet (firstLines sheetLines input)
-
--- the place after it
-unfoldable pub sheetEnd : List ℕ → ℕ
-sheetEnd input = length (firstLines sheetLines input)
 
 -- a refused front: the number of the sheet that is named, or 0, the refusal, and the place after what was read
 unfoldable pub stopped : ℕ → Refusal → ℕ → Front

@@ -1,4 +1,3 @@
 pub mod Set
 pub mod Limits
 pub mod code
-pub mod laws

@@ -1,13 +1,10 @@
 -- "Units and largest size either side of zero": A, alpha: 10^-9; 40,000,000,000. B, beta: 10^-8; 10,000,000.
 -- a: 10^-8; 100,000,000. theta: 10^-9; 10,000,000,000. K, and also K + 171·theta: 10^-9; 500,000,000,000.
--- k: 10^-9; 50,000,000,000.
-use Prim.Native.Nat.{ℕ, zero, suc}
-use mathlib.Core.Bool.{Bool, true, _&&_}
+-- k: 10^-9; 50,000,000,000. c: "at most 10,000,000,000 either side in units of 10^-9".
+use Prim.Native.Nat.{ℕ}
+use mathlib.Core.Bool.{Bool}
 use lib.Dec.{leb}
-use lib.IntN.{ℤ, pos, natAbs, _+ℤ_, _*ℤ_}
-use Rattle.set_params.specs.declared.Params.{Params}
-use Rattle.set_params.specs.declared.Age.{Age}
-use Rattle.set_params.specs.Set.{ages, ageOf}
+use lib.IntN.{ℤ, natAbs}
 
 abbrev pub levelLimit : ℕ
 levelLimit = 40000000000
@@ -27,11 +24,18 @@ periodLimit = 500000000000
 abbrev pub kappaLimit : ℕ
 kappaLimit = 50000000000
 
--- the start year, 2013, and the years from it to the first year of a quote, 2014, to the last one of a survival or an
--- expectancy, 2064, and to the last one of q, 2184
-abbrev pub startYear : ℕ
-startYear = 2013
+abbrev pub constantLimit : ℕ
+constantLimit = 10000000000
 
+-- "a start year from 2013 to 2033"
+abbrev pub firstStart : ℕ
+firstStart = 2013
+
+abbrev pub lastStart : ℕ
+lastStart = 2033
+
+-- the years from the start, 2013 in an AG2014 sheet, to the first year of a quote, 2014, to the last one of a survival or an
+-- expectancy, 2064, and to the last one of q, 2184
 abbrev pub firstYears : ℕ
 firstYears = 1
 
@@ -44,23 +48,3 @@ lastYears = 171
 -- z is at most k either side of zero
 abbrev pub within : ℕ → ℤ → Bool
 within k z = leb (natAbs z) k
-
--- the four parameters of an age
-unfoldable pub ageInLimits : Age → Bool
-ageInLimits a =
-    within levelLimit (a .level) && (within slopeLimit (a .slope) && (within levelLimit (a .alpha)
-    && within slopeLimit (a .beta)))
-
--- those of the first n ages
-unfoldable pub agesInLimits : Params → ℕ → Bool
-agesInLimits p zero = true
-agesInLimits p (suc n) = agesInLimits p n && ageInLimits (ageOf p n)
-
--- a, theta, K, K + 171·theta and k
-unfoldable pub seriesInLimits : Params → Bool
-seriesInLimits p =
-    within aLimit (p .a) && (within thetaLimit (p .theta) && (within periodLimit (p .period)
-    && (within periodLimit (p .period +ℤ pos lastYears *ℤ p .theta) && within kappaLimit (p .kappa))))
-
-unfoldable pub inLimits : Params → Bool
-inLimits p = seriesInLimits p && agesInLimits p ages

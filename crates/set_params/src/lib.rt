@@ -1,7 +1,15 @@
 // The parameter set of a sheet, and the years of the table.
 ghost use mathlib.Core.Path.{_≡_};
 ghost use Prim.Native.Nat.{_<_};
-ghost use Rattle.set_params.specs.Set.{ages, fourAt, blank};
+ghost use lib.IntN.{pos};
+ghost use lib.Signed.{_≤ℤ_};
+ghost use Rattle.set_params.specs.Set.{ages, fourAt, yearNumber, blank};
+
+// The table that a set came from.
+pub enum Table {
+    Ag2014,
+    LiLee,
+}
 
 // A label only.
 pub enum Sex {
@@ -12,9 +20,11 @@ pub enum Sex {
 // Ages 0 to 90 have parameters.
 pub const AGES: usize = 91;
 
-// The start year, and the years from it to the first year of a quote, to the last one of a survival or an expectancy, and
-// to the last one of q.
-pub const START_YEAR: i64 = 2013;
+// The first and the last start year, and the years from the start to the first year of a quote, to the last one of a survival or
+// an expectancy, and to the last one of q.
+pub const FIRST_START: i64 = 2013;
+
+pub const LAST_START: i64 = 2033;
 
 pub const FIRST_YEARS: i64 = 1;
 
@@ -25,15 +35,25 @@ pub const LAST_YEARS: i64 = 171;
 // The parameters of one sheet. In the model's letters: level is A, slope is B, period is K in the start year, kappa
 // is k.
 pub struct Params {
+    pub table: Table,
     pub sex: Sex,
+    pub start: i64,
     pub a: i64,
     pub theta: i64,
+    pub c: i64,
     pub period: i64,
     pub kappa: i64,
     pub level: [i64; AGES],
     pub slope: [i64; AGES],
     pub alpha: [i64; AGES],
     pub beta: [i64; AGES],
+}
+
+// What takes the two time series a year on: theta is added to K; kappa is multiplied by a, and c is added to it.
+pub struct Dynamics {
+    pub a: i64,
+    pub theta: i64,
+    pub c: i64,
 }
 
 // The parameters of one age.
@@ -64,14 +84,25 @@ pub fn age_of_runs<'a>(
     }
 }
 
-// Sex M and every number 0.
+// A year, counted from the start.
+pub fn year_number(start: i64, year: i64) -> u64
+    requires { ⌜ (pos 0 ≤ℤ start) × (start ≤ℤ year) ⌝ }
+    ensures { λ r. ⌜ r ≡ yearNumber start year ⌝ }
+{
+    (year - start) as u64
+}
+
+// Table AG2014, start 2013, sex M and every other number 0.
 pub fn blank() -> Params
     ensures { λ r. ⌜ r ≡ blank ⌝ }
 {
     Params {
+        table: Table::Ag2014,
         sex: Sex::M,
+        start: FIRST_START,
         a: 0,
         theta: 0,
+        c: 0,
         period: 0,
         kappa: 0,
         level: [0; AGES],

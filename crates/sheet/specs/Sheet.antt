@@ -1,15 +1,18 @@
 -- "A sheet is 370 lines, each `key=value` and one line feed, in this order: `table=AG2014`, `sex=M` or `sex=F` (a label
 -- only), `a=`, `theta=`, `K=`, `k=`, then for ages 0 to 90 four lines `A.0=`, `B.0=`, `al.0=`, `be.0=` and so on to
--- `be.90=`."
+-- `be.90=`." With a start year and a constant c, "Such sheets say `table=LILEE` and have `start=` and `c=` after `k=`, 372
+-- lines in all".
 use Prim.Native.Nat.{ℕ, zero, suc, _+_, _*_}
 use mathlib.Core.Bool.{cond}
 use mathlib.Core.List.{List, [], _∷_, _++_}
 use lib.Dec.{leb}
 use lib.IntN.{ℤ, pos}
-use lib.ListN.{getD, length, drop}
+use lib.ListN.{getD, length, take, drop}
 use Rattle.text_tokens.specs.Text.{bytesOf, Parse, malformed, taken, takeText}
 use Rattle.text_tokens.specs.Number.{readNumber, numberText, unsignedText}
 use Rattle.set_params.specs.declared.Params.{Params}
+use Rattle.set_params.specs.declared.Table.{Table}
+use Rattle.set_params.specs.declared.Table.the-variants.{Ag2014, LiLee}
 use Rattle.set_params.specs.declared.Sex.{Sex}
 use Rattle.set_params.specs.declared.Sex.the-variants.{M, F}
 use Rattle.set_refusal.specs.declared.Refusal.{Refusal}
@@ -17,19 +20,17 @@ use Rattle.set_refusal.specs.declared.Refusal.the-variants.{Accepted, Malformed
 use Rattle.sheet.specs.declared.Reading.{Reading}
 use Rattle.sheet.specs.declared.Written.{Written}
 use Rattle.set_params.specs.Set.{A, B, alpha, beta, ages, blank}
-use Rattle.set_params.specs.Limits.{inLimits}
+use Rattle.set_params.specs.Limits.{firstStart}
+use Rattle.set_limits.specs.InLimits.{inLimits}
 
 -- the longest input that is read
 abbrev pub mostBytes : ℕ
 mostBytes = 65536
 
--- "A sheet is 370 lines"
-abbrev pub sheetLines : ℕ
-sheetLines = 370
-
--- the bytes of the first two lines
-abbrev pub headBytes : ℕ
-headBytes = 19
+-- "A sheet is 370 lines"; one of LILEE has "372 lines in all"
+unfoldable pub sheetLines : Table → ℕ
+sheetLines Ag2014 = 370
+sheetLines LiLee = 372
 
 -- ---- the lines' keys and values, in their order
 
@@ -43,14 +44,22 @@ ageKeys x =
     (bytesOf "A." ++ unsignedText x) ∷ (bytesOf "B." ++ unsignedText x) ∷ (bytesOf "al." ++ unsignedText x)
     ∷ (bytesOf "be." ++ unsignedText x) ∷ []
 
-unfoldable pub keys : List (List ℕ)
-keys = bytesOf "a" ∷ bytesOf "theta" ∷ bytesOf "K" ∷ bytesOf "k" ∷ forAges ageKeys ages
+-- what only a sheet of LILEE has
+unfoldable pub ifLiLee : {X : Type 0} → Table → List X → List X
+ifLiLee Ag2014 xs = []
+ifLiLee LiLee xs = xs
+
+unfoldable pub keys : Table → List (List ℕ)
+keys t =
+    bytesOf "a" ∷ bytesOf "theta" ∷ bytesOf "K" ∷ bytesOf "k"
+    ∷ (ifLiLee t (bytesOf "start" ∷ bytesOf "c" ∷ []) ++ forAges ageKeys ages)
 
 unfoldable pub ageValues : Params → ℕ → List ℤ
 ageValues p x = A p x ∷ B p x ∷ alpha p x ∷ beta p x ∷ []
 
 unfoldable pub values : Params → List ℤ
-values p = p .a ∷ p .theta ∷ p .period ∷ p .kappa ∷ forAges (ageValues p) ages
+values p =
+    p .a ∷ p .theta ∷ p .period ∷ p .kappa ∷ (ifLiLee (p .table) (p .start ∷ p .c ∷ []) ++ forAges (ageValues p) ages)
 
 -- ---- the one sheet of a set
 
@@ -62,12 +71,16 @@ linesText [] vs = []
 linesText (k ∷ ks) [] = []
 linesText (k ∷ ks) (v ∷ vs) = lineText k v ++ linesText ks vs
 
-unfoldable pub headText : Sex → List ℕ
-headText M = bytesOf "table=AG2014\nsex=M\n"
-headText F = bytesOf "table=AG2014\nsex=F\n"
+unfoldable pub tableText : Table → List ℕ
+tableText Ag2014 = bytesOf "table=AG2014\n"
+tableText LiLee = bytesOf "table=LILEE\n"
+
+unfoldable pub sexText : Sex → List ℕ
+sexText M = bytesOf "sex=M\n"
+sexText F = bytesOf "sex=F\n"
 
 unfoldable pub sheetText : Params → List ℕ
-sheetText p = headText (p .sex) ++ linesText keys (values p)
+sheetText p = tableText (p .table) ++ (sexText (p .sex) ++ linesText (keys (p .table)) (values p))
 
 -- ---- reading
 
@@ -92,42 +105,76 @@ readLines (k ∷ ks) bs =
       | taken v rest ↦ elim (readLines ks rest) [ malformed ↦ malformed | taken vs next ↦ taken (v ∷ vs) next ]
     ]
 
-unfoldable pub readHead : List ℕ → Parse Sex
-readHead bs =
-    elim (takeText (headText M) bs) [
-      | malformed ↦ elim (takeText (headText F) bs) [ malformed ↦ malformed | taken u rest ↦ taken F rest ]
-      | taken u rest ↦ taken M rest
+-- the one of two whose text the bytes begin with
+unfoldable pub readEither : {X : Type 0} → (X → List ℕ) → X → X → List ℕ → Parse X
+readEither text x y bs =
+    elim (takeText (text x) bs) [
+      | malformed ↦ elim (takeText (text y) bs) [ malformed ↦ malformed | taken u rest ↦ taken y rest ]
+      | taken u rest ↦ taken x rest
     ]
+
+unfoldable pub readTable : List ℕ → Parse Table
+readTable bs = readEither tableText Ag2014 LiLee bs
+
+unfoldable pub readSex : List ℕ → Parse Sex
+readSex bs = readEither sexText M F bs
+
+-- every number of a set, in the order of a sheet of LILEE
+unfoldable pub allValues : Params → List ℤ
+allValues p = p .a ∷ p .theta ∷ p .period ∷ p .kappa ∷ p .start ∷ p .c ∷ forAges (ageValues p) ages
+
+-- these out of a sheet's values: "AG2014 sheets are read and written as now, and work as start 2013 and c 0"
+unfoldable pub completed : Table → List ℤ → List ℤ
+completed Ag2014 vs = take 4 vs ++ (pos firstStart ∷ pos 0 ∷ drop 4 vs)
+completed LiLee vs = vs
 
 -- a run of parameters: from place i on, every fourth value
 unfoldable pub runFrom : ℕ → List ℤ → List ℤ
 runFrom i vs = forAges (λ (x : ℕ). getD vs (i + 4 * x) (pos 0) ∷ []) ages
 
-unfoldable pub paramsOf : Sex → List ℤ → Params
-paramsOf sex vs =
+-- the set with these numbers: it "keeps which of the two tables it came from"
+unfoldable pub paramsOf : Table → Sex → List ℤ → Params
+paramsOf table sex vs =
     record {
+      table = table;
       sex = sex;
+      start = getD vs 4 (pos 0);
       a = getD vs 0 (pos 0);
       theta = getD vs 1 (pos 0);
+      c = getD vs 5 (pos 0);
       period = getD vs 2 (pos 0);
       kappa = getD vs 3 (pos 0);
-      level = runFrom 4 vs;
-      slope = runFrom 5 vs;
-      alpha = runFrom 6 vs;
-      beta = runFrom 7 vs;
+      level = runFrom 6 vs;
+      slope = runFrom 7 vs;
+      alpha = runFrom 8 vs;
+      beta = runFrom 9 vs;
     }
+
+-- the set that the bytes begin with, and what follows its lines
+unfoldable pub readFront : List ℕ → Parse Params
+readFront bs =
+    elim (readTable bs) [
+      | malformed ↦ malformed
+      | taken table rest ↦
+          elim (readSex rest) [
+            | malformed ↦ malformed
+            | taken sex lines ↦
+                elim (readLines (keys table) lines)
+                [ malformed ↦ malformed | taken vs next ↦ taken (paramsOf table sex (completed table vs)) next ]
+          ]
+    ]
+
+-- what is read, where nothing follows it
+unfoldable pub nothingAfter : Parse Params → Parse Params
+nothingAfter malformed = malformed
+nothingAfter (taken p []) = taken p []
+nothingAfter (taken p (b ∷ more)) = malformed
 
 -- the set that the whole input stands for, or malformed
 unfoldable pub readSet : List ℕ → Parse Params
-readSet bs =
-    elim (readHead bs) [
-      | malformed ↦ malformed
-      | taken sex rest ↦
-          elim (readLines keys rest)
-          [ malformed ↦ malformed | taken vs next ↦ elim next [ [] ↦ taken (paramsOf sex vs) [] | b ∷ more ↦ malformed ] ]
-    ]
+readSet bs = nothingAfter (readFront bs)
 
--- "A refused reading hands back sex M and every number 0."
+-- "A refused reading hands back sex M and every number 0"; it "is marked AG2014, with start 2013 and c 0"
 unfoldable pub refused : Refusal → Reading
 refused r = record { refusal = r; set = blank }
 

@@ -1,17 +1,11 @@
-// What reading and writing a sheet gives, how many lines it has, and the reading of a line and of four in a row. What the bytes of
-// a sheet mean is in specs/.
+// What reading and writing a sheet gives, and the reading of a line and of four in a row. What the bytes of a sheet mean is in
+// specs/.
 ghost use Rattle.text_words.specs.code.ShortText.{Sized};
 ghost use Rattle.sheet.specs.code.Lines.{LineOf, FourOf};
 use set_params::Params;
 use set_refusal::Refusal;
 use text_tokens::NumberRead;
 use text_words::Short;
-
-// The lines of a sheet.
-pub const SHEET_LINES: usize = 370;
-
-// The bytes of the first two.
-pub const HEAD_BYTES: usize = 19;
 
 // What reading a sheet gives.
 pub struct Reading {
@@ -32,7 +26,7 @@ pub enum FourRead {
 }
 
 // The number of the line at a place, from its key and the `=` after it.
-fn line_at(bytes: &[u8], at: usize, head: Short) -> NumberRead
+pub fn line_at(bytes: &[u8], at: usize, head: Short) -> NumberRead
     requires { ⌜ Sized head ⌝ }
     ensures { λ r. ⌜ LineOf (now (bytes .entry)) at head r ⌝ }
 {

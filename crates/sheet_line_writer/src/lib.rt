@@ -1,4 +1,5 @@
-// Writes the lines of a sheet into a buffer that the caller lends: the first two, those of the series, or those of one age.
+// Writes the lines of a sheet into a buffer that the caller lends: the first, the second, those of the series, of the start and c,
+// or of one age.
 ghost use mathlib.Core.Path.{_≡_};
 ghost use mathlib.Core.List.{_++_};
 ghost use Prim.Native.Nat.{_^_, _<_};
@@ -6,24 +7,36 @@ ghost use lib.IntN.{pos, natAbs};
 ghost use lib.Dec.{T};
 ghost use Rattle.text_tokens.specs.Number.{mostDigits, unsignedText};
 ghost use Rattle.set_params.specs.Set.{ages};
-ghost use Rattle.sheet.specs.Sheet.{lineText, headText};
+ghost use Rattle.sheet.specs.Sheet.{lineText, tableText, sexText};
 ghost use Rattle.text_printing.specs.code.Put.{Room, Put};
-ghost use Rattle.set_params.specs.Limits.{inLimits};
+ghost use Rattle.set_limits.specs.InLimits.{inLimits};
 ghost use Rattle.set_params.specs.code.Within.{AgeWithin};
-ghost use Rattle.sheet_length.specs.code.Parts.{seriesText, ageText};
+ghost use Rattle.sheet_length.specs.code.Parts.{seriesText, startText, ageText};
 ghost use Rattle.sheet_line_writer.specs.code.Value.{valueText};
 use set_params::Age;
 use set_params::Params;
 use set_params::Sex;
+use set_params::Table;
 
-// Writes the first two lines; the place after them.
-pub fn put_head(buffer: &mut [u8], sex: Sex) -> usize
-    requires { ⌜ Room (now buffer) 0 (headText sex) ⌝ }
-    ensures { λ r. ⌜ Put (now (buffer .entry)) 0 (headText sex) (now (buffer .exit)) r ⌝ }
+// Writes the first line; the place after it.
+pub fn put_table(buffer: &mut [u8], table: Table) -> usize
+    requires { ⌜ Room (now buffer) 0 (tableText table) ⌝ }
+    ensures { λ r. ⌜ Put (now (buffer .entry)) 0 (tableText table) (now (buffer .exit)) r ⌝ }
+{
+    match table {
+        Table::Ag2014 => text_printing::put_text(buffer, 0, b"table=AG2014\n"),
+        Table::LiLee => text_printing::put_text(buffer, 0, b"table=LILEE\n"),
+    }
+}
+
+// Writes the second line; the place after it.
+pub fn put_sex(buffer: &mut [u8], at: usize, sex: Sex) -> usize
+    requires { ⌜ Room (now buffer) at (sexText sex) ⌝ }
+    ensures { λ r. ⌜ Put (now (buffer .entry)) at (sexText sex) (now (buffer .exit)) r ⌝ }
 {
     match sex {
-        Sex::M => text_printing::put_text(buffer, 0, b"table=AG2014\nsex=M\n"),
-        Sex::F => text_printing::put_text(buffer, 0, b"table=AG2014\nsex=F\n"),
+        Sex::M => text_printing::put_text(buffer, at, b"sex=M\n"),
+        Sex::F => text_printing::put_text(buffer, at, b"sex=F\n"),
     }
 }
 
@@ -74,6 +87,20 @@ pub fn put_series(buffer: &mut [u8], at: usize, p: Params) -> usize
     let period = put_line(buffer, theta, b"theta", p.theta);
     let kappa = put_line(buffer, period, b"K", p.period);
     put_line(buffer, kappa, b"k", p.kappa)
+}
+
+// Writes the lines of the start and c, which only a sheet of LILEE has; the place after them.
+pub fn put_start(buffer: &mut [u8], at: usize, table: Table, start: i64, c: i64) -> usize
+    requires { ⌜ (natAbs start < 10 ^ mostDigits) × (natAbs c < 10 ^ mostDigits) × Room (now buffer) at (startText table start c) ⌝ }
+    ensures { λ r. ⌜ Put (now (buffer .entry)) at (startText table start c) (now (buffer .exit)) r ⌝ }
+{
+    match table {
+        Table::Ag2014 => at,
+        Table::LiLee => {
+            let constant = put_line(buffer, at, b"start", start);
+            put_line(buffer, constant, b"c", c)
+        }
+    }
 }
 
 // Writes the four lines of age x; the place after them.

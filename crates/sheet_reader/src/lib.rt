@@ -1,26 +1,35 @@
 // Reads a parameter sheet.
 ghost use mathlib.Core.Path.{_≡_};
-ghost use mathlib.Core.Bool.{false, cond};
+ghost use mathlib.Core.Bool.{cond};
 ghost use mathlib.Core.List.{[]};
-ghost use lib.ListN.{length};
+ghost use lib.ListN.{drop};
 ghost use Rattle.text_tokens.specs.Text.{malformed, taken};
-ghost use Rattle.text_lines.specs.Lines.{firstLines};
 ghost use Rattle.set_refusal.specs.declared.Refusal.the-variants.{Malformed};
-ghost use Rattle.sheet.specs.Sheet.{sheetLines, refused, readingOf, readSheet};
+ghost use Rattle.sheet.specs.Sheet.{sheetLines, readFront, refused, readingOf, readSheet};
 ghost use Rattle.sheet_set.specs.code.Ages.{setRead};
-ghost use Rattle.sheet_reader.specs.code.Read.{setFront, atEnd, refusalOf};
+ghost use Rattle.sheet_reader.specs.Front.{tableAt, sheetOf, sheetEnd};
+ghost use Rattle.sheet_reader.specs.code.Read.{fromSex, atEnd, refusalOf};
 use set_params::Params;
 use set_params::Sex;
+use set_params::Table;
 use set_refusal::Refusal;
 use sheet::Reading;
-use sheet::SHEET_LINES;
 use sheet_set::SetRead;
 
 // The longest input that is read.
 pub const MOST_BYTES: usize = 65_536;
 
-// The place of the sex.
-const SEX: usize = 17;
+// The bytes of a sheet's first line, by its table, and of its second.
+const AG2014_BYTES: usize = 13;
+
+const LILEE_BYTES: usize = 12;
+
+const SEX_BYTES: usize = 6;
+
+// The lines of a sheet, by its table.
+const AG2014_LINES: usize = 370;
+
+const LILEE_LINES: usize = 372;
 
 // The sheet that begins an input, and the place after it.
 pub struct First {
@@ -79,31 +88,40 @@ fn reading_of(whole: bool, set: Params) -> Reading
     Reading { refusal, set }
 }
 
-// What is given where no sheet begins.
-fn none() -> SetRead
-    ensures { λ r. ⌜ r .ok ≡ false ⌝ }
+// A sheet of the table, from its second line on, at a place: its set, and the place after it.
+fn from_sex(bytes: &[u8], at: usize, table: Table) -> SetRead
+    ensures { λ r. ⌜ setRead (now (bytes .entry)) r ≡ fromSex table (drop at (now (bytes .entry))) ⌝ }
 {
-    SetRead {
-        ok: false,
-        next: 0,
-        set: set_params::blank(),
+    if text_tokens::text_at(bytes, at, b"sex=M\n") {
+        return sheet_set::set_at(bytes, at + SEX_BYTES, table, Sex::M);
     }
+    if text_tokens::text_at(bytes, at, b"sex=F\n") {
+        return sheet_set::set_at(bytes, at + SEX_BYTES, table, Sex::F);
+    }
+    sheet_set::none()
 }
 
 // The sheet at the front of the bytes, and the place after it.
 fn front(bytes: &[u8]) -> SetRead
-    ensures { λ r. ⌜ setRead (now (bytes .entry)) r ≡ setFront (now (bytes .entry)) ⌝ }
+    ensures { λ r. ⌜ setRead (now (bytes .entry)) r ≡ readFront (now (bytes .entry)) ⌝ }
 {
-    if !text_tokens::text_at(bytes, 0, b"table=AG2014\nsex=") {
-        return none();
+    if text_tokens::text_at(bytes, 0, b"table=AG2014\n") {
+        return from_sex(bytes, AG2014_BYTES, Table::Ag2014);
     }
-    if text_tokens::text_at(bytes, SEX, b"M\n") {
-        return sheet_set::set_at(bytes, Sex::M);
+    if text_tokens::text_at(bytes, 0, b"table=LILEE\n") {
+        return from_sex(bytes, LILEE_BYTES, Table::LiLee);
     }
-    if text_tokens::text_at(bytes, SEX, b"F\n") {
-        return sheet_set::set_at(bytes, Sex::F);
+    sheet_set::none()
+}
+
+// How many lines the sheet at the front of the bytes has.
+fn line_count(bytes: &[u8]) -> usize
+    ensures { λ r. ⌜ r ≡ sheetLines (tableAt (now (bytes .entry))) ⌝ }
+{
+    if text_tokens::text_at(bytes, 0, b"table=LILEE\n") {
+        return LILEE_LINES;
     }
-    none()
+    AG2014_LINES
 }
 
 // The set that the bytes stand for, or the refusal, for any bytes.
@@ -118,17 +136,16 @@ pub fn read(bytes: &[u8]) -> Reading
     reading_of(at_end(got.ok, got.next, bytes.len()), set)
 }
 
-// The sheet that the first lines of the bytes are, and the place after them. It is read where it stands; only where there is
-// none are the lines counted.
+// The sheet at the front of the bytes, which others may follow, and the place after it. It is read where it stands; only where
+// there is none are its lines counted.
 pub fn read_first(bytes: &[u8]) -> First
-    ensures { λ r. ⌜ (r .sheet ≡ readSheet (firstLines sheetLines (now (bytes .entry))))
-        × (r .next ≡ length (firstLines sheetLines (now (bytes .entry)))) ⌝ }
+    ensures { λ r. ⌜ (r .sheet ≡ sheetOf (now (bytes .entry))) × (r .next ≡ sheetEnd (now (bytes .entry))) ⌝ }
 {
     let got = front(bytes);
     let set = got.set;
     let sheet = reading_of(got.ok, set);
     if !got.ok {
-        let end = text_lines::lines_end(bytes, SHEET_LINES);
+        let end = text_lines::lines_end(bytes, line_count(bytes));
         return First { sheet, next: end };
     }
     if got.next < bytes.len() {

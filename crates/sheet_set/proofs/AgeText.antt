@@ -1,5 +1,5 @@
 -- The text of an age below 100 and its `=`, and the head of an age's line, a name and then that text.
-use mathlib.Core.Path.{sym, ap, ap₂, _∙_}
+use mathlib.Core.Path.{sym, ap, _∙_}
 use Prim.Native.Nat.{ℕ, _≤_, _<_}
 use native.Mathlib.Omega.{arith}
 use mathlib.Core.List.{List, _++_, append-assoc}
@@ -11,6 +11,7 @@ use Rattle.text_tokens.specs.Text.{bytesOf}
 use Rattle.text_tokens.specs.Number.{unsignedText}
 use Rattle.text_tokens.specs.laws.DecimalLaws.{by-size, text-small, text-two}
 use Rattle.sheet.specs.code.Lines.{Heads}
+use Rattle.sheet_set.proofs.Joined.{joined-holds}
 
 -- two bytes or three
 pub age-length : (x : ℕ) → x < 100
@@ -31,7 +32,4 @@ module _ (x : ℕ) (k : x < 100) {age : Short} (h : Holds age (unsignedText x ++
         (omega (arith, length-append (textOf name) (textOf age), ap length (h .holds)))
 
     pub age-head : Heads r (n ++ unsignedText x)
-    age-head =
-        record {
-          text = j .holds ∙ ap₂ _++_ (i .holds) (h .holds) ∙ sym (append-assoc n (unsignedText x) (bytesOf "="));
-        }
+    age-head = record { text = joined-holds i h j .holds ∙ sym (append-assoc n (unsignedText x) (bytesOf "=")) }

@@ -3,7 +3,7 @@ ghost use mathlib.Core.Path.{_≡_};
 ghost use lib.Dec.{T};
 ghost use lib.ListN.{length};
 ghost use Rattle.set_params.specs.Set.{ages};
-ghost use Rattle.set_params.specs.Limits.{inLimits};
+ghost use Rattle.set_limits.specs.InLimits.{inLimits};
 ghost use Rattle.sheet.specs.Sheet.{sheetText, writeAnswer, writtenBuffer};
 ghost use Rattle.sheet_length.specs.code.Parts.{agesText};
 ghost use Rattle.text_printing.specs.code.Put.{Room, Put};
@@ -32,9 +32,12 @@ fn put_sheet(buffer: &mut [u8], p: Params) -> usize
     requires { ⌜ T (inLimits p) × Room (now buffer) 0 (sheetText p) ⌝ }
     ensures { λ r. ⌜ Put (now (buffer .entry)) 0 (sheetText p) (now (buffer .exit)) r ⌝ }
 {
+    let table = p.table;
     let sex = p.sex;
-    let series = sheet_line_writer::put_head(buffer, sex);
-    let first = sheet_line_writer::put_series(buffer, series, p);
+    let second = sheet_line_writer::put_table(buffer, table);
+    let series = sheet_line_writer::put_sex(buffer, second, sex);
+    let start = sheet_line_writer::put_series(buffer, series, p);
+    let first = sheet_line_writer::put_start(buffer, start, table, p.start, p.c);
     put_ages(buffer, first, p)
 }
 

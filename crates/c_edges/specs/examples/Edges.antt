@@ -12,9 +12,11 @@ use Rattle.number_exponential.specs.Exponential.{expBetween}
 use Rattle.number_exponential.specs.Billionths.{billionths}
 use Rattle.text_tokens.specs.Text.{bytesOf}
 use Rattle.set_params.specs.declared.Params.{Params}
+use Rattle.set_params.specs.declared.Table.the-variants.{Ag2014}
 use Rattle.set_params.specs.declared.Sex.the-variants.{M}
 use Rattle.set_params.specs.Set.{ages}
-use Rattle.model_series.specs.Series.{kappa, logForce}
+use Rattle.set_series.specs.Series.{kappa}
+use Rattle.model_log_force.specs.LogForce.{logForce}
 use Rattle.sheet.specs.Sheet.{sheetText}
 use Rattle.model_closure.specs.Weights.{firstFitted, firstClosed, lastClosed, weight, weightRow, rowTotal}
 use Rattle.number_exact.specs.Figure.{figureOf}
@@ -39,9 +41,12 @@ weightFrom x y = weight x (y - firstFitted)
 unfoldable pub setOf : ℤ → ℤ → ℤ → ℤ → Params
 setOf a theta kappa level =
     record {
+      table = Ag2014;
       sex = M;
+      start = pos 2013;
       a = a;
       theta = theta;
+      c = pos 0;
       period = pos 0;
       kappa = kappa;
       level = replicate ages level;

@@ -6,6 +6,7 @@ use mathlib.Core.List.{List, []}
 use Prim.Native.Nat.{ℕ}
 use native.Mathlib.Omega.{arith}
 use lib.Dec.{T}
+use lib.Ieee.Bits.{is-true}
 use lib.IntN.{ℤ, pos}
 use Rattle.number_whole.specs.Listed.{listed}
 use Rattle.number_whole.specs.Division.{floorDiv, ceilDiv, ceilDivℕ}
@@ -18,13 +19,16 @@ use Rattle.number_exponential.specs.Billionths.{wholeParts}
 use Rattle.text_tokens.specs.Text.{bytesOf, taken, takeText}
 use Rattle.text_tokens.specs.Number.{decimal, unsignedText}
 use Rattle.set_params.specs.declared.Params.{Params}
-use Rattle.set_params.specs.Set.{A, B, alpha, beta, Whole}
-use Rattle.set_params.specs.Limits.{inLimits, seriesInLimits, agesInLimits, ageInLimits}
+use Rattle.set_params.specs.Set.{A, B, alpha, beta, Whole, yearNumber}
+use Rattle.set_limits.specs.InLimits.{allBelow, lastStartOf, constantLimitOf, tableInLimits, seriesInLimits, ageInLimits, inLimits}
+use Rattle.set_limits.specs.laws.LimitsLaws.{sizes-decide}
 use Rattle.set_refusal.specs.Refusals.{refusalNumber}
 use Rattle.sheet.specs.declared.Reading.{Reading}
-use Rattle.sheet.specs.Sheet.{ageValues, values, sheetText, refused, readSheet}
+use Rattle.sheet.specs.Sheet.{ifLiLee, ageValues, values, sheetText, refused, readSheet}
+use Rattle.sheet.specs.laws.SetTrip.{Shown, ag2014-shown}
 use Rattle.sheet.specs.laws.SheetTrip.{AllSmall, in-limits-small, written-reads-back, written-out-of-limits}
-use Rattle.model_series.specs.Series.{periodIn, kappaIn, kappaStep, cellForce, logForce, inRange}
+use Rattle.set_series.specs.Series.{periodIn, kappaIn, kappaStep}
+use Rattle.model_log_force.specs.LogForce.{cellForce, logForce, inRange}
 use Rattle.model_closure.specs.Weights.{weight, weightRow, weightTable, rowTotal, beside, totalled, ruled}
 use Rattle.model_closure.specs.laws.WeightLaws.{row-total}
 use Rattle.model_mortality.specs.Cell.{neededInRange}
@@ -69,10 +73,10 @@ module _ (word : List ℕ) (kind : Kind) (read : kindOf word ≡ taken kind []) 
         ∙ demand-met p kind age year term .number
 
     -- and else 2
-    number-past : AllSmall (values p) → inLimits p ≡ false
+    number-past : Shown p → AllSmall (values p) → inLimits p ≡ false
         → quoteNo (sheetAnswer (sheetText p) (kindOf word) age year term) quoteLength ≡ 2
     unfolding answerTo refusalNumber refused quoteNo
-    number-past s e = ap (λ (a : Answer). quoteNo a quoteLength) (answer-read (written-out-of-limits p w s e))
+    number-past h s e = ap (λ (a : Answer). quoteNo a quoteLength) (answer-read (written-out-of-limits p w h s e))
 
 -- ---- the kinds' words
 
@@ -91,48 +95,52 @@ unfolding setOf
 set-whole a theta kappa level = record { level = refl; slope = refl; alpha = refl; beta = refl }
 
 theta-within : T (inLimits (withTheta 2923976608))
-unfolding inLimits seriesInLimits agesInLimits ageInLimits A B alpha beta setOf
-theta-within = tt
+unfolding allBelow tableInLimits lastStartOf constantLimitOf seriesInLimits ageInLimits A B alpha beta setOf
+theta-within = sizes-decide (withTheta 2923976608) refl tt tt tt
 
 theta-past : inLimits (withTheta 2923976609) ≡ false
-unfolding inLimits seriesInLimits agesInLimits ageInLimits A B alpha beta setOf
+unfolding inLimits tableInLimits lastStartOf constantLimitOf seriesInLimits setOf
 theta-past = refl
+
+theta-shown : Shown (withTheta 2923976609)
+unfolding setOf
+theta-shown = ag2014-shown (withTheta 2923976609) refl refl refl
 
 -- theta alone differs from a set that is in limits
 theta-small : AllSmall (values (withTheta 2923976609))
-unfolding values ageValues A B alpha beta setOf
+unfolding values ifLiLee ageValues A B alpha beta setOf
 theta-small =
     let s = in-limits-small (withTheta 2923976608) theta-within in (s .0, (omega arith, s .1 .1))
 
 force-within : T (inLimits (withForce (minus 700000000)))
-unfolding inLimits seriesInLimits agesInLimits ageInLimits A B alpha beta setOf
-force-within = tt
+unfolding allBelow tableInLimits lastStartOf constantLimitOf seriesInLimits ageInLimits A B alpha beta setOf
+force-within = sizes-decide (withForce (minus 700000000)) refl tt tt tt
 
 next-within : T (inLimits (withForce (minus 699999999)))
-unfolding inLimits seriesInLimits agesInLimits ageInLimits A B alpha beta setOf
-next-within = tt
+unfolding allBelow tableInLimits lastStartOf constantLimitOf seriesInLimits ageInLimits A B alpha beta setOf
+next-within = sizes-decide (withForce (minus 699999999)) refl tt tt tt
 
 -- ---- their queries
 
 theta-passes : refusalNumber (refusalOf (withTheta 2923976608) kind.CohortSurvival (pos 65) (pos 2020) (pos 0)) ≡ 0
-unfolding inLimits seriesInLimits agesInLimits ageInLimits A B alpha beta setOf refusalOf firstFailed tableTests refusalNumber
+unfolding A B alpha beta setOf refusalOf firstFailed tableTests refusalNumber yearNumber
     ageInTable yearInTable dateInTable spanInTable rateInTable ruleOf rateOf mostSpan longestSpan spanOf partOf countOf queryPath
     pathOf partYear whole/ listed pathInRange
-theta-passes = refl
+theta-passes = rw (is-true (inLimits (withTheta 2923976608)) theta-within)
 
 force-passes : refusalNumber (refusalOf (withForce (minus 700000000)) kind.Death (pos 65) (pos 2020) (pos 0)) ≡ 0
-unfolding inLimits seriesInLimits agesInLimits ageInLimits A B alpha beta setOf refusalOf firstFailed tableTests refusalNumber
+unfolding A B alpha beta setOf refusalOf firstFailed tableTests refusalNumber yearNumber
     ageInTable yearInTable dateInTable spanInTable rateInTable ruleOf rateOf mostSpan longestSpan spanOf partOf countOf queryPath
     pathOf partYear whole/ listed placeAt pathInRange neededInRange inRange logForce cellForce periodIn kappaIn kappaStep
     leastProduct greatestProduct outward floorDiv ceilDiv
-force-passes = refl
+force-passes = rw (is-true (inLimits (withForce (minus 700000000))) force-within)
 
 next-fails : refusalNumber (refusalOf (withForce (minus 699999999)) kind.Death (pos 65) (pos 2020) (pos 0)) ≡ 6
-unfolding inLimits seriesInLimits agesInLimits ageInLimits A B alpha beta setOf refusalOf firstFailed tableTests refusalNumber
+unfolding A B alpha beta setOf refusalOf firstFailed tableTests refusalNumber yearNumber
     ageInTable yearInTable dateInTable spanInTable rateInTable ruleOf rateOf mostSpan longestSpan spanOf partOf countOf queryPath
     pathOf partYear whole/ listed placeAt pathInRange neededInRange inRange logForce cellForce periodIn kappaIn kappaStep
     leastProduct greatestProduct outward floorDiv ceilDiv
-next-fails = refl
+next-fails = rw (is-true (inLimits (withForce (minus 699999999))) next-within)
 
 -- ---- the weights
 
@@ -160,7 +168,7 @@ starred-edges =
       theta-accepted = number-within (bytesOf "coh") kind.CohortSurvival read-coh (withTheta 2923976608) (pos 65) (pos 2020) (pos 0)
           (set-whole _ _ _ _) theta-within ∙ theta-passes;
       theta-one-more = number-past (bytesOf "coh") kind.CohortSurvival read-coh (withTheta 2923976609) (pos 65) (pos 2020) (pos 0)
-          (set-whole _ _ _ _) theta-small theta-past;
+          (set-whole _ _ _ _) theta-shown theta-small theta-past;
       force-highest = refl;
       force-accepted = number-within (bytesOf "q") kind.Death read-q (withForce (minus 700000000)) (pos 65) (pos 2020) (pos 0)
           (set-whole _ _ _ _) force-within ∙ force-passes;

@@ -18,21 +18,21 @@ use Rattle.c_set_numbers.proofs.run.Statement.{statement}
 use Rattle.c_set_numbers.proofs.run.Tie as tie
 
 abbrev Inv-loop : tie.InvT-loop
-Inv-loop values from out₀ age₀ out age = (age ≤ ages) × Run out from (drop 1 values) age
+Inv-loop values from out₀ age₀ out age = (age ≤ ages) × Run out from (drop 2 values) age
 
 abbrev μ-loop : tie.MeasureT-loop
 μ-loop values from out₀ age₀ out age = ages - age
 
 -- the number that is read
 read : (c : tie.After-out Inv-loop μ-loop) → let l = c .before .before in let s = l .before .args in
-    toZ w64 (ofZ w64 (getD (s .values .now) (1 + s .from + 4 * l .loop .age) (pos 0)))
-    ≡ getD (drop 1 (s .values .now)) (s .from + 4 * l .loop .age) (pos 0)
+    toZ w64 (ofZ w64 (getD (s .values .now) (2 + s .from + 4 * l .loop .age) (pos 0)))
+    ≡ getD (drop 2 (s .values .now)) (s .from + 4 * l .loop .age) (pos 0)
 read c =
     let l = c .before .before in
     let s = l .before .args in
-    let e : 1 + s .from + 4 * l .loop .age ≡ 1 + (s .from + 4 * l .loop .age) = omega arith in
-    let f : SFits w64 (getD (s .values .now) (1 + s .from + 4 * l .loop .age) (pos 0)) = search needs in
-    toZ-ofZ f ∙ rw e (sym (getD-drop 1 (s .values .now) (s .from + 4 * l .loop .age) (pos 0)))
+    let e : 2 + s .from + 4 * l .loop .age ≡ 2 + (s .from + 4 * l .loop .age) = omega arith in
+    let f : SFits w64 (getD (s .values .now) (2 + s .from + 4 * l .loop .age) (pos 0)) = search needs in
+    toZ-ofZ f ∙ rw e (sym (getD-drop 2 (s .values .now) (s .from + 4 * l .loop .age) (pos 0)))
 
 loop-holds : tie.Need-loop-holds Inv-loop μ-loop
 loop-holds c = (omega arith, run-start _ _ _ refl)

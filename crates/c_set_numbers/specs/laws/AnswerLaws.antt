@@ -1,9 +1,9 @@
--- What the calls answer, and what they leave in what they are lent, in each of their cases; and the sex of a number that is
--- held in 64 bits.
+-- What the calls answer, and what they leave in what they are lent, in each of their cases; and the table and the sex of a number that
+-- is held in 64 bits.
 use mathlib.Core.Path.{_≡_, refl, sym, ap, _∙_}
 use Prim.Native.Nat.{ℕ, zero, suc, _≤_, _<_}
 use native.Mathlib.Omega.{arith}
-use mathlib.Core.Bool.{Bool, true, false, cond, and-eq-true-iff}
+use mathlib.Core.Bool.{Bool, true, false, cond, _&&_, and-eq-true-iff}
 use mathlib.Core.List.{List}
 use borrow.Author.Tests.{le-leb, lt-leb, eq-eqb, ne-eqb, eqb-true}
 use lib.Dec.{eqb, leb}
@@ -12,30 +12,44 @@ use lib.ListN.{length, getD}
 use mir.Syntax.{w64}
 use mir.Val.{SFits, ofZ}
 use Rattle.set_params.specs.declared.Params.{Params}
+use Rattle.set_params.specs.declared.Table.the-variants.{Ag2014, LiLee}
 use Rattle.set_params.specs.declared.Sex.the-variants.{M, F}
 use Rattle.set_refusal.specs.declared.Refusal.the-variants.{Accepted, Malformed, OutOfLimits, BufferTooShort}
 use Rattle.set_refusal.specs.Refusals.{refusalNumber}
-use Rattle.set_params.specs.Limits.{inLimits}
+use Rattle.set_limits.specs.InLimits.{inLimits}
 use Rattle.sheet.specs.declared.Reading.{Reading}
 use Rattle.sheet.specs.declared.Written.{Written}
 use Rattle.sheet.specs.Sheet.{readSheet, sheetText, writeRefusal, writtenLength, writeAnswer, writtenBuffer}
-use Rattle.c_set_numbers.specs.SetNumbers.{setLength, isSex, sexOf, areSet, setOf, setOver, readNo, numbersAfter}
+use Rattle.c_set_numbers.specs.SetNumbers.{setLength, isLabel, tableOf, sexOf, areSet, setOf, setOver, readNo, numbersAfter}
 use Rattle.c_set_numbers.specs.SetNumbers.{toldLength, writeNo, bufferAfter, lengthAfter}
 
--- ---- the sex
+-- ---- the table and the sex
 
--- the bits are not 0: they are those of a sex where they are 1
-other-sex : (z : ℤ) → SFits w64 z → (ofZ w64 z ≡ 0 → ⊥) → eqb (ofZ w64 z) 1 ≡ isSex z
-unfolding isSex
-other-sex (pos zero) f h = absurd (h refl)
-other-sex (pos (suc zero)) f h = refl
-other-sex (pos (suc (suc n))) f h = rw (ne-eqb (suc (suc n)) 1 (λ e. omega arith), lt-leb (suc (suc n)) 1 (omega arith))
-other-sex (negsuc n) f h = ne-eqb (ofZ w64 (negsuc n)) 1 (λ e. omega (arith, f .sfits))
-
--- the bits are 0
+-- the bits are 0, or those of 1
 is-zero : (z : ℤ) → SFits w64 z → ofZ w64 z ≡ 0 → z ≡ pos 0
 is-zero (pos n) f e = ap pos e
 is-zero (negsuc n) f e = absurd (omega (arith, f .sfits))
+
+pub label-zero : (z : ℤ) → SFits w64 z → ofZ w64 z ≡ 0 → isLabel z ≡ true
+unfolding isLabel
+label-zero z f e = rw (is-zero z f e)
+
+pub label-other : (z : ℤ) → SFits w64 z → (ofZ w64 z ≡ 0 → ⊥) → eqb (ofZ w64 z) 1 ≡ isLabel z
+unfolding isLabel
+label-other (pos zero) f h = absurd (h refl)
+label-other (pos (suc zero)) f h = refl
+label-other (pos (suc (suc n))) f h = rw (ne-eqb (suc (suc n)) 1 (λ e. omega arith), lt-leb (suc (suc n)) 1 (omega arith))
+label-other (negsuc n) f h = ne-eqb (ofZ w64 (negsuc n)) 1 (λ e. omega (arith, f .sfits))
+
+pub table-zero : (z : ℤ) → SFits w64 z → ofZ w64 z ≡ 0 → tableOf z ≡ Ag2014
+unfolding tableOf
+table-zero z f e = rw (is-zero z f e)
+
+pub table-other : (z : ℤ) → (ofZ w64 z ≡ 0 → ⊥) → tableOf z ≡ LiLee
+unfolding tableOf
+table-other (pos zero) h = absurd (h refl)
+table-other (pos (suc n)) h = refl
+table-other (negsuc n) h = refl
 
 pub sex-zero : (z : ℤ) → SFits w64 z → ofZ w64 z ≡ 0 → sexOf z ≡ M
 unfolding sexOf
@@ -54,26 +68,21 @@ module _ (ns : List ℤ) where
   unfolding areSet
   not-as-many h = rw (ne-eqb (length ns) setLength h)
 
-  pub first-zero : length ns ≡ setLength → SFits w64 (getD ns 0 (pos 0)) → ofZ w64 (getD ns 0 (pos 0)) ≡ 0
-      → areSet ns ≡ true
-  unfolding areSet isSex
-  first-zero h f e = rw (eq-eqb (length ns) setLength h, is-zero _ f e)
-
-  pub first-other : length ns ≡ setLength → SFits w64 (getD ns 0 (pos 0)) → (ofZ w64 (getD ns 0 (pos 0)) ≡ 0 → ⊥)
-      → areSet ns ≡ eqb (ofZ w64 (getD ns 0 (pos 0))) 1
+  -- as many, the first two decide
+  pub labels-decide : length ns ≡ setLength → areSet ns ≡ (isLabel (getD ns 0 (pos 0)) && isLabel (getD ns 1 (pos 0)))
   unfolding areSet
-  first-other h f e = rw (eq-eqb (length ns) setLength h) (sym (other-sex _ f e))
+  labels-decide h = rw (eq-eqb (length ns) setLength h)
 
-  -- a set's numbers are as many, and the first is a sex
-  parts : areSet ns ≡ true → (eqb (length ns) setLength ≡ true) × (isSex (getD ns 0 (pos 0)) ≡ true)
-  unfolding areSet
-  parts = and-eq-true-iff (eqb (length ns) setLength) (isSex (getD ns 0 (pos 0))) .0
-
+  -- a set's numbers are as many, and the first two are labels
   pub as-many : areSet ns ≡ true → length ns ≡ setLength
-  as-many t = eqb-true (length ns) setLength (parts t .0)
+  unfolding areSet
+  as-many t = eqb-true (length ns) setLength (and-eq-true-iff (eqb (length ns) setLength) _ .0 t .0)
 
-  pub first-sex : areSet ns ≡ true → isSex (getD ns 0 (pos 0)) ≡ true
-  first-sex t = parts t .1
+  pub first-labels : areSet ns ≡ true → (isLabel (getD ns 0 (pos 0)) ≡ true) × (isLabel (getD ns 1 (pos 0)) ≡ true)
+  unfolding areSet
+  first-labels t =
+      and-eq-true-iff (isLabel (getD ns 0 (pos 0))) (isLabel (getD ns 1 (pos 0))) .0
+      (and-eq-true-iff (eqb (length ns) setLength) (isLabel (getD ns 0 (pos 0)) && isLabel (getD ns 1 (pos 0))) .0 t .1)
 
 -- ---- reading
 

@@ -10,6 +10,8 @@ use lib.Dec.{T, eqb, leb}
 use lib.IntN.{ℤ, pos, negsuc}
 use lib.ListN.{length, getD, drop}
 use Rattle.set_params.specs.declared.Params.{Params}
+use Rattle.set_params.specs.declared.Table.{Table}
+use Rattle.set_params.specs.declared.Table.the-variants.{Ag2014, LiLee}
 use Rattle.set_params.specs.declared.Sex.{Sex}
 use Rattle.set_params.specs.declared.Sex.the-variants.{M, F}
 use Rattle.set_refusal.specs.declared.Refusal.{Refusal}
@@ -17,16 +19,21 @@ use Rattle.set_refusal.specs.declared.Refusal.the-variants.{Accepted, Malformed
 use Rattle.set_refusal.specs.Refusals.{refusalNumber}
 use Rattle.set_refusal.specs.laws.RefusalLaws.{accepted}
 use Rattle.set_params.specs.Set.{Whole}
-use Rattle.set_params.specs.Limits.{inLimits}
+use Rattle.set_limits.specs.InLimits.{inLimits}
 use Rattle.sheet.specs.declared.Reading.{Reading}
 use Rattle.sheet.specs.Sheet.{paramsOf, sheetText, readSheet, writeRefusal}
-use Rattle.sheet.specs.laws.SetTrip.{params-whole, values-params, params-values}
+use Rattle.sheet.specs.laws.SetTrip.{params-whole, all-params, params-all}
 use Rattle.sheet.specs.laws.SheetTrip.{written-reads-back, read-writes-back}
-use Rattle.c_set_numbers.specs.SetNumbers.{setLength, sexNumber, setNumbers, isSex, sexOf, areSet, setOf, setOver}
+use Rattle.c_set_numbers.specs.SetNumbers.{setLength, tableNumber, sexNumber, setNumbers, isLabel, tableOf, sexOf, areSet, setOf, setOver}
 use Rattle.c_set_numbers.specs.SetNumbers.{readNo, numbersAfter, writeNo}
-use Rattle.c_set_numbers.specs.laws.AnswerLaws.{as-many, first-sex, read-accepted}
+use Rattle.c_set_numbers.specs.laws.AnswerLaws.{as-many, first-labels, read-accepted}
 
 -- ---- a set and its numbers
+
+table-back : (t : Table) → tableOf (tableNumber t) ≡ t
+unfolding tableNumber tableOf
+table-back Ag2014 = refl
+table-back LiLee = refl
 
 sex-back : (s : Sex) → sexOf (sexNumber s) ≡ s
 unfolding sexNumber sexOf
@@ -35,25 +42,36 @@ sex-back F = refl
 
 pub set-back : (p : Params) → Whole p → setOf (setNumbers p) ≡ p
 unfolding setOf setNumbers
-set-back p w = rw (sex-back (p .sex)) (params-values p w)
+set-back p w = rw (table-back (p .table), sex-back (p .sex)) (params-all p w)
 
-number-back : (z : ℤ) → isSex z ≡ true → sexNumber (sexOf z) ≡ z
-unfolding isSex sexNumber sexOf
-number-back (pos zero) h = refl
-number-back (pos (suc zero)) h = refl
-number-back (pos (suc (suc n))) h = absurd (omega (arith, leb-true (suc (suc n)) 1 h))
-number-back (negsuc n) h = let z : _≡_ {A = ℕ} 0 1 = cc in absurd (omega arith)
+table-number-back : (z : ℤ) → isLabel z ≡ true → tableNumber (tableOf z) ≡ z
+unfolding isLabel tableNumber tableOf
+table-number-back (pos zero) h = refl
+table-number-back (pos (suc zero)) h = refl
+table-number-back (pos (suc (suc n))) h = absurd (omega (arith, leb-true (suc (suc n)) 1 h))
+table-number-back (negsuc n) h = let z : _≡_ {A = ℕ} 0 1 = cc in absurd (omega arith)
 
-back : (n : ℤ) (vs : List ℤ) → length vs ≡ 368 → isSex n ≡ true → setNumbers (setOf (n ∷ vs)) ≡ n ∷ vs
+sex-number-back : (z : ℤ) → isLabel z ≡ true → sexNumber (sexOf z) ≡ z
+unfolding isLabel sexNumber sexOf
+sex-number-back (pos zero) h = refl
+sex-number-back (pos (suc zero)) h = refl
+sex-number-back (pos (suc (suc n))) h = absurd (omega (arith, leb-true (suc (suc n)) 1 h))
+sex-number-back (negsuc n) h = let z : _≡_ {A = ℕ} 0 1 = cc in absurd (omega arith)
+
+back : (t s : ℤ) (vs : List ℤ) → length vs ≡ 370 → isLabel t ≡ true → isLabel s ≡ true → setNumbers (setOf (t ∷ s ∷ vs)) ≡ t ∷ s ∷ vs
 unfolding setNumbers setOf paramsOf
-back n vs h s = rw (number-back n s) (ap (λ (l : List ℤ). n ∷ l) (values-params (sexOf n) vs h))
+back t s vs h l m =
+    rw (table-number-back t l, sex-number-back s m)
+    (ap (λ (l : List ℤ). t ∷ s ∷ l) (all-params (tableOf t) (sexOf s) vs h))
 
 pub numbers-back : (ns : List ℤ) → areSet ns ≡ true → setNumbers (setOf ns) ≡ ns
-numbers-back ns t = go ns (as-many ns t) (first-sex ns t)
+numbers-back ns t = let l = first-labels ns t in go ns (as-many ns t) (l .0) (l .1)
   where
-    go : (ns : List ℤ) → length ns ≡ setLength → isSex (getD ns 0 (pos 0)) ≡ true → setNumbers (setOf ns) ≡ ns
-    go [] h s = absurd (omega arith)
-    go (n ∷ ns) h s = back n ns (omega arith) s
+    go : (ns : List ℤ) → length ns ≡ setLength → isLabel (getD ns 0 (pos 0)) ≡ true → isLabel (getD ns 1 (pos 0)) ≡ true
+        → setNumbers (setOf ns) ≡ ns
+    go [] h l m = absurd (omega arith)
+    go (t ∷ []) h l m = absurd (omega arith)
+    go (t ∷ s ∷ ns) h l m = back t s ns (omega arith) l m
 
 -- ---- written, then read
 
@@ -73,7 +91,7 @@ pub written-reads : (ns : List ℤ) (room : ℕ) → writeNo ns room ≡ 0 → (
 unfolding setOf setOver refusalNumber
 written-reads ns room e before h =
     let (t, within) = accepted-set ns room e in
-    let q = written-reads-back (setOf ns) (params-whole _ _) within in
+    let q = written-reads-back (setOf ns) (params-whole _ _ _) within in
     read-accepted (sheetText (setOf ns)) before (sym q) refl refl h
     (ap (λ (l : List ℤ). l ++ drop setLength before) (sym (numbers-back ns t)))
 

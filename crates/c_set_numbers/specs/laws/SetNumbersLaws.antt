@@ -5,14 +5,14 @@ use native.Mathlib.Omega.{arith}
 use mathlib.Core.List.{List, [], _∷_, _++_, append-assoc}
 use lib.IntN.{ℤ, pos}
 use lib.ListN.{length, getD, take, drop, set, length-append, length-drop, length-set}
-use lib.Seq.{take-at, drop-at, drop-append-add, drop-drop, set-split, sets-eq, take-suc-set, getD-drop}
+use lib.Seq.{take-at, drop-at, drop-append-add, drop-drop, sets-eq, take-suc-set, getD-drop}
 use Rattle.set_params.specs.declared.Params.{Params}
 use Rattle.set_params.specs.declared.Age.{Age}
 use Rattle.set_params.specs.Set.{ages, ageOf}
-use Rattle.sheet.specs.Sheet.{forAges, ageValues, values, runFrom, paramsOf}
+use Rattle.sheet.specs.Sheet.{forAges, ageValues, allValues, runFrom, paramsOf}
 use Rattle.sheet_set.specs.code.Ages.{run}
 use Rattle.sheet_set.specs.laws.RunLaws.{Run, run-end}
-use Rattle.c_set_numbers.specs.SetNumbers.{setLength, sexNumber, setNumbers, sexOf, setOf, over, setOver}
+use Rattle.c_set_numbers.specs.SetNumbers.{setLength, tableNumber, sexNumber, setNumbers, tableOf, sexOf, setOf, over, setOver}
 
 -- ---- a set's numbers in front
 
@@ -31,9 +31,9 @@ rest : {ns : List ℤ} {at : ℕ} {before after : List ℤ} → Front ns at befo
 rest {ns} {at} {before} f k =
     rw (f .whole, ← f .long) (drop-append-add ns (drop (length ns) before) k ∙ drop-drop k (length ns) before)
 
--- one number stored in the first place
-front-one : (before : List ℤ) (v : ℤ) → 0 < length before → Front (v ∷ []) 1 before (set before 0 v)
-front-one before v h = record { long = refl; whole = set-split before 0 v h }
+-- nothing is in front
+front-none : (before : List ℤ) → Front [] 0 before before
+front-none before = record { long = refl; whole = refl }
 
 -- more numbers put behind them
 front-more : {ns : List ℤ} {at : ℕ} {before after next : List ℤ} (vs : List ℤ) → Front ns at before after
@@ -45,6 +45,11 @@ front-more {ns} {at} {before} {after} vs f e =
       long = rw length-append (omega (arith, f .long));
       whole = e ∙ rw (t, rest f (length vs)) (sym (append-assoc ns vs _));
     }
+
+-- those put first leave as many
+pub first-length : (before vs : List ℤ) {after : List ℤ} → after ≡ over before 0 vs → length vs ≤ length before
+    → length after ≡ length before
+first-length before vs e h = front-length (omega arith) (front-more vs (front-none before) e)
 
 -- what was put may count as what stood before, where the numbers put next reach as far
 pub front-self : {ns : List ℤ} {at : ℕ} {before after : List ℤ} → Front ns at before after → Front ns at after after
@@ -68,12 +73,15 @@ four-stores l at a b c d h =
     let e₃ : at + 3 ≡ suc (suc (suc at)) = omega arith in
     rw (e₁, e₂, e₃) (sets-eq (a ∷ b ∷ c ∷ d ∷ []) l at h ∙ append-assoc (take at l) (a ∷ b ∷ c ∷ d ∷ []) _)
 
--- the sex, the series and the first n ages
+-- the table, the sex, the series and the first n ages
 unfoldable pub firstAges : Params → ℕ → List ℤ
-firstAges p n = sexNumber (p .sex) ∷ p .a ∷ p .theta ∷ p .period ∷ p .kappa ∷ forAges (ageValues p) n
+firstAges p n =
+    tableNumber (p .table) ∷ sexNumber (p .sex) ∷ p .a ∷ p .theta ∷ p .period ∷ p .kappa ∷ p .start ∷ p .c
+    ∷ forAges (ageValues p) n
 
 ages-none : (p : Params)
-    → (sexNumber (p .sex) ∷ []) ++ (p .a ∷ p .theta ∷ p .period ∷ p .kappa ∷ []) ≡ firstAges p 0
+    → (tableNumber (p .table) ∷ sexNumber (p .sex) ∷ p .a ∷ p .theta ∷ []) ++ (p .period ∷ p .kappa ∷ p .start ∷ p .c ∷ [])
+    ≡ firstAges p 0
 unfolding firstAges forAges
 ages-none p = refl
 
@@ -81,12 +89,14 @@ ages-more : (p : Params) (n : ℕ) → firstAges p n ++ ageValues p n ≡ firstA
 unfolding firstAges forAges
 ages-more p n = refl
 
--- the sex and the series put
-pub head-put : (p : Params) {before after : List ℤ} {s a t k κ : ℤ} → 0 < length before
-    → after ≡ over (set before 0 s) 1 (a ∷ t ∷ k ∷ κ ∷ []) → s ≡ sexNumber (p .sex) → a ≡ p .a → t ≡ p .theta
-    → k ≡ p .period → κ ≡ p .kappa → Front (firstAges p 0) 5 before after
-head-put p {before} h e s a t k κ =
-    rw (← ages-none p) (front-more _ (front-one before (sexNumber (p .sex)) h) (e ∙ rw (s, a, t, k, κ)))
+-- the first four numbers put, and the four after them
+pub head-put : (p : Params) {before first after : List ℤ} {l s a t k κ st c : ℤ} → first ≡ over before 0 (l ∷ s ∷ a ∷ t ∷ [])
+    → after ≡ over first 4 (k ∷ κ ∷ st ∷ c ∷ []) → l ≡ tableNumber (p .table) → s ≡ sexNumber (p .sex) → a ≡ p .a
+    → t ≡ p .theta → k ≡ p .period → κ ≡ p .kappa → st ≡ p .start → c ≡ p .c → Front (firstAges p 0) 8 before after
+head-put p {before} f e l s a t k κ st c =
+    let first = tableNumber (p .table) ∷ sexNumber (p .sex) ∷ p .a ∷ p .theta ∷ [] in
+    let then = p .period ∷ p .kappa ∷ p .start ∷ p .c ∷ [] in
+    rw (← ages-none p) (front-more then (front-more first (front-none before) (f ∙ rw (l, s, a, t))) (e ∙ rw (k, κ, st, c)))
 
 -- an age's four numbers
 abbrev fourOf : Age → List ℤ
@@ -94,19 +104,19 @@ fourOf a = a .level ∷ a .slope ∷ a .alpha ∷ a .beta ∷ []
 
 -- those of one age more put
 pub age-put : (p : Params) (x : ℕ) {before after next : List ℤ} {g : Age} {v₀ v₁ v₂ v₃ : ℤ}
-    → Front (firstAges p x) (5 + 4 * x) before after → next ≡ over after (5 + 4 * x) (v₀ ∷ v₁ ∷ v₂ ∷ v₃ ∷ [])
+    → Front (firstAges p x) (8 + 4 * x) before after → next ≡ over after (8 + 4 * x) (v₀ ∷ v₁ ∷ v₂ ∷ v₃ ∷ [])
     → g ≡ ageOf p x → v₀ ≡ g .level → v₁ ≡ g .slope → v₂ ≡ g .alpha → v₃ ≡ g .beta
-    → Front (firstAges p (suc x)) (5 + 4 * suc x) before next
+    → Front (firstAges p (suc x)) (8 + 4 * suc x) before next
 unfolding ageValues
 age-put p x {before} {after} {v₀} {v₁} {v₂} {v₃} f e q e₀ e₁ e₂ e₃ =
-    let n : 5 + 4 * suc x ≡ 5 + 4 * x + 4 = omega arith in
+    let n : 8 + 4 * suc x ≡ 8 + 4 * x + 4 = omega arith in
     let w : v₀ ∷ v₁ ∷ v₂ ∷ v₃ ∷ [] ≡ ageValues p x = rw (e₀, e₁, e₂, e₃) (ap (λ (a : Age). fourOf a) q) in
-    rw (← ages-more p x, n) (front-more (ageValues p x) f (e ∙ ap (over after (5 + 4 * x)) w))
+    rw (← ages-more p x, n) (front-more (ageValues p x) f (e ∙ ap (over after (8 + 4 * x)) w))
 
 -- those of all ages put
 pub ages-all : (p : Params) {before after : List ℤ} → Front (firstAges p ages) setLength before after
     → after ≡ setOver p before
-unfolding firstAges setOver setNumbers values
+unfolding firstAges setOver setNumbers allValues
 ages-all p f = f .whole
 
 -- ---- a run out of a list
@@ -126,11 +136,11 @@ run-all r = run-end r
 
 -- ---- a set out of its numbers
 
-pub set-taken : (ns : List ℤ) {p : Params} → p .sex ≡ sexOf (getD ns 0 (pos 0)) → p .a ≡ getD ns 1 (pos 0)
-    → p .theta ≡ getD ns 2 (pos 0) → p .period ≡ getD ns 3 (pos 0) → p .kappa ≡ getD ns 4 (pos 0)
-    → p .level ≡ runFrom 4 (drop 1 ns) → p .slope ≡ runFrom 5 (drop 1 ns) → p .alpha ≡ runFrom 6 (drop 1 ns)
-    → p .beta ≡ runFrom 7 (drop 1 ns) → setOf ns ≡ p
+pub set-taken : (ns : List ℤ) {p : Params} → p .table ≡ tableOf (getD ns 0 (pos 0)) → p .sex ≡ sexOf (getD ns 1 (pos 0))
+    → p .a ≡ getD ns 2 (pos 0) → p .theta ≡ getD ns 3 (pos 0) → p .period ≡ getD ns 4 (pos 0) → p .kappa ≡ getD ns 5 (pos 0)
+    → p .start ≡ getD ns 6 (pos 0) → p .c ≡ getD ns 7 (pos 0) → p .level ≡ runFrom 6 (drop 2 ns)
+    → p .slope ≡ runFrom 7 (drop 2 ns) → p .alpha ≡ runFrom 8 (drop 2 ns) → p .beta ≡ runFrom 9 (drop 2 ns) → setOf ns ≡ p
 unfolding setOf paramsOf
-set-taken ns s a t k κ l b al be =
-    let after : (i : ℕ) → getD (drop 1 ns) i (pos 0) ≡ getD ns (1 + i) (pos 0) = λ i. getD-drop 1 ns i (pos 0) in
-    rw (← s, after 0, ← a, after 1, ← t, after 2, ← k, after 3, ← κ, ← l, ← b, ← al, ← be)
+set-taken ns l s a t k κ st c le b al be =
+    let after : (i : ℕ) → getD (drop 2 ns) i (pos 0) ≡ getD ns (2 + i) (pos 0) = λ i. getD-drop 2 ns i (pos 0) in
+    rw (← l, ← s, after 0, ← a, after 1, ← t, after 2, ← k, after 3, ← κ, after 4, ← st, after 5, ← c, ← le, ← b, ← al, ← be)

@@ -11,13 +11,13 @@ use Rattle.number_whole.specs.declared.SignedEnds.{SignedEnds}
 use Rattle.number_exponential.specs.Billionths.{billionths}
 use Rattle.number_exponential.specs.Exponential.{expBetween}
 use Rattle.set_params.specs.Set.{ageOf, four-age}
-use Rattle.model_series.specs.Series.{logForce, inRange}
-use Rattle.model_series.specs.laws.RangeLaws.{logForce-negated}
+use Rattle.model_log_force.specs.LogForce.{logForce, inRange}
+use Rattle.model_log_force.specs.laws.RangeLaws.{logForce-negated}
 use Rattle.model_logarithm.specs.Logarithm.{inverseLogistic}
 use Rattle.model_closure.specs.Weights.{firstFitted, fitted}
 use Rattle.model_force.specs.Force.{negated}
 use Rattle.model_mortality.specs.Cell.{youngForce, fittedEnds}
-use Rattle.model_series.specs.laws.YearLaws.{cell-within, year-force}
+use Rattle.model_log_force.specs.laws.YearLaws.{cell-within, year-force}
 use Rattle.model_cells.specs.code.Fitted.{LentIn}
 use Rattle.model_cells.proofs.Fitting.{FittedTo, fitted-none, fitted-more, fitted-out, fitted-all}
 use Rattle.model_cells.proofs.fitted_in.Statement.{statement}

@@ -6,8 +6,8 @@ use borrow.Author.Tests.{not-true, not-false}
 use Rattle.number_exponential.specs.Exponential.{expBetween}
 use Rattle.number_exponential.specs.Billionths.{billionths}
 use Rattle.number_whole.specs.declared.SignedEnds.{SignedEnds}
-use Rattle.model_series.specs.Series.{cellForce, inRange}
-use Rattle.model_series.specs.laws.RangeLaws.{cell-negated}
+use Rattle.model_log_force.specs.LogForce.{cellForce, inRange}
+use Rattle.model_log_force.specs.laws.RangeLaws.{cell-negated}
 use Rattle.model_force.specs.Force.{negated}
 use Rattle.model_cells.specs.declared.Cell.the-variants.{Of}
 use Rattle.model_cells.specs.code.Code.{cellIf}

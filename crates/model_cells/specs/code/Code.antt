@@ -8,7 +8,7 @@ use Rattle.number_exponential.specs.declared.Ends.{Ends}
 use Rattle.number_exponential.specs.Exponential.{expBetween}
 use Rattle.number_exponential.specs.Billionths.{billionths}
 use Rattle.set_params.specs.declared.Params.{Params}
-use Rattle.model_series.specs.Series.{inRange}
+use Rattle.model_log_force.specs.LogForce.{inRange}
 use Rattle.model_logistic.specs.Logistic.{logistic}
 use Rattle.model_closure.specs.Closure.{weightedMean}
 use Rattle.model_closure.specs.code.Code.{weightOf}

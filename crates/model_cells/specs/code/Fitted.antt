@@ -9,8 +9,8 @@ use Rattle.set_params.specs.declared.Params.{Params}
 use Rattle.model_closure.specs.Weights.{fitted}
 use Rattle.model_closure.specs.code.Code.{InLimit}
 use Rattle.model_mortality.specs.Cell.{fittedList, fittedInRange}
-use Rattle.model_series.specs.declared.Year.{Year}
-use Rattle.model_series.specs.code.Year.{YearOf}
+use Rattle.model_log_force.specs.declared.Year.{Year}
+use Rattle.model_log_force.specs.code.Year.{YearOf}
 use Rattle.model_cells.specs.declared.Fitted.{Fitted}
 
 -- f has the ends of H in year n where its eleven cells are in range, and says whether they are

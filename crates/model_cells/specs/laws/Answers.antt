@@ -9,7 +9,7 @@ use Rattle.number_exponential.specs.declared.Ends.{Ends}
 use Rattle.number_exponential.specs.Exponential.{expBetween}
 use Rattle.number_exponential.specs.Billionths.{billionths}
 use Rattle.set_params.specs.declared.Params.{Params}
-use Rattle.model_series.specs.Series.{logForce}
+use Rattle.model_log_force.specs.LogForce.{logForce}
 use Rattle.model_closure.specs.Weights.{firstClosed, weightRow}
 use Rattle.model_closure.specs.examples.Rows.{row-mean}
 use Rattle.model_mortality.specs.Cell.{youngForce, oldForce, force, survival, neededInRange}

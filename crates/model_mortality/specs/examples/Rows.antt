@@ -8,19 +8,24 @@ use Rattle.number_fraction.specs.Fraction.{wholeℚ, _+ℚ_, scaleℚ, quotient
 use Rattle.number_taylor.specs.Taylor.{taylorNum, taylorDen, gap, stretchedNum, stretchedDen}
 use Rattle.number_taylor.specs.Order.{orderLower, orderUpper}
 use Rattle.set_params.specs.declared.Params.{Params}
+use Rattle.set_params.specs.declared.Table.the-variants.{Ag2014}
 use Rattle.set_params.specs.declared.Sex.the-variants.{M}
 use Rattle.set_params.specs.Set.{ages, A, B, alpha, beta}
-use Rattle.model_series.specs.Series.{periodIn}
-use Rattle.model_series.specs.Exact.{perUnit, exactKappa, exactLogForce}
+use Rattle.set_series.specs.Series.{periodIn}
+use Rattle.set_series.specs.Exact.{perUnit, exactKappa}
+use Rattle.model_log_force.specs.Exact.{exactLogForce}
 use Rattle.model_mortality.specs.Exact.{exactM, exactZ, orderYoungForce, orderForce, orderForceOver, orderSurvival, orderDeath}
 
 -- every A −1,000,000,000, and every other number 0
 flat : Params
 flat =
     record {
+      table = Ag2014;
       sex = M;
+      start = pos 2013;
       a = pos 0;
       theta = pos 0;
+      c = pos 0;
       period = pos 0;
       kappa = pos 0;
       level = replicate ages (negℤ (pos 1000000000));

@@ -2,7 +2,8 @@
 use Prim.Native.Nat.{ℕ, _≤_}
 use lib.Dec.{T}
 use Rattle.set_params.specs.declared.Params.{Params}
-use Rattle.set_params.specs.Limits.{inLimits, lastYears}
+use Rattle.set_limits.specs.InLimits.{inLimits}
+use Rattle.set_params.specs.Limits.{lastYears}
 use Rattle.model_closure.specs.Weights.{lastClosed}
 use Rattle.model_mortality.specs.Cell.{neededInRange}
 

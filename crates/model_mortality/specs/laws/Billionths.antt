@@ -16,7 +16,7 @@ use Rattle.number_exponential.specs.laws.Terms.{slack}
 use Rattle.number_exponential.specs.laws.WidthFacts.{expWidth, slackUpper, slackLower}
 use Rattle.number_exponential.specs.laws.Overlap.{Overlap}
 use Rattle.set_params.specs.declared.Params.{Params}
-use Rattle.model_series.specs.Series.{highestForce}
+use Rattle.model_log_force.specs.LogForce.{highestForce}
 use Rattle.model_logarithm.specs.laws.Range.{Halving}
 use Rattle.model_logarithm.specs.laws.WidthFacts.{logWidth}
 use Rattle.model_logarithm.specs.laws.BillionthsFacts as log

@@ -5,7 +5,7 @@ use Rattle.number_whole.specs.Parts.{below}
 use Rattle.number_taylor.specs.Order.{leastOrder}
 use Rattle.number_exponential.specs.Grid.{Grid}
 use Rattle.model_logarithm.specs.laws.WidthFacts.{Fine}
-use Rattle.model_series.specs.Series.{highestForce}
+use Rattle.model_log_force.specs.LogForce.{highestForce}
 use Rattle.model_logarithm.specs.laws.Range.{Halving}
 use Rattle.model_mortality.specs.Exact.{sheetUnit}
 

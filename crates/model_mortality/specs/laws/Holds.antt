@@ -24,11 +24,11 @@ use Rattle.number_exponential.specs.laws.Overlap.{Overlap}
 use Rattle.number_exponential.specs.laws.Holds.{exp-overlap}
 use Rattle.number_exponential.specs.laws.OutwardLaws.{outward-holds}
 use Rattle.set_params.specs.declared.Params.{Params}
-use Rattle.model_series.specs.Series.{logForce, highestForce}
-use Rattle.model_series.specs.Exact.{exactLogForce}
-use Rattle.model_series.specs.laws.SeriesLaws.{logForce-holds}
-use Rattle.model_series.specs.code.Within.{logForceWidth, Negated}
-use Rattle.model_series.specs.laws.RangeLaws.{negated-holds}
+use Rattle.model_log_force.specs.LogForce.{logForce, highestForce}
+use Rattle.model_log_force.specs.Exact.{exactLogForce}
+use Rattle.model_log_force.specs.laws.HoldsLaws.{logForce-holds}
+use Rattle.model_log_force.specs.code.Within.{logForceWidth, Negated}
+use Rattle.model_log_force.specs.laws.RangeLaws.{negated-holds}
 use Rattle.model_logarithm.specs.Logarithm.{logLower, logUpper, inverseLogistic}
 use Rattle.model_logarithm.specs.laws.Force.{force-half}
 use Rattle.model_logarithm.specs.laws.Holds.{log-overlap}

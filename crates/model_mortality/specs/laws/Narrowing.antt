@@ -20,8 +20,8 @@ use Rattle.number_exponential.specs.Billionths.{billionths}
 use Rattle.number_exponential.specs.laws.BillionthsFacts.{billionths-sound}
 use Rattle.number_exponential.specs.Grid.{inUnits}
 use Rattle.set_params.specs.declared.Params.{Params}
-use Rattle.model_series.specs.Series.{logForce, highestForce}
-use Rattle.model_series.specs.code.Within.{logForceWidth, Negated}
+use Rattle.model_log_force.specs.LogForce.{logForce, highestForce}
+use Rattle.model_log_force.specs.code.Within.{logForceWidth, Negated}
 use Rattle.model_logarithm.specs.Exact.{logSum, logRemainder, orderLogLower, orderLogUpper}
 use Rattle.model_logarithm.specs.laws.Brackets.{log-upper-falls, log-brackets-agree}
 use Rattle.model_logarithm.specs.laws.Half.{half, logOrder}

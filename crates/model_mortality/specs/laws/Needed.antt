@@ -8,9 +8,9 @@ use lib.Dec.{T}
 use borrow.Author.Tests.{lt-ltb, le-ltb}
 use mir.Facts.{and-yes}
 use Rattle.set_params.specs.declared.Params.{Params}
-use Rattle.model_series.specs.Series.{logForce, inRange}
-use Rattle.model_series.specs.code.Within.{logForceWidth, Negated}
-use Rattle.model_series.specs.laws.RangeLaws.{logForce-negated}
+use Rattle.model_log_force.specs.LogForce.{logForce, inRange}
+use Rattle.model_log_force.specs.code.Within.{logForceWidth, Negated}
+use Rattle.model_log_force.specs.laws.RangeLaws.{logForce-negated}
 use Rattle.model_closure.specs.Weights.{fitted, firstFitted, firstClosed}
 use Rattle.model_mortality.specs.Cell.{fittedInRange, neededInRange}
 use Rattle.model_mortality.specs.laws.Answered.{Answered}

@@ -11,8 +11,8 @@ use Rattle.number_fraction.specs.laws.FractionLaws.{≤ℚ-refl, +ℚ-mono, sig
 use Rattle.number_taylor.specs.Order.{leastOrder}
 use Rattle.number_taylor.specs.laws.OrderLaws.{orders-agree}
 use Rattle.set_params.specs.declared.Params.{Params}
-use Rattle.model_series.specs.Series.{logForce}
-use Rattle.model_series.specs.code.Within.{logForceWidth, Negated}
+use Rattle.model_log_force.specs.LogForce.{logForce}
+use Rattle.model_log_force.specs.code.Within.{logForceWidth, Negated}
 use Rattle.model_logarithm.specs.laws.Brackets.{log-agrees}
 use Rattle.model_closure.specs.Weights.{fitted, firstFitted, firstClosed}
 use Rattle.model_logistic.specs.Units.{Meet}

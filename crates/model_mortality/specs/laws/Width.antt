@@ -18,9 +18,9 @@ use Rattle.number_exponential.specs.laws.WidthFacts.{Narrow, expWidth}
 use Rattle.number_exponential.specs.laws.Width.{exp-width}
 use Rattle.number_exponential.specs.laws.OutwardLaws.{outward-ordered, outward-width}
 use Rattle.set_params.specs.declared.Params.{Params}
-use Rattle.model_series.specs.Series.{logForce}
-use Rattle.model_series.specs.code.Within.{logForceWidth, Negated}
-use Rattle.model_series.specs.laws.WidthLaws.{logForce-width, logForce-ordered}
+use Rattle.model_log_force.specs.LogForce.{logForce}
+use Rattle.model_log_force.specs.code.Within.{logForceWidth, Negated}
+use Rattle.model_log_force.specs.laws.WidthLaws.{logForce-width, logForce-ordered}
 use Rattle.model_logarithm.specs.Logarithm.{logLower, logUpper, inverseLogistic}
 use Rattle.model_logarithm.specs.laws.WidthFacts.{logWidth}
 use Rattle.model_logarithm.specs.laws.Sums.{log-sum-monotone}

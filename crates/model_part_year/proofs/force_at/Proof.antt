@@ -6,7 +6,7 @@ use native.Mathlib.Omega.{arith}
 use borrow.Author.Needs.{needs}
 use lib.ListN.{getD}
 use Rattle.set_params.specs.Set.{ageOf, four-age}
-use Rattle.model_series.specs.laws.YearLaws.{cell-within, year-force}
+use Rattle.model_log_force.specs.laws.YearLaws.{cell-within, year-force}
 use Rattle.model_closure.specs.Weights.{firstClosed, lastClosed, weightRow}
 use Rattle.model_closure.specs.laws.WeightLaws.{table-row}
 use Rattle.model_closure.specs.examples.Rows.{row-within}

@@ -13,9 +13,9 @@ use Rattle.number_whole.specs.laws.Order.{≤ℤ-trans}
 use Rattle.number_whole.specs.Division.{floorDiv, ceilDiv}
 use Rattle.number_whole.specs.laws.DivisionLaws.{split-floor, split-ceil, le-of-mul-lt, floor-mono, floor-le-ceil}
 use Rattle.number_whole.specs.code.Sizes.{Under, Within}
-use Rattle.number_whole.specs.laws.Bound.{under-mul, under-cond, under-floor-to, under-ceil-to}
+use Rattle.number_whole.specs.laws.Bound.{under-add, under-mul, under-cond, under-floor-to, under-ceil-to}
 use Rattle.number_whole.specs.declared.SignedEnds.{SignedEnds}
-use Rattle.number_whole.specs.SignedEnds.{leastProduct, greatestProduct, outward}
+use Rattle.number_whole.specs.SignedEnds.{leastProduct, greatestProduct, outward, shifted}
 
 -- ---- the width
 
@@ -89,6 +89,18 @@ outward-width {least} {greatest} {k} {m} w p h l =
       width = omega (split, split-add q (pos w));
     }
 
+-- what is at most w wide is at most v wide, for a greater v
+pub wide-more : {l u : ℤ} {w v : ℕ} → w ≤ v → Wide l u w → Wide l u v
+wide-more {l} {u} {w} {v} h e =
+    record { ordered = e .ordered; width = omega (split, e .width, split-add l (pos w), split-add l (pos v)) }
+
+-- with a number added to both, the ends are as wide
+pub sum-wide : (c : ℤ) {l u : ℤ} {w : ℕ} → Wide l u w → Wide (c +ℤ l) (c +ℤ u) w
+sum-wide c {l} {u} {w} h = record {
+  ordered = omega (split, split-add c l, split-add c u);
+  width = omega (split, split-add c l, split-add c u, split-add l (pos w), split-add (c +ℤ l) (pos w));
+}
+
 -- ---- the distance from zero
 
 pub least-under : {c : ℤ} {j k : ℕ} {e : SignedEnds} → Under c j → Within k e → Under (leastProduct c e) (j * k)
@@ -104,3 +116,7 @@ pub outward-under : {least greatest : ℤ} {k m : ℕ} (q : ℕ) → 0 < m → k
     → Within q (outward least greatest m)
 unfolding outward
 outward-under q p h u v = record { low = under-floor-to q p h u; high = under-ceil-to q p h v }
+
+-- and a number added adds its size
+pub shifted-under : {c : ℤ} {j k : ℕ} {e : SignedEnds} → Under c j → Within k e → Within (j + k) (shifted c e)
+shifted-under u v = record { low = under-add u (v .low); high = under-add u (v .high) }

@@ -13,7 +13,7 @@ use Rattle.number_exponential.specs.declared.Ends.{Ends}
 use Rattle.number_exponential.specs.Billionths.{billionths}
 use Rattle.number_exact.specs.Figure.{figureOf}
 use Rattle.set_params.specs.declared.Params.{Params}
-use Rattle.set_params.specs.Limits.{startYear}
+use Rattle.set_params.specs.Set.{yearNumber}
 use Rattle.model_closure.specs.Weights.{lastClosed}
 use Rattle.quote_calendar.specs.Calendar.{isDay, dayOfYear}
 use Rattle.quote_paths.specs.Path.{pathOf, partYear}
@@ -36,10 +36,10 @@ module _ (p : Params) (age year date : ℤ) (is : T (isDay date)) (first : dayOf
   span = spanOf (ruleOf Day) year date
 
   -- the last cell is not on the path
-  pub same-path : queryPath Day age year date ≡ queryPath CohortSurvival age year span
+  pub same-path : queryPath (p .start) Day age year date ≡ queryPath (p .start) CohortSurvival age year span
   unfolding queryPath ruleOf countOf spanOf partOf datePart whole/
   same-path =
-      let n = natAbs year - startYear in
+      let n = yearNumber (p .start) year in
       let k = natAbs span in
       let path = pathOf true (natAbs age) n k in
       no-part (natAbs age + k) (n + k) (datePart (natAbs date)) path first ∙ sym (no-part (natAbs age + k) (n + k) (whole/ 0) path refl)
@@ -57,7 +57,7 @@ module _ (p : Params) (age year date : ℤ) (is : T (isDay date)) (first : dayOf
   unfolding spanInTable ruleOf longestSpan mostSpan spanOf
   cohort-span = between-more (lastClosed - natAbs age) (suc lastClosed - natAbs age) span (omega arith) inside
 
-  same-year : yearInTable (ruleOf Day) year ≡ yearInTable (ruleOf CohortSurvival) year
+  same-year : yearInTable (p .start) (ruleOf Day) year ≡ yearInTable (p .start) (ruleOf CohortSurvival) year
   unfolding yearInTable ruleOf
   same-year = refl
 

@@ -1,14 +1,16 @@
 -- What a query has that no test refuses: a set in its limits, an age, a year, a term and a rate of the table, and a path that
 -- is answered.
 use mathlib.Core.Path.{_≡_, refl}
-use Prim.Native.Nat.{ℕ, suc, _+_, _-_, _≤_, _<_}
+use Prim.Native.Nat.{ℕ, suc, _+_, _≤_, _<_}
 use native.Mathlib.Omega.{arith}
 use lib.Dec.{T}
 use lib.IntN.{ℤ, pos, natAbs}
 use Rattle.number_whole.specs.laws.Clash.{clash}
 use Rattle.set_params.specs.declared.Params.{Params}
 use Rattle.set_refusal.specs.declared.Refusal.the-variants.{Accepted}
-use Rattle.set_params.specs.Limits.{inLimits, startYear, firstYears, lastYears}
+use Rattle.set_limits.specs.InLimits.{inLimits}
+use Rattle.set_params.specs.Set.{yearNumber}
+use Rattle.set_params.specs.Limits.{firstYears, lastYears}
 use Rattle.model_closure.specs.Weights.{lastClosed}
 use Rattle.number_folds.specs.code.Code.{mostFactors}
 use Rattle.quote_paths.specs.Path.{placeAt, pathInRange}
@@ -21,24 +23,24 @@ use Rattle.quote_kinds.specs.laws.PartLaws.{PartIn, part-in}
 use Rattle.quote_calendar.specs.Calendar.{isDay}
 use Rattle.quote_kinds.specs.code.Code.{RateWithin}
 use Rattle.quote_table_tests.specs.TableTests.{ageInTable, yearInTable, dateInTable, spanInTable, rateInTable, firstFailed, tableTests}
-use Rattle.quote_table_tests.specs.laws.TableLaws.{passed, InTable, dated-day, within}
+use Rattle.quote_table_tests.specs.laws.TableLaws.{passed, InTable, dated-day, within, NumberIn, number-in}
 use Rattle.quote.specs.Quote.{queryPath, refusalOf}
 
 pub record Passed (p : Params) (k : Kind) (age year term : ℤ) : Type 0 where
   pub limits : T (inLimits p)
-  pub table : InTable (ruleOf k) age year term
-  pub range : T (pathInRange p (queryPath k age year term))
+  pub table : InTable (p .start) (ruleOf k) age year term
+  pub range : T (pathInRange p (queryPath (p .start) k age year term))
 
 pub all-passed : (p : Params) (k : Kind) (age year term : ℤ) → refusalOf p k age year term ≡ Accepted → Passed p k age year term
 unfolding refusalOf firstFailed tableTests
 all-passed p k age year term e =
     let l = passed (inLimits p) (λ q. clash cc) e in
     let a = passed (ageInTable age) (λ q. clash cc) (l .1) in
-    let y = passed (yearInTable (ruleOf k) year) (λ q. clash cc) (a .1) in
+    let y = passed (yearInTable (p .start) (ruleOf k) year) (λ q. clash cc) (a .1) in
     let d = passed (dateInTable (ruleOf k) term) (λ q. clash cc) (y .1) in
     let s = passed (spanInTable (ruleOf k) age year term) (λ q. clash cc) (d .1) in
     let i = passed (rateInTable (ruleOf k)) (λ q. clash cc) (s .1) in
-    let r = passed (pathInRange p (queryPath k age year term)) (λ q. clash cc) (i .1) in
+    let r = passed (pathInRange p (queryPath (p .start) k age year term)) (λ q. clash cc) (i .1) in
     record {
       limits = l .0;
       table = record { age-in = a .0; year-in = y .0; date-in = d .0; span-in = s .0; rate-in = i .0 };
@@ -84,31 +86,26 @@ kind-within kind.Day =
     }
 
 -- the query's numbers as the table counts them
-pub record Counted (k : Kind) (age year term : ℤ) : Type 0 where
+pub record Counted (start : ℤ) (k : Kind) (age year term : ℤ) : Type 0 where
   pub age-is : pos (natAbs age) ≡ age
   pub age-in : natAbs age ≤ lastClosed
-  pub year-is : pos (natAbs year) ≡ year
-  pub year-from : startYear + firstYears ≤ natAbs year
-  pub year-to : natAbs year ≤ startYear + kind-within k .years
+  pub year-in : NumberIn start year firstYears (kind-within k .years)
   pub date-in : T (ruleOf k .dated) → T (isDay term)
   pub span-is : pos (natAbs (spanOf (ruleOf k) year term)) ≡ spanOf (ruleOf k) year term
   pub span-in : natAbs (spanOf (ruleOf k) year term) ≤ longestSpan (ruleOf k) (natAbs age)
   pub rate-in : RateWithin (ruleOf k .fold)
 
-pub counted : (k : Kind) {age year term : ℤ} → InTable (ruleOf k) age year term → Counted k age year term
+pub counted : (k : Kind) {start age year term : ℤ} → InTable start (ruleOf k) age year term → Counted start k age year term
 unfolding ageInTable yearInTable spanInTable rateInTable
-counted k {age} {year} {term} t =
+counted k {start} {age} {year} {term} t =
     let w = kind-within k in
     let a = within 0 lastClosed age (t .age-in) in
-    let y = within _ _ year (rw (w .years-are) at (t .year-in)) in
     let s = within 0 (longestSpan (ruleOf k) (natAbs age)) (spanOf (ruleOf k) year term) (t .span-in) in
     let r = within 0 mostRate (rateOf (ruleOf k .fold)) (t .rate-in) in
     record {
       age-is = a .0;
       age-in = a .2;
-      year-is = y .0;
-      year-from = y .1;
-      year-to = y .2;
+      year-in = number-in start year firstYears (w .years) (rw (w .years-are) at (t .year-in));
       date-in = dated-day (ruleOf k) term (t .date-in);
       span-is = s .0;
       span-in = s .2;
@@ -117,26 +114,27 @@ counted k {age} {year} {term} t =
 
 -- ---- its path
 
-module _ (k : Kind) {age year term : ℤ} (c : Counted k age year term) where
+module _ (k : Kind) {start age year term : ℤ} (c : Counted start k age year term) where
   abbrev x : ℕ
   x = natAbs age
 
   abbrev n : ℕ
-  n = natAbs year - startYear
+  n = yearNumber start year
 
   abbrev count : ℕ
   count = countOf (ruleOf k .fold) n (natAbs (spanOf (ruleOf k) year term))
 
   pub path-first : n ≤ lastYears
-  path-first = omega (arith, c .year-to, kind-within k .last)
+  path-first = omega (arith, c .year-in .to, kind-within k .last)
 
   -- its last year is the table's last or before
   path-ends : n + count ≤ suc lastYears
   path-ends =
-      kind-within k .ends x n (natAbs (spanOf (ruleOf k) year term)) (c .age-in) (omega (arith, c .year-from)) (omega (arith, c .year-to)) (c .span-in)
+      kind-within k .ends x n (natAbs (spanOf (ruleOf k) year term)) (c .age-in) (c .year-in .from) (c .year-in .to)
+      (c .span-in)
 
   pub path-room : count ≤ mostFactors
-  path-room = omega (arith, path-ends, c .year-from)
+  path-room = omega (arith, path-ends, c .year-in .from)
 
   pub path-in : (s : ℕ) → s < count → placeAt (ruleOf k .cohort) x n s .year ≤ lastYears
   path-in = path-years (ruleOf k .cohort) x n count path-first (λ e. path-ends)
@@ -148,11 +146,11 @@ module _ (k : Kind) {age year term : ℤ} (c : Counted k age year term) where
   pub part-after : (partOf (ruleOf k) term .num ≡ 0 → ⊥) → (x + count ≤ lastClosed) × (n + count ≤ lastYears)
   part-after m =
       kind-within k .after (part-within .some m) x n (natAbs (spanOf (ruleOf k) year term)) (c .age-in)
-      (omega (arith, c .year-to)) (c .span-in)
+      (c .year-in .to) (c .span-in)
 
-pub query-answered : {p : Params} {k : Kind} {age year term : ℤ} → Passed p k age year term → AnsweredPath p (queryPath k age year term)
+pub query-answered : {p : Params} {k : Kind} {age year term : ℤ} → Passed p k age year term → AnsweredPath p (queryPath (p .start) k age year term)
 unfolding queryPath
 query-answered {p} {k} {age} {year} {term} h =
     let c = counted k (h .table) in
-    with-part-answered (ruleOf k .cohort) (natAbs age) (natAbs year - startYear) _ (partOf (ruleOf k) term) (h .limits)
+    with-part-answered (ruleOf k .cohort) (natAbs age) (yearNumber (p .start) year) _ (partOf (ruleOf k) term) (h .limits)
     (path-in k c) (λ m. let a = part-after k c m in (a .0, a .1, part-within k c .small)) (h .range)

@@ -3,7 +3,7 @@ use mathlib.Core.Path.{_≡_, refl, ap, sym, _∙_}
 use mathlib.Core.Logic.{_↔_}
 use mathlib.Core.Bool.{Bool, true, false}
 use mathlib.Core.List.{_++_}
-use Prim.Native.Nat.{ℕ, _+_, _-_, _≤_, _<_}
+use Prim.Native.Nat.{ℕ, _+_, _≤_, _<_}
 use native.Mathlib.Nat.{add-zero}
 use native.Mathlib.Omega.{arith}
 use lib.Dec.{lit<}
@@ -14,7 +14,7 @@ use Rattle.number_exponential.specs.Billionths.{billionths}
 use Rattle.set_params.specs.declared.Params.{Params}
 use Rattle.set_refusal.specs.declared.Refusal.{Refusal}
 use Rattle.set_refusal.specs.declared.Refusal.the-variants.{Accepted}
-use Rattle.set_params.specs.Limits.{startYear}
+use Rattle.set_params.specs.Set.{yearNumber}
 use Rattle.model_closure.specs.Weights.{lastClosed}
 use Rattle.set_refusal.specs.Refusals.{refusalNumber}
 use Rattle.set_refusal.specs.laws.RefusalLaws.{accepted}
@@ -155,7 +155,7 @@ unfolding queryEnds queryPath ruleOf countOf widthOf longestSpan
 to-day {p} {age} {year} {term} h =
     let c = counted kind.Day (h .table) in
     let s = natAbs (spanOf (ruleOf kind.Day) year term) in
-    day-width (natAbs age) (natAbs year - startYear) s (partOf (ruleOf kind.Day) term) (omega (arith, c .age-in, c .span-in))
+    day-width (natAbs age) (yearNumber (p .start) year) s (partOf (ruleOf kind.Day) term) (omega (arith, c .age-in, c .span-in))
     (query-answered h)
 
 kind-width : {p : Params} {k : Kind} {age year term : ℤ} → Dated k → Passed p k age year term → queryEnds p k age year term .upper
@@ -164,7 +164,7 @@ unfolding queryEnds queryPath
 kind-width {p} {k} {age} {year} {term} (undated e) h =
     let r = ruleOf k in
     let c = counted k (h .table) in
-    let n = natAbs year - startYear in
+    let n = yearNumber (p .start) year in
     let s = natAbs (spanOf r year term) in
     let i = countOf (r .fold) n s in
     let z = no-part (natAbs age + i) (n + i) (partOf r term) (pathOf (r .cohort) (natAbs age) n i) (undated-part r e term) in

@@ -9,14 +9,14 @@ use lib.ListN.{getD, set}
 use Rattle.number_whole.specs.laws.Bound.{back}
 use Rattle.number_exponential.specs.declared.Ends.{Ends}
 use Rattle.set_params.specs.declared.Params.{Params}
-use Rattle.set_params.specs.laws.LimitsLaws.{in-limits-series}
+use Rattle.set_limits.specs.laws.LimitsLaws.{in-limits-series}
 use Rattle.model_closure.specs.Weights.{firstClosed, lastClosed, weightRow}
 use Rattle.model_closure.specs.laws.WeightLaws.{table-row}
 use Rattle.model_closure.specs.examples.Rows.{row-within}
 use Rattle.number_folds.specs.code.Code.{mostFactors}
-use Rattle.model_series.specs.declared.Year.{Year}
+use Rattle.model_log_force.specs.declared.Year.{Year}
 use Rattle.model_cells.specs.declared.Fitted.{Fitted}
-use Rattle.model_series.specs.code.Year.{YearOf}
+use Rattle.model_log_force.specs.code.Year.{YearOf}
 use Rattle.model_cells.specs.code.Fitted.{FittedOf, lent}
 use Rattle.model_cells.specs.code.Code.{cellOf}
 use Rattle.model_cells.specs.laws.Answers.{old-cell}
@@ -37,15 +37,15 @@ record Going (p : Params) (w : ℕ → Path) (done₀ : ℕ) (ends₀ : List End
   heights : FittedOf p (year .number) fitted
 
 abbrev Inv-loop : tie.InvT-loop
-Inv-loop p cohort age count worked table done₀ ends₀ year₀ fitted₀ done ends year fitted =
+Inv-loop p cohort age count worked table d done₀ ends₀ year₀ fitted₀ done ends year fitted =
     Going p (λ (n : ℕ). along cohort age n count) done₀ ends₀ year₀ done ends year fitted
 
 abbrev μ-loop : tie.MeasureT-loop
-μ-loop p cohort age count worked table done₀ ends₀ year₀ fitted₀ done ends year fitted = worked - done
+μ-loop p cohort age count worked table d done₀ ends₀ year₀ fitted₀ done ends year fitted = worked - done
 
 -- the table of weights, and the function's start
 abbrev tabled : tie.At-loop Inv-loop μ-loop → tie.After-table Inv-loop μ-loop
-tabled l = l .before .before .before .before .before .before .before .before .before
+tabled l = l .before .before .before .before .before .before .before .before .before .before .before .before
 
 abbrev begun : tie.At-loop Inv-loop μ-loop → tie.Start Inv-loop μ-loop
 begun l = tabled l .before .before
@@ -105,12 +105,12 @@ cell-read c n y =
 
 fitted-in-requires : tie.Need-fitted-in-requires Inv-loop μ-loop
 fitted-in-requires c κs =
-    let s = c .before .before .before .before .before .before .before .before .before in
+    let s = c .before .before .before .before .before .before .before .before .before .before .before .before in
     lent (s .pre .1 .next (s .pre .2) .year)
 
 loop-holds : tie.Need-loop-holds Inv-loop μ-loop
 loop-holds c =
-    let s = c .before .before .before .before .before .before .before .before .before .before in
+    let s = c .before .before .before .before .before .before .before .before .before .before .before .before .before in
     record {
       so-far = λ n k a b. (a, b);
       above = s .pre .1 .old (s .pre .2) (s .pre .3);
@@ -154,38 +154,37 @@ add-done : tie.Need-add-done Inv-loop μ-loop
 add-done c = let t = turn c in omega (arith, on-path t, short (begun (t .before)))
 
 year-after-requires : tie.Need-year-after-requires Inv-loop μ-loop
-year-after-requires c κs =
-    let g = c .before .before in
+year-after-requires g κs =
     let t = turn (g .before) in
     let s = begun (t .before) in
-    let i = in-limits-series (s .args .t1) (s .pre .0 .limits) in
-    λ on. rw (back (i .a) tt, back (i .index .theta) tt)
+    let i = in-limits-series (s .args .t1) (s .pre .0 .limits) .dynamics in
+    λ on. rw (back (i .a) tt, back (i .theta) tt, back (i .c) tt)
     (year-may (s .pre .0) (so-far (t .before) .1) (on-path t) (g .goes-on .ensures) on)
 
 -- one cell more, whichever year the path began in
-further : (c : tie.After-year-after Inv-loop μ-loop) → let g = c .before .before .before in let k = g .before in let t = turn k in
+further : (c : tie.After-year-after Inv-loop μ-loop) → let g = c .before in let k = g .before in let t = turn k in
     let l = t .before in let s = begun l in (n : ℕ) → PathWithin (s .args .t1) (from l n)
     → Worked (s .args .t1) (from l n) (s .args .walk .ends) (s .args .walk .done) → YearAt (s .args .t1) (from l n) (s .args .walk .done) (s .args .walk .year)
     → Worked (s .args .t1) (from l n) (set (l .loop .ends) (l .loop .done) (k .before .e .given .0 .0)) (l .loop .done + 1)
     × YearAt (s .args .t1) (from l n) (l .loop .done + 1) (c .year-after .result)
 further c n h a b =
-    let g = c .before .before .before in
+    let g = c .before in
     let k = g .before in
     let t = turn k in
     let l = t .before in
     let s = begun l in
     let v = l .loop .inv .so-far n h a b in
-    let i = in-limits-series (s .args .t1) (h .limits) in
-    let y = rw (back (i .a) tt, back (i .index .theta) tt) at (c .year-after .ensures) in (
+    let i = in-limits-series (s .args .t1) (h .limits) .dynamics in
+    let y = rw (back (i .a) tt, back (i .theta) tt, back (i .c) tt) at (c .year-after .ensures) in (
       worked-more (v .0) (short s) (on-path t) (cell-read (k .before .before .before) n (v .1) ∙ k .before .e .given .1),
       year-step h (v .1) (on-path t) (g .goes-on .result) (g .goes-on .ensures) y,
     )
 
 -- the year after is the set's
-next-year : (c : tie.After-year-after Inv-loop μ-loop) → let s = begun (turn (c .before .before .before .before) .before) in
+next-year : (c : tie.After-year-after Inv-loop μ-loop) → let s = begun (turn (c .before .before) .before) in
     YearOf (s .args .t1) (c .year-after .result)
 next-year c =
-    let s = begun (turn (c .before .before .before .before) .before) in
+    let s = begun (turn (c .before .before) .before) in
     further c (s .args .path .year) (s .pre .0) (s .pre .1 .worked (s .pre .2)) (s .pre .1 .next (s .pre .2)) .1 .year
 
 fitted-in-requires-2 : tie.Need-fitted-in-requires-2 Inv-loop μ-loop
@@ -198,21 +197,21 @@ abbrev stepped : tie.After-fitted-in2 Inv-loop μ-loop → tie.After-year-after 
 stepped c = c .before .before .before .before .before .before .before
 
 loop-less : tie.Need-loop-less Inv-loop μ-loop
-loop-less c = omega (arith, turn (stepped c .before .before .before .before) .loop-test .taken)
+loop-less c = omega (arith, turn (stepped c .before .before) .loop-test .taken)
 
 loop-again : tie.Need-loop-again Inv-loop μ-loop
 loop-again c =
     let y = stepped c in
-    let t = turn (y .before .before .before .before) in
+    let t = turn (y .before .before) in
     record { so-far = further y; above = omega (arith, t .before .loop .inv .above); heights = c .fitted-in2 .ensures (lent (next-year y)) }
 
 loop-less-2 : tie.Need-loop-less-2 Inv-loop μ-loop
-loop-less-2 c = omega (arith, turn (c .before .before .before .before .before) .loop-test .taken)
+loop-less-2 c = omega (arith, turn (c .before .before .before) .loop-test .taken)
 
 loop-again-2 : tie.Need-loop-again-2 Inv-loop μ-loop
 loop-again-2 c =
     let y = c .before in
-    let t = turn (y .before .before .before .before) in
+    let t = turn (y .before .before) in
     let e : y .year-after .result ≡ t .before .loop .year = y .year-after .ensures .same (rw (c .if1 .left) tt) in
     record {
       so-far = further y;

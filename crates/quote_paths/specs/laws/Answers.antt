@@ -16,7 +16,8 @@ use Rattle.number_fraction.specs.laws.RatioLaws.{≤/-refl}
 use Rattle.number_whole.specs.laws.Table.{listed-length, listed-more}
 use Rattle.number_exponential.specs.Grid.{Grid}
 use Rattle.set_params.specs.declared.Params.{Params}
-use Rattle.set_params.specs.Limits.{inLimits, lastYears}
+use Rattle.set_limits.specs.InLimits.{inLimits}
+use Rattle.set_params.specs.Limits.{lastYears}
 use Rattle.model_closure.specs.Weights.{lastClosed}
 use Rattle.number_folds.specs.laws.Each.{Each, none, also, each-listed, each-with}
 use Rattle.model_mortality.specs.Cell.{wholeYear, neededInRange}

@@ -1,6 +1,6 @@
 -- `between` meets its contract by the two tests.
 use mir.Facts.{toZ-ofZ}
-use Rattle.quote_table_tests.proofs.Signs.{below-not-least, not-below-least}
+use Rattle.number_whole.specs.laws.OrderTests.{below-not-least, not-below-least}
 use Rattle.quote_table_tests.proofs.between.Statement.{statement}
 use Rattle.quote_table_tests.proofs.between.Tie as tie
 

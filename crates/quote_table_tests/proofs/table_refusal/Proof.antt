@@ -5,15 +5,16 @@ use Prim.Native.Nat.{ℕ, suc, _+_, _-_, _≤_}
 use native.Mathlib.Omega.{arith}
 use borrow.Author.Needs.{needs}
 use borrow.Author.Tests.{not-true, not-false}
-use lib.IntN.{pos, natAbs, _+ℤ_}
-use lib.Signed.{leZ}
+use lib.IntN.{ℤ, pos, natAbs, _+ℤ_}
 use mir.Syntax.{w64}
 use mir.Val.{SFits}
-use mir.Facts.{toZ-ofZ, and-yes}
+use mir.Facts.{toZ-ofZ}
 use Rattle.number_whole.specs.code.Sizes.{Under}
-use Rattle.number_whole.specs.laws.Bound.{bits, under-lit, under-add, under-pos, fits, back}
+use Rattle.number_whole.specs.laws.Bound.{bits, under-lit, under-between, under-add, under-pos, fits, back}
+use Rattle.number_whole.specs.laws.Split.{split, split-neg}
 use Rattle.number_whole.proofs.Signed.{sum}
-use Rattle.set_params.specs.Limits.{startYear, firstYears}
+use Rattle.set_params.specs.Limits.{lastStart, firstYears}
+use Rattle.set_params.specs.code.Within.{StartWithin}
 use Rattle.model_closure.specs.Weights.{lastClosed}
 use Rattle.number_annuity.specs.Annuity.{mostRate}
 use Rattle.quote_paths.specs.declared.Fold.{Fold}
@@ -21,17 +22,30 @@ use Rattle.quote_paths.specs.declared.Fold.the-variants.{Death, Survival, Expec
 use Rattle.quote_kinds.specs.declared.Rule.{Rule}
 use Rattle.quote_kinds.specs.Kinds.{mostSpan, longestSpan, spanOf}
 use Rattle.quote_table_tests.specs.TableTests.{between, ageInTable, yearInTable, dateInTable, spanInTable, rateInTable, firstFailed, tableTests}
-use Rattle.quote_table_tests.specs.laws.TableLaws.{within, dated-day}
-use Rattle.quote_table_tests.proofs.Signs.{between-under}
+use Rattle.quote_table_tests.specs.laws.TableLaws.{within, dated-day, year-small}
 use Rattle.quote_table_tests.proofs.table_refusal.Statement.{statement}
 use Rattle.quote_table_tests.proofs.table_refusal.Tie as tie
 
--- the last year, as it is read
-last-read : (s : tie.Start) → SFits w64 (pos startYear +ℤ bits (s .args .rule .years))
-    × (bits (pos startYear +ℤ bits (s .args .rule .years)) ≡ pos startYear +ℤ s .args .rule .years)
-last-read s =
-    sum {x = pos startYear} {y = bits (s .args .rule .years)} {a = pos startYear} {b = s .args .rule .years} refl (back (s .pre) tt) refl
-    (fits (under-add (under-lit {z = pos startYear} {k = startYear} tt) (s .pre)) tt)
+-- the first and the last year, as they are read
+start-under : {start : ℤ} → StartWithin start → Under start lastStart
+start-under {start} w = under-between (omega (split, split-neg (pos lastStart), w .first)) (omega (split, w .last))
+
+-- the years from the start to the first of a quote
+abbrev toFirst : ℕ
+toFirst = firstYears
+
+module _ (s : tie.Start) where
+  first-read : SFits w64 (bits (s .args .start) +ℤ pos toFirst)
+      × (bits (bits (s .args .start) +ℤ pos toFirst) ≡ s .args .start +ℤ pos toFirst)
+  first-read =
+      let u = start-under (s .pre .0) in
+      sum (back u tt) refl refl (fits (under-add u (under-lit {z = pos toFirst} {k = toFirst} tt)) tt)
+
+  last-read : SFits w64 (bits (s .args .start) +ℤ bits (s .args .rule .years))
+      × (bits (bits (s .args .start) +ℤ bits (s .args .rule .years)) ≡ s .args .start +ℤ s .args .rule .years)
+  last-read =
+      let u = start-under (s .pre .0) in
+      sum (back u tt) (back (s .pre .1) tt) refl (fits (under-add u (s .pre .1)) tt)
 
 -- ---- what each test says
 
@@ -42,18 +56,18 @@ age-test c = rw (toZ-ofZ (c .before .before .before .fits .age)) at (c .between 
 abbrev start₂ : tie.After-between2 → tie.Start
 start₂ c = c .before .before .before .before .before
 
-year-test : (c : tie.After-between2) → let s = start₂ c in c .between2 .result ≡ yearInTable (s .args .rule) (s .args .year)
+year-test : (c : tie.After-between2) → let s = start₂ c in c .between2 .result ≡ yearInTable (s .args .start) (s .args .rule) (s .args .year)
 unfolding yearInTable
 year-test c =
     let s = start₂ c in
-    rw (last-read s .1, toZ-ofZ (s .fits .year)) at (c .between2 .ensures)
+    rw (first-read s .1, last-read s .1, toZ-ofZ (s .fits .year)) at (c .between2 .ensures)
 
 -- ---- past the first, the age is the table's
 
 age-true : (c : tie.Else1) → ageInTable (c .before .before .before .before .args .age) ≡ true
 age-true c = sym (age-test (c .before)) ∙ not-false _ (c .if1 .left)
 
-year-true : (c : tie.Else2) → let s = start₂ (c .before) in yearInTable (s .args .rule) (s .args .year) ≡ true
+year-true : (c : tie.Else2) → let s = start₂ (c .before) in yearInTable (s .args .start) (s .args .rule) (s .args .year) ≡ true
 year-true c = sym (year-test (c .before)) ∙ not-false _ (c .if2 .left)
 
 age-in : (c : tie.Else1) → let x = c .before .before .before .before .args .age in
@@ -99,12 +113,9 @@ span-read c =
 
 -- the year is the table's too
 year-under : (c : tie.Else2) → Under (start₂ (c .before) .args .year) 9999
-unfolding yearInTable
 year-under c =
     let s = start₂ (c .before) in
-    let a = and-yes (leZ (pos (startYear + firstYears)) (s .args .year)) (leZ (s .args .year) (pos startYear +ℤ s .args .rule .years))
-    (rw (year-true c) tt) in
-    between-under (s .args .year) (s .args .rule .years) (a .0) (a .1) (s .pre)
+    year-small (s .args .start) (s .args .rule) (s .args .year) (s .pre .0) (s .pre .1) (rw (year-true c) tt)
 
 span-fits : (c : tie.After-longest-span) → SFits w64 (pos (c .longest-span .result))
 span-fits c = fits (under-pos {k = suc lastClosed} (rw (c .longest-span .ensures) (span-small _ _))) tt
@@ -128,6 +139,9 @@ unfolding rateInTable
 rate-test c =
     let r = c .before in
     c .between4 .ensures ∙ ap (between (pos 0) (pos mostRate)) (toZ-ofZ (record { sfits = r .rate-of .ok }) ∙ r .rate-of .ensures)
+
+add-first : tie.Need-add-first
+add-first c = first-read c .0
 
 add-last : tie.Need-add-last
 add-last c = last-read (c .before .before) .0
@@ -169,7 +183,7 @@ longest-span-requires c κs =
 
 -- the tests before the span's
 before-span : (c : tie.After-span-of) → let s = start₄ c in
-    (ageInTable (s .args .age) ≡ true) × (yearInTable (s .args .rule) (s .args .year) ≡ true) × (dateInTable (s .args .rule) (s .args .term) ≡ true)
+    (ageInTable (s .args .age) ≡ true) × (yearInTable (s .args .start) (s .args .rule) (s .args .year) ≡ true) × (dateInTable (s .args .rule) (s .args .term) ≡ true)
 before-span c =
     let d = c .before in
     let y = d .before .before in
@@ -204,6 +218,6 @@ returns-6 c =
 pub table-refusal-spec : {M : Type 1} → statement M
 table-refusal-spec =
     tie.close
-    (tie.spec add-last (λ c. search needs) (λ c κs. search needs) returns (λ c. search needs) (λ c κs. search needs)
+    (tie.spec add-first add-last (λ c. search needs) (λ c κs. search needs) returns (λ c κs. search needs)
     returns-2 (λ c κs. search needs) returns-3 span-of-requires cast-longest-span longest-span-requires span-fits
     (λ c κs. search needs) returns-4 (λ c. search needs) (λ c κs. search needs) (λ c κs. search needs) returns-5 returns-6)

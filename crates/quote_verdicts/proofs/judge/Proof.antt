@@ -5,7 +5,7 @@ use mathlib.Core.Bool.{true}
 use borrow.Author.Needs.{needs}
 use borrow.Author.Tests.{not-true, not-false}
 use mir.Facts.{toZ-ofZ}
-use Rattle.set_params.specs.Limits.{inLimits}
+use Rattle.set_limits.specs.InLimits.{inLimits}
 use Rattle.quote_verdicts.specs.laws.Theorem.{refused-honest}
 use Rattle.quote_verdicts.proofs.Steps.{out-of-limits, malformed-column, answered}
 use Rattle.quote_verdicts.proofs.judge.Statement.{statement}

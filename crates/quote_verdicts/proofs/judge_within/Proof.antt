@@ -1,18 +1,19 @@
--- `judge_within` meets its contract: the table's refusal of the year, that of a out of range cell, or the verdict by the factors of the
+-- `judge_within` meets its contract: the table's refusal of the year, that of a cell out of range, or the verdict by the factors of the
 -- year's cells.
 use mathlib.Core.Path.{_≡_, ap, sym, _∙_}
 use mathlib.Core.Bool.{true, false}
-use Prim.Native.Nat.{_-_}
 use native.Mathlib.Omega.{arith}
 use borrow.Author.Needs.{needs}
 use borrow.Author.Tests.{not-true, not-false}
-use lib.IntN.{ℤ, pos, natAbs, _-ℤ_}
+use lib.IntN.{ℤ, pos}
 use mir.Syntax.{w64}
 use mir.Val.{SFits}
 use mir.Facts.{toZ-ofZ}
-use Rattle.number_whole.specs.laws.Bound.{bits, under-pos, fits}
+use Rattle.number_whole.specs.laws.Bound.{bits}
 use Rattle.number_whole.specs.laws.Clash.{clash}
-use Rattle.set_params.specs.Limits.{startYear, lastYears}
+use Rattle.set_params.specs.Set.{yearNumber}
+use Rattle.set_params.specs.code.Within.{StartWithin}
+use Rattle.set_limits.specs.laws.LimitsLaws.{in-limits-start}
 use Rattle.set_refusal.specs.laws.RefusalLaws.{accepted}
 use Rattle.quote_paths.specs.laws.Answers.{path-years}
 use Rattle.quote_paths.specs.declared.Path.{Path}
@@ -22,70 +23,83 @@ use Rattle.quote_kinds.specs.declared.Kind.the-variants.{Death}
 use Rattle.quote_kinds.specs.declared.Rule.{Rule}
 use Rattle.quote_kinds.specs.Kinds.{ruleOf}
 use Rattle.quote_table_tests.specs.TableTests.{firstFailed, tableTests}
-use Rattle.quote_table_tests.specs.laws.TableLaws.{InTable, in-table}
+use Rattle.quote_table_tests.specs.laws.TableLaws.{InTable, in-table, year-reached}
 use Rattle.quote_along.proofs.Value.{path-chances}
 use Rattle.quote.specs.laws.Tests.{Counted, counted, path-first}
-use Rattle.quote.proofs.Steps.{years-under, years-from}
+use Rattle.quote.proofs.Steps.{years-under}
 use Rattle.quote_verdicts.specs.Verdict.{columnAges, yearCells}
 use Rattle.quote_verdicts.proofs.Steps.{year-out, cell-out, verdict-by}
 use Rattle.quote_verdicts.proofs.judge_within.Statement.{statement}
 use Rattle.quote_verdicts.proofs.judge_within.Tie as tie
 
+-- the function's start and its rule, from after the table's refusal, and past it
+abbrev ruled : tie.After-table-refusal → tie.After-rule-of
+ruled c = c .before .before
+
+abbrev begun : tie.Else1 → tie.Start
+begun e = ruled (e .before .before) .before
+
+-- the start year, as it is read
+start-read : (s : tie.Start) → bits (s .args .p .start) ≡ s .args .p .start
+start-read s = let f : SFits w64 (s .args .p .start) = search needs in toZ-ofZ f
+
+start-within : (s : tie.Start) → StartWithin (s .args .p .start)
+start-within s = in-limits-start (s .args .p) (s .pre)
+
 -- the table's refusal of the year
-refusal-is : (c : tie.After-table-refusal) → let y = c .before .before .args .year in
-    c .table-refusal .result ≡ firstFailed (tableTests (ruleOf Death) (pos 0) y (pos 0))
+refusal-is : (c : tie.After-table-refusal) → let s = ruled c .before in
+    c .table-refusal .result ≡ firstFailed (tableTests (s .args .p .start) (ruleOf Death) (pos 0) (s .args .year) (pos 0))
 refusal-is c =
-    let r = c .before in
+    let r = ruled c in
     let s = r .before in
-    rw (toZ-ofZ (s .fits .year)) at (c .table-refusal .ensures)
-    ∙ ap (λ (k : Rule). firstFailed (tableTests k (pos 0) (s .args .year) (pos 0))) (r .rule-of .ensures)
+    rw (start-read s, toZ-ofZ (s .fits .year)) at (c .table-refusal .ensures)
+    ∙ ap (λ (k : Rule). firstFailed (tableTests (s .args .p .start) k (pos 0) (s .args .year) (pos 0))) (r .rule-of .ensures)
 
 -- where it is none, the year is one of `q`
-table : (c : tie.Else1) → InTable (ruleOf Death) (pos 0) (c .before .before .before .before .args .year) (pos 0)
-table c =
-    let n = c .before in
+table : (e : tie.Else1) → InTable (begun e .args .p .start) (ruleOf Death) (pos 0) (begun e .args .year) (pos 0)
+table e =
+    let n = e .before in
     let r = n .before in
-    in-table (ruleOf Death) (pos 0) (r .before .before .args .year) (pos 0)
-    (sym (refusal-is r) ∙ accepted (r .table-refusal .result) (sym (n .refusal-number .ensures) ∙ c .if1 .left))
+    in-table (begun e .args .p .start) (ruleOf Death) (pos 0) (begun e .args .year) (pos 0)
+    (sym (refusal-is r) ∙ accepted (r .table-refusal .result) (sym (n .refusal-number .ensures) ∙ e .if1 .left))
 
-numbers : (c : tie.Else1) → Counted Death (pos 0) (c .before .before .before .before .args .year) (pos 0)
-numbers c = counted Death (table c)
-
--- the years from the start year, as they are read
-years-read : (c : tie.Else1) → let y = c .before .before .before .before .args .year in
-    SFits w64 (bits y -ℤ pos startYear) × (bits (bits y -ℤ pos startYear) ≡ pos (natAbs y - startYear))
-years-read c =
-    let s = c .before .before .before .before in
-    let k = numbers c in
-    let e = years-from (k .year-is) (omega (arith, k .year-from)) in
-    let f : SFits w64 (pos (natAbs (s .args .year) - startYear)) = fits (under-pos {k = lastYears} (path-first Death k)) tt in
-    rw (toZ-ofZ (s .fits .year), e) (f, toZ-ofZ f)
+numbers : (e : tie.Else1) → Counted (begun e .args .p .start) Death (pos 0) (begun e .args .year) (pos 0)
+numbers e = counted Death (table e)
 
 table-refusal-requires : tie.Need-table-refusal-requires
-table-refusal-requires c κs = rw (c .rule-of .ensures) (years-under _)
+table-refusal-requires c κs =
+    let r = c .before in
+    rw (start-read (r .before), r .rule-of .ensures) (start-within (r .before), years-under _)
 
 returns : tie.Need-returns
 returns c =
     let n = c .before in
     let r = n .before in
-    let s = r .before .before in
+    let s = ruled r .before in
     year-out (s .args .p) (s .args .year) (s .args .column) (s .pre) (refusal-is r)
     (λ e. c .if1 .taken (n .refusal-number .ensures ∙ e))
 
-sub-n : tie.Need-sub-n
-sub-n c = years-read c .0
+-- the year's number
+year-number-requires : tie.Need-year-number-requires
+year-number-requires c κs =
+    let e = c .before in
+    let s = begun e in
+    rw (start-read s, toZ-ofZ (s .fits .year)) (year-reached (start-within s) (numbers e .year-in))
 
-cast-n : tie.Need-cast-n
-cast-n c = rw (years-read c .1) (tt, record { fits = omega (arith, path-first _ (numbers c)) })
+number-is : (c : tie.After-year-number) → let s = begun (c .before .before) in
+    c .year-number .result ≡ yearNumber (s .args .p .start) (s .args .year)
+number-is c =
+    let s = begun (c .before .before) in
+    rw (start-read s, toZ-ofZ (s .fits .year)) at (c .year-number .ensures)
 
 -- the year's cells as the code's path
-abbrev cells : ℤ → Path
-cells year = record { cohort = false; age = 0; year = natAbs year - startYear; count = columnAges }
+abbrev cells : ℤ → ℤ → Path
+cells start year = record { cohort = false; age = 0; year = yearNumber start year; count = columnAges }
 
-within : (c : tie.Else1) → let s = c .before .before .before .before in PathWithin (s .args .p) (cells (s .args .year))
-within c =
-    let s = c .before .before .before .before in
-    let f = path-first Death (numbers c) in
+within : (e : tie.Else1) → let s = begun e in PathWithin (s .args .p) (cells (s .args .p .start) (s .args .year))
+within e =
+    let s = begun e in
+    let f = path-first Death (numbers e) in
     record {
       limits = s .pre;
       age = omega arith;
@@ -95,12 +109,12 @@ within c =
     }
 
 factors-of-requires : tie.Need-factors-of-requires
-factors-of-requires c κs = rw (years-read c .1) (within c)
+factors-of-requires c κs = rw (number-is c) (within (c .before .before))
 
 -- their factors
-worked : (c : tie.After-factors-of) → let s = c .before .before .before .before .before in
-    FactorsOf (s .args .p) (cells (s .args .year)) (c .factors-of .result)
-worked c = rw (years-read (c .before) .1) at (c .factors-of .ensures)
+worked : (c : tie.After-factors-of) → let s = begun (c .before .before .before) in
+    FactorsOf (s .args .p) (cells (s .args .p .start) (s .args .year)) (c .factors-of .result)
+worked c = rw (number-is (c .before)) at (c .factors-of .ensures)
 
 -- every cell is in range
 ok : (c : tie.Else2) → c .before .before .factors-of .result .ok ≡ true
@@ -110,28 +124,29 @@ verdict-on-requires : tie.Need-verdict-on-requires
 verdict-on-requires c κs =
     let e = c .before in
     let f = e .before .before in
-    path-chances (within (f .before)) (worked f .ends (rw (ok e) tt))
+    path-chances (within (f .before .before .before)) (worked f .ends (rw (ok e) tt))
 
 returns-2 : tie.Need-returns-2
 unfolding yearCells
 returns-2 c =
     let f = c .before .before in
-    let s = f .before .before .before .before .before in
-    cell-out (s .args .p) (s .args .year) (s .args .column) (s .pre) (table (f .before) .year-in)
-    (sym (worked f .ok) ∙ not-true _ (c .if2 .taken))
+    let e = f .before .before .before in
+    let s = begun e in
+    cell-out (s .args .p) (s .args .year) (s .args .column) (s .pre) (table e .year-in) (sym (worked f .ok) ∙ not-true _ (c .if2 .taken))
 
 returns-3 : tie.Need-returns-3
 unfolding yearCells
 returns-3 c =
-    let e = c .before .before in
-    let f = e .before .before in
-    let s = f .before .before .before .before .before in
+    let o = c .before .before in
+    let f = o .before .before in
+    let e = f .before .before .before in
+    let s = begun e in
     let w = worked f in
-    verdict-by (s .args .p) (s .args .year) (s .args .column) (s .pre) (table (f .before) .year-in) (f .factors-of .result .ends)
-    (rw (← w .ok, ok e) tt) (w .ends (rw (ok e) tt)) (c .verdict-on .ensures)
+    verdict-by (s .args .p) (s .args .year) (s .args .column) (s .pre) (table e .year-in) (f .factors-of .result .ends)
+    (rw (← w .ok, ok o) tt) (w .ends (rw (ok o) tt)) (c .verdict-on .ensures)
 
 pub judge-within-spec : {M : Type 1} → statement M
 judge-within-spec =
     tie.close
-    (tie.spec (λ c κs. search needs) table-refusal-requires (λ c κs. search needs) returns sub-n cast-n
+    (tie.spec (λ c κs. search needs) table-refusal-requires (λ c κs. search needs) returns year-number-requires
     factors-of-requires returns-2 verdict-on-requires returns-3)

@@ -1,7 +1,9 @@
 -- Verdicts on some figures and entries, and the order of the refusals, by computing the definitions.
 use mathlib.Core.Path.{_≡_, refl}
+use mathlib.Core.Bool.{true, false}
 use mathlib.Core.List.{List, [], _∷_}
 use Prim.Native.Nat.{ℕ}
+use lib.Ieee.Bits.{is-true}
 use lib.IntN.{ℤ, pos}
 use lib.ListN.{getD, replicate}
 use Rattle.number_whole.specs.Listed.{listed}
@@ -10,11 +12,14 @@ use Rattle.number_whole.specs.Division.{floorDiv, ceilDiv}
 use Rattle.text_tokens.specs.Text.{malformed, taken}
 use Rattle.set_params.specs.declared.Params.{Params}
 use Rattle.set_refusal.specs.declared.Refusal.the-variants.{OutOfLimits, NoSuchYear, LogForceOutOfRange, MalformedColumn}
+use Rattle.set_params.specs.declared.Table.the-variants.{Ag2014}
 use Rattle.set_params.specs.declared.Sex.the-variants.{M}
-use Rattle.set_params.specs.Set.{A, B, alpha, beta, ages}
-use Rattle.set_params.specs.Limits.{inLimits, seriesInLimits, agesInLimits, ageInLimits}
+use Rattle.set_params.specs.Set.{A, B, alpha, beta, ages, yearNumber}
+use Rattle.set_limits.specs.InLimits.{allBelow, lastStartOf, constantLimitOf, tableInLimits, seriesInLimits, ageInLimits, inLimits}
+use Rattle.set_limits.specs.laws.LimitsLaws.{sizes-decide}
 use Rattle.set_refusal.specs.Refusals.{refusalNumber}
-use Rattle.model_series.specs.Series.{periodIn, kappaIn, kappaStep, cellForce, logForce, inRange}
+use Rattle.set_series.specs.Series.{periodIn, kappaIn, kappaStep}
+use Rattle.model_log_force.specs.LogForce.{cellForce, logForce, inRange}
 use Rattle.model_mortality.specs.Cell.{neededInRange, fittedInRange}
 use Rattle.quote_paths.specs.Path.{placeAt, pathOf, pathInRange}
 use Rattle.quote_kinds.specs.Kinds.{ruleOf}
@@ -61,9 +66,12 @@ zeros = replicate ages (pos 0)
 abbrev withA : ℕ → Params
 withA a =
     record {
+      table = Ag2014;
       sex = M;
+      start = pos 2013;
       a = pos a;
       theta = pos 0;
+      c = pos 0;
       period = pos 0;
       kappa = pos 0;
       level = zeros;
@@ -72,20 +80,31 @@ withA a =
       beta = zeros;
     }
 
+-- a in its limit, and past it
+past : inLimits (withA 100000001) ≡ false
+unfolding inLimits tableInLimits lastStartOf constantLimitOf seriesInLimits
+past = refl
+
+in-limits : (inLimits (withA 100000000) ≡ true) × (inLimits (withA 0) ≡ true)
+unfolding allBelow tableInLimits lastStartOf constantLimitOf seriesInLimits ageInLimits A B alpha beta
+in-limits = (
+  is-true (inLimits (withA 100000000)) (sizes-decide (withA 100000000) refl tt tt tt),
+  is-true (inLimits (withA 0)) (sizes-decide (withA 0) refl tt tt tt),
+)
+
 -- 2 before 9, and 9 before 4: with a past its limit a malformed column in a year that is none of `q`; with a in its limit the same,
 -- and then a whole column in the years before the first and after the last
 pub refusals : (judged (withA 100000001) (pos 2013) malformed ≡ Refused OutOfLimits)
     × (judged (withA 100000000) (pos 2013) malformed ≡ Refused MalformedColumn)
     × (judged (withA 100000000) (pos 2013) (taken [] []) ≡ Refused NoSuchYear)
     × (judged (withA 100000000) (pos 2185) (taken [] []) ≡ Refused NoSuchYear)
-unfolding judged judgedBy columnRefusal columnTests firstFailed refusalNumber inLimits seriesInLimits agesInLimits ageInLimits
-    A B alpha beta yearInTable ruleOf
-refusals = (refl, refl, refl, refl)
+unfolding judged judgedBy columnRefusal columnTests firstFailed refusalNumber yearInTable ruleOf
+refusals = (rw past, rw (in-limits .0), rw (in-limits .0), rw (in-limits .0))
 
 -- 6 in the first year and in the last
 pub out-of-range : (judged (withA 0) (pos 2014) (taken [] []) ≡ Refused LogForceOutOfRange)
     × (judged (withA 0) (pos 2184) (taken [] []) ≡ Refused LogForceOutOfRange)
-unfolding judged judgedBy columnRefusal columnTests firstFailed refusalNumber inLimits seriesInLimits agesInLimits ageInLimits
-    A B alpha beta yearInTable ruleOf yearCells pathOf listed placeAt pathInRange neededInRange fittedInRange inRange
-    logForce cellForce periodIn kappaIn kappaStep leastProduct greatestProduct outward floorDiv ceilDiv
-out-of-range = (refl, refl)
+unfolding judged judgedBy columnRefusal columnTests firstFailed refusalNumber A B alpha beta yearInTable ruleOf yearCells
+    yearNumber pathOf listed placeAt pathInRange neededInRange fittedInRange inRange logForce cellForce periodIn kappaIn kappaStep
+    leastProduct greatestProduct outward floorDiv ceilDiv
+out-of-range = (rw (in-limits .1), rw (in-limits .1))

@@ -19,7 +19,8 @@ use Rattle.number_exponential.specs.declared.Ends.{Ends}
 use Rattle.number_exponential.specs.Billionths.{billionths}
 use Rattle.set_params.specs.declared.Params.{Params}
 use Rattle.set_refusal.specs.declared.Refusal.the-variants.{Accepted}
-use Rattle.set_params.specs.Limits.{inLimits, startYear}
+use Rattle.set_limits.specs.InLimits.{inLimits}
+use Rattle.set_params.specs.Set.{yearNumber}
 use Rattle.set_refusal.specs.Refusals.{refusalNumber}
 use Rattle.model_closure.specs.Weights.{lastClosed}
 use Rattle.number_exact.specs.Figure.{probabilityStep, figureOf}
@@ -44,8 +45,8 @@ use Rattle.quote_verdicts.specs.code.Code.{figureBy, figureIn}
 -- a set in its limits, a year of `q`, and cells in range
 pub record Worked (p : Params) (year : ℤ) : Type 0 where
   pub limits : T (inLimits p)
-  pub year-in : T (yearInTable (ruleOf Death) year)
-  pub range : T (pathInRange p (yearCells year))
+  pub year-in : T (yearInTable (p .start) (ruleOf Death) year)
+  pub range : T (pathInRange p (yearCells (p .start) year))
 
 -- ---- `q` is quoted at each age
 
@@ -57,11 +58,11 @@ all-accepted {p} {k} {age} {year} {term} h =
     rw (
       is-true (inLimits p) (h .limits),
       is-true (ageInTable age) (t .age-in),
-      is-true (yearInTable (ruleOf k) year) (t .year-in),
+      is-true (yearInTable (p .start) (ruleOf k) year) (t .year-in),
       is-true (dateInTable (ruleOf k) term) (t .date-in),
       is-true (spanInTable (ruleOf k) age year term) (t .span-in),
       is-true (rateInTable (ruleOf k)) (t .rate-in),
-      is-true (pathInRange p (queryPath k age year term)) (h .range),
+      is-true (pathInRange p (queryPath (p .start) k age year term)) (h .range),
     )
 
 -- the year's cell of age x
@@ -78,17 +79,17 @@ cell-in-range p n x l t = go (cell.neededInRange p x n) refl
     go true e = tt
     go false e = rw (range-out p false 0 n x columnAges l (rw (place-here n x l) e)) at t
 
-q-in-range : (p : Params) (year : ℤ) (x : ℕ) → x < columnAges → T (pathInRange p (yearCells year))
-    → T (pathInRange p (queryPath Death (pos x) year (pos 0)))
+q-in-range : (p : Params) (year : ℤ) (x : ℕ) → x < columnAges → T (pathInRange p (yearCells (p .start) year))
+    → T (pathInRange p (queryPath (p .start) Death (pos x) year (pos 0)))
 unfolding yearCells queryPath ruleOf countOf partOf whole/ partYear pathInRange
 q-in-range p year x l t =
-    let n = natAbs year - startYear in
+    let n = yearNumber (p .start) year in
     rw (one-place true x n (omega arith)) (yes-and (cell.neededInRange p x n) true (cell-in-range p n x l t) tt)
 
-q-in-table : (year : ℤ) (x : ℕ) → x < columnAges → T (yearInTable (ruleOf Death) year)
-    → InTable (ruleOf Death) (pos x) year (pos 0)
+q-in-table : (start year : ℤ) (x : ℕ) → x < columnAges → T (yearInTable start (ruleOf Death) year)
+    → InTable start (ruleOf Death) (pos x) year (pos 0)
 unfolding ageInTable dateInTable spanInTable rateInTable ruleOf mostSpan longestSpan spanOf rateOf
-q-in-table year x l y =
+q-in-table start year x l y =
     let a : x ≤ lastClosed = omega arith in
     record { age-in = rw (le-leb 0 x (omega arith), le-leb x lastClosed a) tt; year-in = y; date-in = tt; span-in = tt; rate-in = tt }
 
@@ -96,19 +97,19 @@ pub q-accepted : {p : Params} {year : ℤ} (x : ℕ) → x < columnAges → Work
     → refusalOf p Death (pos x) year (pos 0) ≡ Accepted
 q-accepted {p} {year} x l h =
     all-accepted
-    (record { limits = h .limits; table = q-in-table year x l (h .year-in); range = q-in-range p year x l (h .range) })
+    (record { limits = h .limits; table = q-in-table (p .start) year x l (h .year-in); range = q-in-range p year x l (h .range) })
 
 -- ---- its figure
 
 pub figure-here : {p : Params} {year : ℤ} (x : ℕ) → x < columnAges → Worked p year
-    → figureHere p year x ≡ figureBy (cell.survival billionths p x (natAbs year - startYear) cell.wholeYear)
+    → figureHere p year x ≡ figureBy (cell.survival billionths p x (yearNumber (p .start) year) cell.wholeYear)
 unfolding figureHere answerOf answerBy refusalNumber figureShown quoteOf queryEnds queryPath ruleOf countOf partOf whole/ partYear
     stepOf figureBy cell.death
 figure-here {p} {year} x l h =
     rw (q-accepted x l h)
     (ap (λ (e : Ends). shownOf (figureOf probabilityStep e))
-    (ap (gridValue fold.Death billionths p) (append-nil (pathOf true x (natAbs year - startYear) 1))
-    ∙ one-cell billionths (billionths .positive) p true x (natAbs year - startYear) (omega arith)))
+    (ap (gridValue fold.Death billionths p) (append-nil (pathOf true x (yearNumber (p .start) year) 1))
+    ∙ one-cell billionths (billionths .positive) p true x (yearNumber (p .start) year) (omega arith)))
 
 -- ---- by the factors of the year's cells
 
@@ -125,8 +126,8 @@ factor-here p n x es l e =
     ∙ ap f (ap (placeAt false 0 n) (zero-add x) ∙ place-here n x l)
 
 pub figures-in : {p : Params} {year : ℤ} (es : List Ends) → Worked p year
-    → take columnAges es ≡ factors billionths p (yearCells year)
+    → take columnAges es ≡ factors billionths p (yearCells (p .start) year)
     → (x : ℕ) → x < columnAges → figureIn es x ≡ figureHere p year x
 unfolding figureIn yearCells
 figures-in {p} {year} es h e x l =
-    ap figureBy (factor-here p (natAbs year - startYear) x es l e) ∙ sym (figure-here x l h)
+    ap figureBy (factor-here p (yearNumber (p .start) year) x es l e) ∙ sym (figure-here x l h)

@@ -14,7 +14,7 @@ use Rattle.text_tokens.specs.Text.{Parse, isTaken}
 use Rattle.set_params.specs.declared.Params.{Params}
 use Rattle.set_refusal.specs.declared.Refusal.{Refusal}
 use Rattle.set_refusal.specs.declared.Refusal.the-variants.{Accepted}
-use Rattle.set_params.specs.Limits.{inLimits}
+use Rattle.set_limits.specs.InLimits.{inLimits}
 use Rattle.set_refusal.specs.Refusals.{refusalNumber}
 use Rattle.set_refusal.specs.laws.RefusalLaws.{accepted}
 use Rattle.quote_paths.specs.Path.{pathInRange}
@@ -151,14 +151,14 @@ verdict-given r v w = go (refusalNumber r) refl
 pub record Accept (p : Params) (year : ℤ) (read : Parse (List ℕ)) : Type 0 where
   pub limits : T (inLimits p)
   pub whole : T (isTaken read)
-  pub year-in : T (yearInTable (ruleOf Death) year)
-  pub range : T (pathInRange p (yearCells year))
+  pub year-in : T (yearInTable (p .start) (ruleOf Death) year)
+  pub range : T (pathInRange p (yearCells (p .start) year))
 
 pub all-passed : (p : Params) (year : ℤ) (read : Parse (List ℕ)) → columnRefusal p year read ≡ Accepted → Accept p year read
 unfolding columnRefusal columnTests firstFailed
 all-passed p year read e =
     let l = passed (inLimits p) (λ q. clash cc) e in
     let w = passed (isTaken read) (λ q. clash cc) (l .1) in
-    let y = passed (yearInTable (ruleOf Death) year) (λ q. clash cc) (w .1) in
-    let r = passed (pathInRange p (yearCells year)) (λ q. clash cc) (y .1) in
+    let y = passed (yearInTable (p .start) (ruleOf Death) year) (λ q. clash cc) (w .1) in
+    let r = passed (pathInRange p (yearCells (p .start) year)) (λ q. clash cc) (y .1) in
     record { limits = l .0; whole = w .0; year-in = y .0; range = r .0 }

@@ -1,7 +1,6 @@
 -- `year_after` meets its contract by that of the next year.
 use mathlib.Core.Path.{_≡_, refl}
 use mathlib.Core.Bool.{true, false}
-use mir.Facts.{toZ-ofZ}
 use Rattle.quote_walks.proofs.year_after.Statement.{statement}
 use Rattle.quote_walks.proofs.year_after.Tie as tie
 
@@ -9,14 +8,14 @@ next-year-requires : tie.Need-next-year-requires
 next-year-requires c κs =
     let s = c .before in
     let t : s .args .on ≡ true = c .if1 .taken in
-    rw (toZ-ofZ (s .fits .a), toZ-ofZ (s .fits .theta)) (s .pre (rw t tt))
+    s .pre (rw t tt)
 
 returns : tie.Need-returns
 returns c =
     let s = c .before .before in
     let t : s .args .on ≡ true = c .before .if1 .taken in
     record {
-      next = λ on. rw (toZ-ofZ (s .fits .a), toZ-ofZ (s .fits .theta)) at (c .next-year .ensures);
+      next = λ on. c .next-year .ensures;
       same = λ off. absurd (rw t at off);
     }
 

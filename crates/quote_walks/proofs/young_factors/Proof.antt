@@ -7,11 +7,11 @@ use native.Mathlib.Decide.{decLt}
 use native.Mathlib.Omega.{arith}
 use borrow.Author.Needs.{needs}
 use Rattle.number_whole.specs.laws.Bound.{back}
-use Rattle.set_params.specs.laws.LimitsLaws.{in-limits-series}
+use Rattle.set_limits.specs.laws.LimitsLaws.{in-limits-series}
 use Rattle.set_params.specs.Set.{ageOf, four-age}
 use Rattle.model_closure.specs.Weights.{firstClosed}
 use Rattle.number_folds.specs.code.Code.{mostFactors}
-use Rattle.model_series.specs.laws.YearLaws.{cell-within, year-force}
+use Rattle.model_log_force.specs.laws.YearLaws.{cell-within, year-force}
 use Rattle.model_cells.specs.laws.Answers.{young-cell}
 use Rattle.model_cells.specs.code.Code.{cellOf}
 use Rattle.quote_paths.specs.Path.{placeAt}
@@ -23,33 +23,40 @@ use Rattle.quote_walks.proofs.young_factors.Statement.{statement}
 use Rattle.quote_walks.proofs.young_factors.Tie as tie
 
 abbrev Inv-loop : tie.InvT-loop
-Inv-loop p cohort age count young year₀ ends₀ done₀ year ends done = let w = along cohort age (year₀ .number) count in Worked p w ends done × YearAt p w done year × (done ≤ young)
+Inv-loop p cohort age count young d year₀ ends₀ done₀ year ends done = let w = along cohort age (year₀ .number) count in Worked p w ends done × YearAt p w done year × (done ≤ young)
 
 abbrev μ-loop : tie.MeasureT-loop
-μ-loop p cohort age count young year₀ ends₀ done₀ year ends done = young - done
+μ-loop p cohort age count young d year₀ ends₀ done₀ year ends done = young - done
+
+-- the function's start, and what it counted
+abbrev counted : tie.After-year-at Inv-loop μ-loop → tie.After-young-count Inv-loop μ-loop
+counted c = c .before .before .before .before
+
+abbrev begun : tie.After-year-at Inv-loop μ-loop → tie.Start Inv-loop μ-loop
+begun c = counted c .before
 
 -- the path, and what is required of it
 abbrev path : tie.After-year-at Inv-loop μ-loop → Path
 path c =
-    let s = c .before .before in
+    let s = begun c in
     along (s .args .path .cohort) (s .args .path .age) (c .year-at .result .number) (s .args .path .count)
 
-path-is : (c : tie.After-year-at Inv-loop μ-loop) → path c ≡ c .before .before .args .path
+path-is : (c : tie.After-year-at Inv-loop μ-loop) → path c ≡ begun c .args .path
 path-is c =
-    let w = c .before .before .args .path in
+    let w = begun c .args .path in
     ap (λ (n : ℕ). along (w .cohort) (w .age) n (w .count)) (c .year-at .ensures .0)
 
-within : (c : tie.After-year-at Inv-loop μ-loop) → PathWithin (c .before .before .args .t1) (path c)
-within c = rw (path-is c) (c .before .before .pre)
+within : (c : tie.After-year-at Inv-loop μ-loop) → PathWithin (begun c .args .t1) (path c)
+within c = rw (path-is c) (begun c .pre)
 
 -- a turn of the loop is at an age to 90 of the path
 abbrev first : tie.In-loop Inv-loop μ-loop → tie.After-year-at Inv-loop μ-loop
 first t = t .before .before
 
-young-turn : (t : tie.In-loop Inv-loop μ-loop) → let w = first t .before .before .args .path in
+young-turn : (t : tie.In-loop Inv-loop μ-loop) → let w = begun (first t) .args .path in
     (t .before .loop .done < w .count) × (w .age + t .before .loop .done < firstClosed)
 young-turn t =
-    let n = first t .before in
+    let n = counted (first t) in
     let w = n .before .args .path in
     let l = min-le-left (firstClosed - w .age) (w .count) in
     let m = min-le-right (firstClosed - w .age) (w .count) in
@@ -68,18 +75,18 @@ above a n e q h = elim (decLt (firstClosed - a) n) [
 abbrev turn : tie.After-age-of-runs Inv-loop μ-loop → tie.In-loop Inv-loop μ-loop
 turn c = c .before .before .before .before .before .before
 
-age-read : (c : tie.After-age-of-runs Inv-loop μ-loop) → let s = first (turn c) .before .before in
+age-read : (c : tie.After-age-of-runs Inv-loop μ-loop) → let s = begun (first (turn c)) in
     c .age-of-runs .result ≡ ageOf (s .args .t1) (s .args .path .age + turn c .before .loop .done)
 age-read c = c .age-of-runs .ensures ∙ four-age _ _
 
 -- so the cell is the path's
 cell-read : (c : tie.After-young-cell Inv-loop μ-loop) → let t = turn (c .before) in
-    cellAt (first t .before .before .args .t1) (path (first t)) (t .before .loop .done) ≡ c .young-cell .result
+    cellAt (begun (first t) .args .t1) (path (first t)) (t .before .loop .done) ≡ c .young-cell .result
 unfolding placeAt
 cell-read c =
     let a = c .before in
     let t = turn a in
-    let s = first t .before .before in
+    let s = begun (first t) in
     let y = t .before .loop .inv .1 in
     let l = young-turn t in
     let e = rw (age-read a, year-force (y .year) (s .args .path .age + t .before .loop .done)) at (c .young-cell .ensures) in
@@ -88,12 +95,12 @@ cell-read c =
     ∙ sym (e ∙ young-cell (s .args .t1) (t .before .loop .year .number) (l .1))
 
 year-at-requires : tie.Need-year-at-requires Inv-loop μ-loop
-year-at-requires c κs = let s = c .before in (s .pre .limits, s .pre .first)
+year-at-requires c κs = let s = c .before .before .before .before in (s .pre .limits, s .pre .first)
 
 loop-holds : tie.Need-loop-holds Inv-loop μ-loop
 unfolding placeAt
 loop-holds c = (
-  worked-none (c .before .before .args .t1) (path c) refl,
+  worked-none (begun c .args .t1) (path c) refl,
   record { year = c .year-at .ensures .1; place = λ h. first-year (path c .cohort) (c .year-at .result .number) },
   omega arith,
 )
@@ -115,7 +122,7 @@ returns c =
     let t = turn (k .before) in
     let f = first t in
     record {
-      out-of-range = λ n. rw (path-is f) at (worked-out (f .before .before .args .t1) (path f) (young-turn t .0) (cell-read k ∙ c .enum-told .given .1));
+      out-of-range = λ n. rw (path-is f) at (worked-out (begun f .args .t1) (path f) (young-turn t .0) (cell-read k ∙ c .enum-told .given .1));
       worked = λ n. absurd n;
       next = λ n. absurd n;
       old = λ n. absurd n;
@@ -140,24 +147,24 @@ add-done c = let t = in-turn c in omega (arith, young-turn t, short (first t))
 
 year-after-requires : tie.Need-year-after-requires Inv-loop μ-loop
 year-after-requires c κs =
-    let t = in-turn (c .before .before .before) in
+    let t = in-turn (c .before) in
     let f = first t in
-    let i = in-limits-series (f .before .before .args .t1) (within f .limits) in
-    λ on. rw (back (i .a) tt, back (i .index .theta) tt)
+    let i = in-limits-series (begun f .args .t1) (within f .limits) .dynamics in
+    λ on. rw (back (i .a) tt, back (i .theta) tt, back (i .c) tt)
     (year-may (within f) (t .before .loop .inv .1) (young-turn t .0) (c .goes-on .ensures) on)
 
 loop-less : tie.Need-loop-less Inv-loop μ-loop
-loop-less c = let t = in-turn (c .before .before .before .before) in omega (arith, t .loop-test .taken)
+loop-less c = let t = in-turn (c .before .before) in omega (arith, t .loop-test .taken)
 
 loop-again : tie.Need-loop-again Inv-loop μ-loop
 loop-again c =
     let g = c .before in
-    let k = g .before .before .before in
+    let k = g .before in
     let t = in-turn k in
     let f = first t in
     let v = t .before .loop .inv in
-    let i = in-limits-series (f .before .before .args .t1) (within f .limits) in
-    let a = rw (back (i .a) tt, back (i .index .theta) tt) at (c .year-after .ensures) in (
+    let i = in-limits-series (begun f .args .t1) (within f .limits) .dynamics in
+    let a = rw (back (i .a) tt, back (i .theta) tt, back (i .c) tt) at (c .year-after .ensures) in (
       worked-more (v .0) (short f) (young-turn t .0) (cell-read (k .before .before .before) ∙ k .before .e .given .1),
       year-step (within f) (v .1) (young-turn t .0) (g .goes-on .result) (g .goes-on .ensures) a,
       omega (arith, t .loop-test .taken),
@@ -167,7 +174,7 @@ returns-2 : tie.Need-returns-2 Inv-loop μ-loop
 returns-2 c =
     let l = c .before in
     let f = l .before in
-    let n = f .before in
+    let n = counted f in
     let w = n .before .args .path in
     let v = l .loop .inv in
     let d : l .loop .done ≡ n .young-count .result = omega (arith, c .loop-test .left, v .2) in

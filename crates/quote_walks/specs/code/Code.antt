@@ -5,15 +5,16 @@ use mathlib.Core.Bool.{Bool, false, not}
 use mathlib.Core.List.{List}
 use Prim.Native.Nat.{ℕ, _+_, _≤_, _<_}
 use lib.Dec.{T}
-use lib.IntN.{ℤ}
 use lib.ListN.{length, take}
 use Rattle.number_exponential.specs.Billionths.{billionths}
 use Rattle.number_exponential.specs.declared.Ends.{Ends}
 use Rattle.set_params.specs.declared.Params.{Params}
-use Rattle.set_params.specs.Limits.{inLimits, lastYears}
+use Rattle.set_params.specs.declared.Dynamics.{Dynamics}
+use Rattle.set_limits.specs.InLimits.{inLimits}
+use Rattle.set_params.specs.Limits.{lastYears}
 use Rattle.model_closure.specs.Weights.{firstClosed, lastClosed}
-use Rattle.model_series.specs.declared.Year.{Year}
-use Rattle.model_series.specs.code.Year.{YearOf, NextOf}
+use Rattle.model_log_force.specs.declared.Year.{Year}
+use Rattle.model_log_force.specs.code.Year.{YearOf, NextOf}
 use Rattle.number_folds.specs.code.Code.{mostFactors}
 use Rattle.quote_paths.specs.Path.{Place, placeAt, pathOf, factors, pathInRange}
 use Rattle.quote_paths.specs.declared.Path.{Path}
@@ -38,8 +39,8 @@ pub record PathWithin (p : Params) (w : Path) : Type 0 where
   pub years : (s : ℕ) → s < w .count → placeOf w s .year ≤ lastYears
 
 -- r is the year after y, or y itself
-pub record Advanced (a theta : ℤ) (y : Year) (on : Bool) (r : Year) : Type 0 where
-  pub next : T on → NextOf a theta y r
+pub record Advanced (d : Dynamics) (y : Year) (on : Bool) (r : Year) : Type 0 where
+  pub next : T on → NextOf d y r
   pub same : T (not on) → r ≡ y
 
 -- the first s cells are in range, and their factors stand in the array

@@ -15,7 +15,7 @@ use Rattle.number_exponential.specs.laws.BillionthsFacts.{billionths-sound}
 use Rattle.set_params.specs.declared.Params.{Params}
 use Rattle.set_refusal.specs.declared.Refusal.{Refusal}
 use Rattle.set_refusal.specs.declared.Refusal.the-variants.{Accepted}
-use Rattle.set_params.specs.Limits.{startYear}
+use Rattle.set_params.specs.Set.{yearNumber}
 use Rattle.number_exact.specs.declared.Figure.the-variants.{Printed, Open}
 use Rattle.number_exact.specs.Figure.{halfUp, figureOf}
 use Rattle.number_folds.specs.code.Code.{mostFactors}
@@ -65,9 +65,9 @@ part-length x n part = go (eqb (part .num) 0) _
     go true c = omega arith
     go false c = omega arith
 
-module _ (k : Kind) {age year term : ℤ} (c : Counted k age year term) where
+module _ (k : Kind) {start age year term : ℤ} (c : Counted start k age year term) where
   abbrev n : ℕ
-  n = natAbs year - startYear
+  n = yearNumber start year
 
   abbrev count : ℕ
   count = countOf (ruleOf k .fold) n (natAbs (spanOf (ruleOf k) year term))
@@ -75,7 +75,7 @@ module _ (k : Kind) {age year term : ℤ} (c : Counted k age year term) where
   abbrev part : Ratio
   part = partOf (ruleOf k) term
 
-  path-small : length (queryPath k age year term) ≤ mostFactors
+  path-small : length (queryPath start k age year term) ≤ mostFactors
   unfolding queryPath
   path-small = go (part .num) refl
     where
@@ -97,7 +97,7 @@ module _ (k : Kind) {age year term : ℤ} (c : Counted k age year term) where
             length-append whole after,
             part-length (natAbs age + count) (n + count) part,
             part-after k c (λ z. omega (arith, e, z)),
-            c .year-from,
+            c .year-in .from,
           )
 
 quote-sized : (p : Params) (k : Kind) (age year term : ℤ) → refusalOf p k age year term ≡ Accepted
@@ -106,7 +106,7 @@ unfolding quoteOf queryEnds
 quote-sized p k age year term e =
     let f = ruleOf k .fold in
     let c = counted k (all-passed p k age year term e .table) in
-    let v = value-small billionths billionths-sound p (queryPath k age year term) (path-small k c) f in
+    let v = value-small billionths billionths-sound p (queryPath (p .start) k age year term) (path-small k c) f in
     record {
       lower = omega (arith, v .lower);
       upper = omega (arith, v .upper);

@@ -9,8 +9,9 @@ use borrow.Author.Tests.{not-true, not-false}
 use lib.ListN.{length, drop, length-drop}
 use Rattle.set_refusal.specs.Refusals.{refusalNumber}
 use Rattle.sheet.specs.declared.Reading.{Reading}
-use Rattle.run_sheets.specs.Front.{sheetOf, sheetEnd}
-use Rattle.run_sheets.specs.laws.FrontLaws.{sheet-within, rest-from, front-long, front-one, front-first, front-both}
+use Rattle.sheet_reader.specs.Front.{sheetOf, sheetEnd}
+use Rattle.sheet_reader.specs.laws.FirstLaws.{sheet-within}
+use Rattle.run_sheets.specs.laws.FrontLaws.{rest-from, front-long, front-one, front-first, front-both}
 use Rattle.run_sheets.proofs.read_front.Statement.{statement}
 use Rattle.run_sheets.proofs.read_front.Tie as tie
 
@@ -20,11 +21,9 @@ input c = c .before .before .args .input .now
 -- ---- the first sheet
 
 one : (c : tie.After-read-first) → c .read-first .result .sheet ≡ sheetOf (input c)
-unfolding sheetOf
 one c = c .read-first .ensures .0
 
 end : (c : tie.After-read-first) → c .read-first .result .next ≡ sheetEnd (input c)
-unfolding sheetEnd
 end c = c .read-first .ensures .1
 
 within : (c : tie.After-read-first) → c .read-first .result .next ≤ length (input c)
@@ -42,11 +41,9 @@ abbrev tried : tie.After-second → tie.Else3
 tried c = c .before .before .before .before
 
 other : (c : tie.After-second) → c .before .before .read-first2 .result .sheet ≡ sheetOf (rest (tried c))
-unfolding sheetOf
 other c = c .before .before .read-first2 .ensures .0 ∙ ap sheetOf (rest-from (input (first (tried c))) _)
 
 len : (c : tie.After-second) → c .before .before .read-first2 .result .next ≡ sheetEnd (rest (tried c))
-unfolding sheetEnd
 len c = c .before .before .read-first2 .ensures .1 ∙ ap sheetEnd (rest-from (input (first (tried c))) _)
 
 -- ---- the needs

@@ -15,13 +15,13 @@ use Rattle.set_params.specs.declared.Params.{Params}
 use Rattle.set_refusal.specs.declared.Refusal.{Refusal}
 use Rattle.set_refusal.specs.declared.Refusal.the-variants.{Accepted, Malformed, OutOfLimits}
 use Rattle.set_refusal.specs.Refusals.{refusalNumber}
-use Rattle.set_params.specs.Limits.{inLimits}
+use Rattle.set_limits.specs.InLimits.{inLimits}
 use Rattle.sheet.specs.declared.Reading.{Reading}
-use Rattle.sheet.specs.Sheet.{mostBytes, refused, readSet, readingOf, readSheet, sheetLines}
-use Rattle.text_lines.specs.Lines.{firstLines}
-use Rattle.text_lines.specs.laws.LineLaws.{lines-within}
+use Rattle.sheet.specs.Sheet.{mostBytes, refused, readSet, readingOf, readSheet}
 use Rattle.run_sheets.specs.declared.Front.{Front}
-use Rattle.run_sheets.specs.Front.{sheetOf, sheetEnd, stopped, oneSheet, bothSheets, twoSheets, frontOf}
+use Rattle.sheet_reader.specs.Front.{frontLines, sheetOf, sheetEnd}
+use Rattle.sheet_reader.specs.laws.FirstLaws.{sheet-within}
+use Rattle.run_sheets.specs.Front.{stopped, oneSheet, bothSheets, twoSheets, frontOf}
 
 -- ---- an accepted sheet's set is within the limits
 
@@ -42,20 +42,15 @@ reading-well (taken p rest) e = go (inLimits p) refl e
 sheet-well : (input : List ℕ) → ReadWell (sheetOf input)
 unfolding sheetOf readSheet refused refusalNumber
 sheet-well input e =
-    let sheet = firstLines sheetLines input in
+    let sheet = frontLines input in
     go (leb (length sheet) mostBytes) (readingOf (readSet sheet)) (reading-well (readSet sheet)) e
   where
     go : (b : Bool) (r : Reading) → ReadWell r → ReadWell (cond b r (refused Malformed))
     go true r h e = h e
     go false r h e = absurd (omega arith)
 
--- ---- where it ends
+-- ---- what is left of an input from a place on
 
-pub sheet-within : (input : List ℕ) → sheetEnd input ≤ length input
-unfolding sheetEnd
-sheet-within input = lines-within sheetLines input
-
--- what is left of an input from a place on
 pub rest-from : (input : List ℕ) (at : ℕ) → take (length input - at) (drop at input) ≡ drop at input
 rest-from input at = take-all (length input - at) (drop at input) (omega (arith, length-drop at input))
 

@@ -5,7 +5,8 @@ use mathlib.Core.Bool.{Bool, _&&_}
 use mir.Syntax.{w64}
 use mir.Val.{SFits}
 use Rattle.set_params.specs.declared.Age.{Age}
-use Rattle.set_params.specs.Limits.{levelLimit, slopeLimit, within, ageInLimits}
+use Rattle.set_params.specs.Limits.{levelLimit, slopeLimit, within}
+use Rattle.set_limits.specs.InLimits.{ageInLimits}
 use Rattle.set_limits.proofs.Sizes.{tested, fails, passes}
 use Rattle.set_limits.proofs.age_in_limits.Statement.{statement}
 use Rattle.set_limits.proofs.age_in_limits.Tie as tie

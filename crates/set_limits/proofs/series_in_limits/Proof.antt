@@ -10,7 +10,8 @@ use mir.Val.{SFits, toZ, ofZ}
 use Rattle.number_whole.specs.code.Sizes.{Under}
 use Rattle.number_whole.specs.laws.Bound.{under-lit, under-add, under-mul, fits, back}
 use Rattle.set_params.specs.declared.Params.{Params}
-use Rattle.set_params.specs.Limits.{aLimit, thetaLimit, periodLimit, kappaLimit, lastYears, within, seriesInLimits}
+use Rattle.set_params.specs.Limits.{aLimit, thetaLimit, periodLimit, kappaLimit, lastYears, within}
+use Rattle.set_limits.specs.InLimits.{seriesInLimits}
 use Rattle.set_limits.proofs.Sizes.{tested, passed, fails, passes}
 use Rattle.set_limits.proofs.series_in_limits.Statement.{statement}
 use Rattle.set_limits.proofs.series_in_limits.Tie as tie

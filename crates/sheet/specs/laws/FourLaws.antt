@@ -1,4 +1,4 @@
--- Reading four lines: the first that is malformed decides, or all four are read.
+-- Reading two lines, and four: the first that is malformed decides, or all are read.
 use mathlib.Core.Path.{_≡_, refl, _∙_}
 use Prim.Native.Nat.{ℕ}
 use mathlib.Core.List.{List, [], _∷_, _++_}
@@ -12,7 +12,7 @@ abbrev pub after : List ℤ → Parse (List ℤ) → Parse (List ℤ)
 after vs q = elim q [ malformed ↦ malformed | taken us rest ↦ taken (vs ++ us) rest ]
 
 -- the first line is malformed, or it is read
-first-malformed : (k : List ℕ) (ks : List (List ℕ)) (bs : List ℕ) → readLine k bs ≡ malformed → readLines (k ∷ ks) bs ≡ malformed
+pub first-malformed : (k : List ℕ) (ks : List (List ℕ)) (bs : List ℕ) → readLine k bs ≡ malformed → readLines (k ∷ ks) bs ≡ malformed
 unfolding readLines
 first-malformed k ks bs e = stops _ e
 
@@ -24,6 +24,14 @@ first-taken k ks bs e = goes _ e
 none-left : (bs : List ℕ) → readLines [] bs ≡ taken [] bs
 unfolding readLines
 none-left bs = refl
+
+module _ (k₀ k₁ bs : List ℕ) {v₀ : ℤ} {b₀ : List ℕ} (e₀ : readLine k₀ bs ≡ taken v₀ b₀) where
+  pub two-malformed : readLine k₁ b₀ ≡ malformed → readLines (k₀ ∷ k₁ ∷ []) bs ≡ malformed
+  two-malformed e = first-taken k₀ _ bs e₀ ∙ rw (first-malformed k₁ [] b₀ e)
+
+  pub two-taken : {v₁ : ℤ} {b₁ : List ℕ} → readLine k₁ b₀ ≡ taken v₁ b₁
+      → readLines (k₀ ∷ k₁ ∷ []) bs ≡ taken (v₀ ∷ v₁ ∷ []) b₁
+  two-taken {b₁} e = first-taken k₀ _ bs e₀ ∙ rw (first-taken k₁ [] b₀ e, none-left b₁)
 
 module _ (k₀ k₁ k₂ k₃ bs : List ℕ) where
   pub four-malformed₀ : readLine k₀ bs ≡ malformed → readLines (k₀ ∷ k₁ ∷ k₂ ∷ k₃ ∷ []) bs ≡ malformed

@@ -1,15 +1,16 @@
 -- A set and its sheet: the sheet of a set in limits reads back as the set, and a sheet that is accepted is, byte for
 -- byte, the sheet of the set that it gives.
-use mathlib.Core.Path.{_≡_, refl, ap, _∙_}
+use mathlib.Core.Path.{_≡_, refl, sym, ap, subst, _∙_}
 use mathlib.Core.Bool.{Bool, true, false, cond, _&&_}
 use mathlib.Core.List.{List, [], _∷_, _++_, append-assoc, append-nil}
-use Prim.Native.Nat.{ℕ, zero, suc, _*_, _^_, _≤_, _<_}
+use Prim.Native.Nat.{ℕ, zero, suc, _+_, _*_, _^_, _≤_, _<_}
 use native.Mathlib.Omega.{arith}
 use borrow.Author.Tests.{le-leb}
 use lib.Dec.{T, leb, leb→le}
 use lib.Ieee.Bits.{is-true}
 use lib.Ieee.Fits.{and-l, and-r}
-use lib.IntN.{ℤ, natAbs}
+use lib.IntN.{ℤ, pos, negsuc, natAbs}
+use lib.Signed.{leZ, leZ-yes}
 use lib.ListN.{length, length-append}
 use Rattle.text_tokens.specs.Text.{bytesOf, Parse, malformed, taken, takeText, andThen}
 use Rattle.text_tokens.specs.laws.Steps.{goes}
@@ -17,7 +18,10 @@ use Rattle.text_tokens.specs.laws.TextLaws.{takeText-split, takeText-whole}
 use Rattle.text_tokens.specs.Number.{isDigit, readNumber, numberText, unsignedText, decimal}
 use Rattle.text_tokens.specs.laws.DecimalLaws.{number-length}
 use Rattle.number_whole.specs.code.Sizes.{Under}
+use Rattle.number_whole.specs.laws.Split.{split, split-abs}
 use Rattle.set_params.specs.declared.Params.{Params}
+use Rattle.set_params.specs.declared.Table.{Table}
+use Rattle.set_params.specs.declared.Table.the-variants.{Ag2014, LiLee}
 use Rattle.set_params.specs.declared.Sex.{Sex}
 use Rattle.set_params.specs.declared.Sex.the-variants.{M, F}
 use Rattle.set_refusal.specs.declared.Refusal.{Refusal}
@@ -25,13 +29,16 @@ use Rattle.set_refusal.specs.declared.Refusal.the-variants.{Accepted, Malformed
 use Rattle.sheet.specs.declared.Reading.{Reading}
 use Rattle.set_refusal.specs.Refusals.{refusalNumber}
 use Rattle.set_params.specs.Set.{A, B, alpha, beta, ages, Whole}
-use Rattle.set_params.specs.Limits.{inLimits}
-use Rattle.sheet.specs.Sheet.{mostBytes, headBytes, forAges, ageKeys, keys, ageValues, values, lineText, linesText, headText}
-use Rattle.sheet.specs.Sheet.{sheetText, readLine, readLines, readHead, paramsOf, readSet}
-use Rattle.sheet.specs.Sheet.{refused, readingOf, readSheet}
-use Rattle.set_params.specs.laws.LimitsLaws.{in-limits-age, in-limits-series}
+use Rattle.set_params.specs.code.Within.{StartWithin}
+use Rattle.set_params.specs.Limits.{firstStart, within}
+use Rattle.set_limits.specs.InLimits.{lastStartOf, constantLimitOf, tableInLimits, inLimits}
+use Rattle.sheet.specs.Sheet.{mostBytes, sheetLines, forAges, ageKeys, ifLiLee, keys, ageValues, values, lineText}
+use Rattle.sheet.specs.Sheet.{linesText, tableText, sexText, sheetText, readLine, readLines, readEither, readTable, readSex}
+use Rattle.sheet.specs.Sheet.{completed, paramsOf, readFront, nothingAfter, readSet, refused, readingOf, readSheet}
+use Rattle.set_limits.specs.laws.LimitsLaws.{in-limits-start, in-limits-age, in-limits-series}
 use Rattle.text_tokens.specs.laws.NumberTrip.{malformed-not-taken, number-reads, number-read}
-use Rattle.sheet.specs.laws.SetTrip.{keys-length, values-length, values-params, params-values, params-whole}
+use Rattle.sheet.specs.laws.SetTrip.{keys-length, values-length, values-params, Shown, lilee-shown, ag2014-shown}
+use Rattle.sheet.specs.laws.SetTrip.{params-values, params-whole, params-shown}
 
 -- every value has at most 15 digits
 abbrev pub AllSmall : List ℤ → Type 0
@@ -121,63 +128,109 @@ lines-read (k ∷ ks) bs vs rest e =
 
 -- ---- the first two lines
 
-pub head-reads : (sex : Sex) (rest : List ℕ) → readHead (headText sex ++ rest) ≡ taken sex rest
-unfolding readHead headText bytesOf takeText
-head-reads M rest = refl
-head-reads F rest = refl
-
-pub head-read : (bs : List ℕ) (sex : Sex) (rest : List ℕ) → readHead bs ≡ taken sex rest → bs ≡ headText sex ++ rest
-unfolding readHead
-head-read bs sex rest e = go (takeText (headText M) bs) refl e
+-- what is read of two texts is the one that the bytes begin with
+either-read : {X : Type 0} (text : X → List ℕ) (x y : X) (bs : List ℕ) (z : X) (rest : List ℕ)
+    → readEither text x y bs ≡ taken z rest → bs ≡ text z ++ rest
+unfolding readEither
+either-read {X} text x y bs z rest e = go (takeText (text x) bs) refl e
   where
-    go : (q : Parse Unit) → takeText (headText M) bs ≡ q
-        → _≡_ {A = Parse Sex}
+    go : (q : Parse Unit) → takeText (text x) bs ≡ q
+        → _≡_ {A = Parse X}
         (elim q [
-          | malformed ↦ elim (takeText (headText F) bs) [ malformed ↦ malformed | taken u after ↦ taken F after ]
-          | taken u after ↦ taken M after
+          | malformed ↦ elim (takeText (text y) bs) [ malformed ↦ malformed | taken u after ↦ taken y after ]
+          | taken u after ↦ taken x after
         ])
-        (taken sex rest)
-        → bs ≡ headText sex ++ rest
+        (taken z rest)
+        → bs ≡ text z ++ rest
     go malformed t w =
-        then-taken (takeText (headText F) bs) _ w λ u after r f.
-        let x : F ≡ sex = cc in
-        let y : after ≡ rest = cc in
-        rw (← x, ← y) (takeText-whole (headText F) bs r)
+        then-taken (takeText (text y) bs) _ w λ u after r f.
+        let i : y ≡ z = cc in
+        let j : after ≡ rest = cc in
+        rw (← i, ← j) (takeText-whole (text y) bs r)
     go (taken u after) t w =
-        let x : M ≡ sex = cc in
-        let y : after ≡ rest = cc in
-        rw (← x, ← y) (takeText-whole (headText M) bs t)
+        let i : x ≡ z = cc in
+        let j : after ≡ rest = cc in
+        rw (← i, ← j) (takeText-whole (text x) bs t)
+
+pub table-reads : (t : Table) (rest : List ℕ) → readTable (tableText t ++ rest) ≡ taken t rest
+unfolding readTable readEither tableText bytesOf takeText
+table-reads Ag2014 rest = refl
+table-reads LiLee rest = refl
+
+pub table-read : (bs : List ℕ) (t : Table) (rest : List ℕ) → readTable bs ≡ taken t rest → bs ≡ tableText t ++ rest
+unfolding readTable
+table-read = either-read tableText Ag2014 LiLee
+
+pub sex-reads : (s : Sex) (rest : List ℕ) → readSex (sexText s ++ rest) ≡ taken s rest
+unfolding readSex readEither sexText bytesOf takeText
+sex-reads M rest = refl
+sex-reads F rest = refl
+
+pub sex-read : (bs : List ℕ) (s : Sex) (rest : List ℕ) → readSex bs ≡ taken s rest → bs ≡ sexText s ++ rest
+unfolding readSex
+sex-read = either-read sexText M F
+
+-- ---- a sheet, and what follows it
+
+sheet-apart : (p : Params) (rest : List ℕ) → sheetText p ++ rest
+    ≡ tableText (p .table) ++ (sexText (p .sex) ++ (linesText (keys (p .table)) (values p) ++ rest))
+unfolding sheetText
+sheet-apart p rest = simp append-assoc
+
+-- the sheet of a set is read as the set, whatever follows it
+pub front-reads : (p : Params) → Whole p → Shown p → AllSmall (values p) → (rest : List ℕ)
+    → readFront (sheetText p ++ rest) ≡ taken p rest
+unfolding readFront
+front-reads p w h s rest =
+    rw (sheet-apart p rest)
+    (goes _ (table-reads (p .table) (sexText (p .sex) ++ (linesText (keys (p .table)) (values p) ++ rest)))
+    ∙ goes _ (sex-reads (p .sex) (linesText (keys (p .table)) (values p) ++ rest))
+    ∙ goes _ (lines-reads (keys (p .table)) (values p) rest (values-length p) s)
+    ∙ ap (λ (q : Params). taken q rest) (params-values p w h))
+
+-- the bytes are the sheet of a set, and then the rest
+pub record FrontOf (p : Params) (bs rest : List ℕ) : Type 0 where
+  pub is : bs ≡ sheetText p ++ rest
+  pub whole : Whole p
+  pub shown : Shown p
+  pub small : AllSmall (values p)
+
+-- what is read is the sheet of the set that it gives
+pub front-read : (bs : List ℕ) (p : Params) (rest : List ℕ) → readFront bs ≡ taken p rest → FrontOf p bs rest
+unfolding readFront paramsOf
+front-read bs p rest e =
+    then-taken (readTable bs) _ e λ t after q e₁.
+    then-taken (readSex after) _ e₁ λ s lines r e₂.
+    then-taken (readLines (keys t) lines) _ e₂ λ vs next l e₃.
+    let x : paramsOf t s (completed t vs) ≡ p = cc in
+    let y : next ≡ rest = cc in
+    let ls = lines-read (keys t) lines vs next l in
+    let v = values-params t s vs (ls .long) in
+    rw (← x, ← y)
+    (record {
+      is = rw (sheet-apart (paramsOf t s (completed t vs)) next, v, ← ls .is, ← sex-read after s lines r) (table-read bs t after q);
+      whole = params-whole t s (completed t vs);
+      shown = params-shown t s vs (ls .long);
+      small = rw v (ls .small);
+    })
 
 -- ---- the whole input
 
-set-reads : (p : Params) → Whole p → AllSmall (values p) → readSet (sheetText p) ≡ taken p []
-unfolding readSet sheetText
-set-reads p w s =
-    let l = rw append-nil at (lines-reads keys (values p) [] (rw (values-length p, keys-length)) s) in
-    goes _ (head-reads (p .sex) (linesText keys (values p)))
-    ∙ goes _ l
-    ∙ rw (params-values p w)
-
--- nothing follows the last line
-at-end : {p : Params} (q : Params) (next rest : List ℕ)
-    → _≡_ {A = Parse Params} (elim next [ [] ↦ taken q [] | b ∷ more ↦ malformed ]) (taken p rest) → (next ≡ []) × (q ≡ p)
-at-end q [] rest e = (refl, cc)
-at-end q (b ∷ more) rest e = malformed-not-taken e
-
-pub params-sheet : (sex : Sex) (vs : List ℤ) → length vs ≡ 368
-    → sheetText (paramsOf sex vs) ≡ headText sex ++ linesText keys vs
-unfolding sheetText paramsOf
-params-sheet sex vs h = rw (values-params sex vs h)
+pub set-reads : (p : Params) → Whole p → Shown p → AllSmall (values p) → readSet (sheetText p) ≡ taken p []
+unfolding readSet nothingAfter
+set-reads p w h s = ap nothingAfter (rw append-nil at (front-reads p w h s []))
 
 set-read : (bs : List ℕ) (p : Params) (rest : List ℕ) → readSet bs ≡ taken p rest → (sheetText p ≡ bs) × Whole p
-unfolding readSet
-set-read bs p rest e =
-    then-taken (readHead bs) _ e λ sex after q e₁.
-    then-taken (readLines keys after) _ e₁ λ vs next r e₂.
-    let (none, x) = at-end (paramsOf sex vs) next rest e₂ in
-    let l = lines-read keys after vs next r in
-    let h : length vs ≡ 368 = l .long ∙ keys-length in
-    rw (← x) (rw (params-sheet sex vs h, head-read bs sex after q, l .is, none, append-nil), params-whole sex vs)
+unfolding readSet nothingAfter
+set-read bs p rest e = go (readFront bs) refl e
+  where
+    go : (q : Parse Params) → readFront bs ≡ q → nothingAfter q ≡ taken p rest → (sheetText p ≡ bs) × Whole p
+    go malformed r e = malformed-not-taken e
+    go (taken p′ (b ∷ more)) r e = malformed-not-taken e
+    go (taken p′ []) r e =
+        let x : p′ ≡ p = cc in
+        let f = front-read bs p′ [] r in
+        rw (← x) (sym (f .is ∙ append-nil (sheetText p′)), f .whole)
 
 -- ---- limits bound every value, and the sheet's length
 
@@ -187,6 +240,10 @@ all-append (u ∷ us) vs a b = (a .0, all-append us vs (a .1) b)
 
 under-small : {z : ℤ} {k : ℕ} → Under z k → k ≤ 500000000000 → natAbs z < 10 ^ 15
 under-small u h = omega (arith, u .under)
+
+start-small : (z : ℤ) → StartWithin z → natAbs z < 10 ^ 15
+start-small (pos n) w = omega (split, w .last)
+start-small (negsuc n) w = absurd (omega (split, w .first))
 
 ages-small : (p : Params) → T (inLimits p) → (n : ℕ) → n ≤ ages → AllSmall (forAges (ageValues p) n)
 unfolding forAges ageValues
@@ -203,27 +260,60 @@ ages-small p t (suc n) h =
 
 -- a value in limits has at most 15 digits
 pub in-limits-small : (p : Params) → T (inLimits p) → AllSmall (values p)
-unfolding values
+unfolding values ifLiLee
 in-limits-small p t =
     let w = in-limits-series p t in (
-      under-small (w .a) (omega arith),
+      under-small (w .dynamics .a) (omega arith),
       (
         under-small (w .index .theta) (omega arith),
         (
           under-small (w .index .start) (omega arith),
-          (under-small (w .kappa) (omega arith), ages-small p t ages (omega arith)),
+          (
+            under-small (w .kappa) (omega arith),
+            all-append (ifLiLee (p .table) (p .start ∷ p .c ∷ [])) _ (start-and-c (p .table)) (ages-small p t ages (omega arith)),
+          ),
         ),
       ),
     )
+  where
+    start-and-c : (u : Table) → AllSmall (ifLiLee u (p .start ∷ p .c ∷ []))
+    start-and-c Ag2014 = tt
+    start-and-c LiLee =
+        (start-small (p .start) (in-limits-start p t), (under-small (in-limits-series p t .dynamics .c) (omega arith), tt))
+
+-- one of AG2014 has start 2013 and c 0
+ag2014-start : (start c : ℤ) → T (tableInLimits Ag2014 start c) → (start ≡ pos firstStart) × (c ≡ pos 0)
+unfolding tableInLimits lastStartOf constantLimitOf
+ag2014-start start c t =
+    let first = and-l (leZ (pos firstStart) start) _ t in
+    let others = and-r (leZ (pos firstStart) start) (leZ start (pos firstStart) && within 0 c) t in
+    let last = and-l (leZ start (pos firstStart)) (within 0 c) others in
+    let none = leb→le (natAbs c) 0 (and-r (leZ start (pos firstStart)) (within 0 c) others) in (
+      omega (split, leZ-yes {a = pos firstStart} {b = start} first, leZ-yes {a = start} {b = pos firstStart} last),
+      omega (split, split-abs c, none),
+    )
+
+-- so that a sheet shows all numbers of a set in limits
+pub in-limits-shown : (p : Params) → T (inLimits p) → Shown p
+unfolding inLimits
+in-limits-shown p t = go (p .table) refl
+  where
+    table : T (tableInLimits (p .table) (p .start) (p .c))
+    table = and-l (tableInLimits (p .table) (p .start) (p .c)) _ t
+
+    go : (u : Table) → p .table ≡ u → Shown p
+    go Ag2014 e = let (s, c) = ag2014-start (p .start) (p .c) (rw e at table) in ag2014-shown p e s c
+    go LiLee e = lilee-shown p e
 
 -- each key has at most 5 bytes
 allShort : List (List ℕ) → Bool
 allShort [] = true
 allShort (k ∷ ks) = leb (length k) 5 && allShort ks
 
-keys-short : T (allShort keys)
-unfolding allShort keys forAges ageKeys bytesOf unsignedText decimal
-keys-short = tt
+keys-short : (t : Table) → T (allShort (keys t))
+unfolding allShort keys ifLiLee forAges ageKeys bytesOf unsignedText decimal
+keys-short Ag2014 = tt
+keys-short LiLee = tt
 
 lines-short : (ks : List (List ℕ)) (vs : List ℤ) → T (allShort ks) → length (linesText ks vs) ≤ 23 * length ks
 unfolding linesText lineText allShort bytesOf
@@ -234,16 +324,23 @@ lines-short (k ∷ ks) (v ∷ vs) t =
     let l = lines-short ks vs (and-r (leb (length k) 5) (allShort ks) t) in
     simp length-append (omega (arith, number-length v))
 
-pub head-length : (sex : Sex) → length (headText sex) ≡ headBytes
-unfolding headText bytesOf
-head-length M = refl
-head-length F = refl
+table-length : (t : Table) → length (tableText t) + 23 * sheetLines t ≤ 8568
+unfolding tableText bytesOf sheetLines
+table-length Ag2014 = omega arith
+table-length LiLee = omega arith
 
--- the sheet of any set has at most 8,483 bytes
-pub sheet-length : (p : Params) → length (sheetText p) ≤ 8483
+pub sex-length : (s : Sex) → length (sexText s) ≡ 6
+unfolding sexText bytesOf
+sex-length M = refl
+sex-length F = refl
+
+-- the first two lines, and at most 23 bytes for each of the others
+pub sheet-length : (p : Params) → length (sheetText p) ≤ 8528
 unfolding sheetText
 sheet-length p =
-    rw (length-append, head-length (p .sex)) (omega (arith, lines-short keys (values p) keys-short, keys-length))
+    let t = p .table in
+    rw (length-append (tableText t), length-append (sexText (p .sex)))
+    (omega (arith, table-length t, sex-length (p .sex), lines-short (keys t) (values p) (keys-short t), keys-length t))
 
 -- ---- the sheet
 
@@ -253,14 +350,14 @@ pub written-reads-back : (p : Params) → Whole p → T (inLimits p)
 unfolding readSheet readingOf
 written-reads-back p w t =
     let h = le-leb (length (sheetText p)) mostBytes (omega (arith, sheet-length p)) in
-    rw (h, set-reads p w (in-limits-small p t), is-true (inLimits p) t)
+    rw (h, set-reads p w (in-limits-shown p t) (in-limits-small p t), is-true (inLimits p) t)
 
--- and that of a set past a limit, its numbers as long as a sheet's, is refused
-pub written-out-of-limits : (p : Params) → Whole p → AllSmall (values p) → inLimits p ≡ false
+-- and that of a set past a limit, its numbers shown and as long as a sheet's, is refused
+pub written-out-of-limits : (p : Params) → Whole p → Shown p → AllSmall (values p) → inLimits p ≡ false
     → readSheet (sheetText p) ≡ refused OutOfLimits
 unfolding readSheet readingOf
-written-out-of-limits p w s e =
-    let h = le-leb (length (sheetText p)) mostBytes (omega (arith, sheet-length p)) in rw (h, set-reads p w s, e)
+written-out-of-limits p w h s e =
+    let l = le-leb (length (sheetText p)) mostBytes (omega (arith, sheet-length p)) in rw (l, set-reads p w h s, e)
 
 -- a refused reading is not an accepted one
 refused-not-accepted : {X : Type 0} (r : Refusal) {p : Params} → 0 < refusalNumber r

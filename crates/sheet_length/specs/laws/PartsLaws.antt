@@ -1,5 +1,5 @@
 -- Laws of a sheet's parts: how they make up the sheet, and how long they are.
-use mathlib.Core.Path.{_≡_, refl, ap}
+use mathlib.Core.Path.{_≡_, refl, ap, _∙_}
 use mathlib.Core.List.{List, [], _∷_, _++_, append-assoc}
 use Prim.Native.Nat.{ℕ, zero, suc, _+_, _≤_}
 use native.Mathlib.Nat.{eq-or-lt-of-le, le-of-suc-le-suc}
@@ -10,11 +10,13 @@ use lib.ListN.{length, length-append}
 use Rattle.text_tokens.specs.Text.{bytesOf}
 use Rattle.text_tokens.specs.Number.{unsignedText}
 use Rattle.set_params.specs.declared.Params.{Params}
+use Rattle.set_params.specs.declared.Table.{Table}
+use Rattle.set_params.specs.declared.Table.the-variants.{Ag2014, LiLee}
 use Rattle.set_params.specs.declared.Age.{Age}
 use Rattle.set_params.specs.Set.{ages, ageOf}
-use Rattle.sheet.specs.Sheet.{headBytes, forAges, ageKeys, keys, ageValues, values, lineText, linesText, headText, sheetText}
-use Rattle.sheet.specs.laws.SheetTrip.{head-length}
-use Rattle.sheet_length.specs.code.Parts.{lineLength, seriesText, ageText, agesText}
+use Rattle.sheet.specs.Sheet.{forAges, ageKeys, ifLiLee, keys, ageValues, values, lineText, linesText, tableText, sexText, sheetText}
+use Rattle.sheet.specs.laws.SheetTrip.{sex-length}
+use Rattle.sheet_length.specs.code.Parts.{lineLength, seriesText, startText, ageText, agesText}
 
 -- ---- lines, and then lines
 
@@ -54,19 +56,54 @@ ages-grow p m (suc n) h =
     (λ l. omega (arith, ages-step p n, ages-grow p m n (le-of-suc-le-suc l)))
     (eq-or-lt-of-le h)
 
+-- ---- the start and c
+
+-- no line, or two
+pub no-start : {t : Table} (start c : ℤ) → t ≡ Ag2014 → startText t start c ≡ []
+unfolding startText ifLiLee linesText
+no-start start c e = rw e
+
+pub start-lines : {t : Table} (start c : ℤ) → t ≡ LiLee
+    → startText t start c ≡ lineText (bytesOf "start") start ++ (lineText (bytesOf "c") c ++ [])
+unfolding startText ifLiLee linesText
+start-lines start c e = rw e
+
 -- ---- the whole
 
-pub sheet-parts : (p : Params) → sheetText p ≡ headText (p .sex) ++ (seriesText p ++ agesText p ages)
-unfolding sheetText keys values seriesText agesText
+-- as many of the start and c
+start-even : (t : Table) (start c : ℤ)
+    → length (ifLiLee t (bytesOf "start" ∷ bytesOf "c" ∷ [])) ≡ length (ifLiLee t (start ∷ c ∷ []))
+unfolding ifLiLee
+start-even Ag2014 start c = refl
+start-even LiLee start c = refl
+
+-- what follows the first two lines
+abbrev pub linesOf : Params → List ℕ
+linesOf p = seriesText p ++ (startText (p .table) (p .start) (p .c) ++ agesText p ages)
+
+pub sheet-parts : (p : Params) → sheetText p ≡ tableText (p .table) ++ (sexText (p .sex) ++ linesOf p)
+unfolding sheetText keys values seriesText startText agesText
 sheet-parts p =
-    ap (λ (t : List ℕ). headText (p .sex) ++ t)
-    (lines-append (bytesOf "a" ∷ bytesOf "theta" ∷ bytesOf "K" ∷ bytesOf "k" ∷ []) (forAges ageKeys ages)
-    (p .a ∷ p .theta ∷ p .period ∷ p .kappa ∷ []) (forAges (ageValues p) ages) refl)
+    let t = p .table in
+    let start = lines-append (ifLiLee t (bytesOf "start" ∷ bytesOf "c" ∷ [])) (forAges ageKeys ages)
+    (ifLiLee t (p .start ∷ p .c ∷ [])) (forAges (ageValues p) ages) (start-even t (p .start) (p .c)) in
+    ap (λ (l : List ℕ). tableText t ++ (sexText (p .sex) ++ l))
+    (lines-append (bytesOf "a" ∷ bytesOf "theta" ∷ bytesOf "K" ∷ bytesOf "k" ∷ []) _
+    (p .a ∷ p .theta ∷ p .period ∷ p .kappa ∷ []) _ refl
+    ∙ ap (λ (l : List ℕ). seriesText p ++ l) start)
 
 -- ---- lengths
 
-pub sheet-sum : (p : Params) → length (sheetText p) ≡ headBytes + length (seriesText p) + length (agesText p ages)
-sheet-sum p = rw (sheet-parts p) (simp (length-append, head-length) (omega arith))
+-- the lines in front of the ages'
+abbrev pub frontLength : Params → ℕ
+frontLength p =
+    length (tableText (p .table)) + 6 + length (seriesText p) + length (startText (p .table) (p .start) (p .c))
+
+pub sheet-sum : (p : Params) → length (sheetText p) ≡ frontLength p + length (agesText p ages)
+sheet-sum p = rw (sheet-parts p) (simp length-append (omega (arith, sex-length (p .sex))))
+
+pub table-length : {t u : Table} → t ≡ u → length (tableText t) ≡ length (tableText u)
+table-length e = ap (λ (t : Table). length (tableText t)) e
 
 -- a key, `=`, a number and a line feed
 line-length : (key : List ℕ) (v : ℤ) → length (lineText key v) ≡ lineLength (length key) v
@@ -78,6 +115,11 @@ pub series-length : (p : Params)
     ≡ lineLength 1 (p .a) + lineLength 5 (p .theta) + lineLength 1 (p .period) + lineLength 1 (p .kappa)
 unfolding seriesText linesText bytesOf
 series-length p = simp (length-append, line-length) (omega arith)
+
+pub start-length : {t : Table} (start c : ℤ) → t ≡ LiLee
+    → length (startText t start c) ≡ lineLength 5 start + lineLength 1 c
+unfolding bytesOf
+start-length start c e = rw (start-lines start c e) (simp (length-append, line-length) (omega arith))
 
 pub age-length : (a : Age) (x : ℕ) → let d = length (unsignedText x) in
     length (ageText a x)

@@ -2,7 +2,7 @@
 use mathlib.Core.Path.{_≡_, sym, _∙_}
 use Rattle.sheet_reader.specs.code.Read.{refusalOf}
 use Rattle.sheet_reader.specs.laws.SheetLaws.{reading-refused, reading-accepted}
-use Rattle.set_params.specs.Limits.{inLimits}
+use Rattle.set_limits.specs.InLimits.{inLimits}
 use borrow.Author.Needs.{needs}
 use Rattle.sheet_reader.proofs.reading_of.Statement.{statement}
 use Rattle.sheet_reader.proofs.reading_of.Tie as tie

@@ -1,24 +1,19 @@
 -- The reading of a sheet in the steps of the code.
 use Prim.Native.Nat.{ℕ}
 use mathlib.Core.Bool.{Bool, cond, _&&_}
-use mathlib.Core.List.{List, [], _∷_}
+use mathlib.Core.List.{List}
 use lib.Dec.{leb}
 use Rattle.text_tokens.specs.Text.{Parse, malformed, taken}
 use Rattle.set_params.specs.declared.Params.{Params}
+use Rattle.set_params.specs.declared.Table.{Table}
 use Rattle.set_refusal.specs.declared.Refusal.{Refusal}
 use Rattle.set_refusal.specs.declared.Refusal.the-variants.{Accepted, Malformed, OutOfLimits}
-use Rattle.sheet.specs.Sheet.{readHead}
+use Rattle.sheet.specs.Sheet.{readSex}
 use Rattle.sheet_set.specs.code.SetLines.{fromLines}
 
--- the sheet at the front of some bytes: its set, and what follows its last line
-unfoldable pub setFront : List ℕ → Parse Params
-setFront bs = elim (readHead bs) [ malformed ↦ malformed | taken sex rest ↦ fromLines sex rest ]
-
--- nothing follows
-unfoldable pub whole : Parse Params → Parse Params
-whole malformed = malformed
-whole (taken p []) = taken p []
-whole (taken p (b ∷ more)) = malformed
+-- a sheet of the table from its second line on: its set, and what follows its last line
+unfoldable pub fromSex : Table → List ℕ → Parse Params
+fromSex table bs = elim (readSex bs) [ malformed ↦ malformed | taken sex lines ↦ fromLines table sex lines ]
 
 -- the lines were read to this place, and nothing follows them in n bytes
 unfoldable pub atEnd : Bool → ℕ → ℕ → Bool

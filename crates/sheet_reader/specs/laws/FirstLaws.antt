@@ -1,5 +1,5 @@
--- The sheet at the front of an input: where one is read there, its text is the first 370 lines, and those alone are read as
--- the same set; where none is, the first 370 lines are none either.
+-- The sheet at the front of some bytes: where one is read there, its text is as many lines as its table says, and those alone are
+-- read as the same set; where none is, no number of first lines is one.
 use mathlib.Core.Path.{_≡_, refl, sym, ap, _∙_}
 use mathlib.Core.Bool.{Bool, true, false, cond, _&&_}
 use mathlib.Core.List.{List, [], _∷_, _++_, append-assoc, append-nil}
@@ -10,27 +10,29 @@ use lib.Dec.{T, ltb, lt→ltb}
 use lib.Ieee.Fits.{and-i, and-l, and-r}
 use lib.IntN.{ℤ, pos, negsuc}
 use lib.ListN.{length, drop, length-append, length-drop}
-use Rattle.text_tokens.specs.Text.{bytesOf, Parse, malformed, taken}
-use Rattle.text_tokens.specs.laws.Steps.{goes}
+use Rattle.text_tokens.specs.Text.{bytesOf, Parse, malformed, taken, takeText}
 use Rattle.text_tokens.specs.Number.{zeroDigit, mostDigits, decimal, unsignedText, numberText}
+use Rattle.text_tokens.specs.code.Places.{textAt}
 use Rattle.text_tokens.specs.laws.DecimalLaws.{decimal-last, decimal-more, by-size}
+use Rattle.text_tokens.specs.laws.NumberTrip.{malformed-not-taken}
+use Rattle.text_tokens.specs.laws.TextLaws.{text-found, text-missing}
 use Rattle.text_lines.specs.Lines.{lineFeed, firstLines, afterLines}
-use Rattle.text_lines.specs.laws.LineLaws.{lines-split}
+use Rattle.text_lines.specs.laws.LineLaws.{lines-split, lines-within}
 use Rattle.text_lines.specs.laws.CutLaws.{above, Cuts, above-append, cuts-none, cuts-line}
 use Rattle.set_params.specs.declared.Params.{Params}
+use Rattle.set_params.specs.declared.Table.{Table}
+use Rattle.set_params.specs.declared.Table.the-variants.{Ag2014, LiLee}
 use Rattle.set_params.specs.declared.Sex.{Sex}
 use Rattle.set_params.specs.declared.Sex.the-variants.{M, F}
 use Rattle.set_refusal.specs.declared.Refusal.the-variants.{Malformed}
-use Rattle.sheet.specs.Sheet.{mostBytes, sheetLines, forAges, ageKeys, keys, lineText, linesText, headText, readLines, readHead}
-use Rattle.sheet.specs.Sheet.{paramsOf, readSet, refused, readingOf, readSheet}
-use Rattle.text_tokens.specs.laws.NumberTrip.{malformed-not-taken}
-use Rattle.sheet.specs.laws.SetTrip.{keys-length}
-use Rattle.sheet.specs.laws.SheetTrip.{then-taken, lines-reads, lines-read, head-reads, head-read, params-sheet, sheet-length}
+use Rattle.sheet.specs.Sheet.{mostBytes, sheetLines, forAges, ageKeys, ifLiLee, keys, values, lineText, linesText, tableText}
+use Rattle.sheet.specs.Sheet.{sexText, sheetText, readFront, nothingAfter, readSet, refused, readingOf, readSheet}
+use Rattle.sheet.specs.laws.SetTrip.{keys-length, values-length}
+use Rattle.sheet.specs.laws.SheetTrip.{front-reads, front-read, set-reads, sheet-length}
 use Rattle.sheet_set.specs.declared.SetRead.{SetRead}
 use Rattle.sheet_set.specs.code.Ages.{setRead}
-use Rattle.sheet_set.specs.code.SetLines.{fromLines}
-use Rattle.sheet_reader.specs.code.Read.{whole, setFront}
-use Rattle.sheet_reader.specs.laws.SheetLaws.{front-whole, too-long, not-too-long}
+use Rattle.sheet_reader.specs.Front.{tableAt, frontLines, sheetOf, sheetEnd}
+use Rattle.sheet_reader.specs.laws.SheetLaws.{too-long, not-too-long}
 
 -- ---- no line feed but at a line's end
 
@@ -53,9 +55,10 @@ allAbove : List (List ℕ) → Bool
 allAbove [] = true
 allAbove (k ∷ ks) = above k && allAbove ks
 
-keys-above : T (allAbove keys)
-unfolding allAbove keys forAges ageKeys bytesOf unsignedText decimal
-keys-above = tt
+keys-above : (t : Table) → T (allAbove (keys t))
+unfolding allAbove keys ifLiLee forAges ageKeys bytesOf unsignedText decimal
+keys-above Ag2014 = tt
+keys-above LiLee = tt
 
 -- ---- a sheet's lines
 
@@ -75,64 +78,75 @@ lines-cut (k ∷ ks) (v ∷ vs) t h =
     (above-append (bytesOf "=") (numberText v) tt (number-above v)))
     (lines-cut ks vs (and-r (above k) (allAbove ks) t) (omega arith)))
 
-head-cuts : {n : ℕ} (sex : Sex) (text : List ℕ) → Cuts n text → Cuts (suc (suc n)) (headText sex ++ text)
-unfolding headText bytesOf
-head-cuts M text c = cuts-line (bytesOf "table=AG2014") _ tt (cuts-line (bytesOf "sex=M") text tt c)
-head-cuts F text c = cuts-line (bytesOf "table=AG2014") _ tt (cuts-line (bytesOf "sex=F") text tt c)
+table-cuts : {n : ℕ} (t : Table) (text : List ℕ) → Cuts n text → Cuts (suc n) (tableText t ++ text)
+unfolding tableText bytesOf
+table-cuts Ag2014 text c = cuts-line (bytesOf "table=AG2014") text tt c
+table-cuts LiLee text c = cuts-line (bytesOf "table=LILEE") text tt c
+
+sex-cuts : {n : ℕ} (s : Sex) (text : List ℕ) → Cuts n text → Cuts (suc n) (sexText s ++ text)
+unfolding sexText bytesOf
+sex-cuts M text c = cuts-line (bytesOf "sex=M") text tt c
+sex-cuts F text c = cuts-line (bytesOf "sex=F") text tt c
+
+sheet-cuts : (p : Params) → Cuts (sheetLines (p .table)) (sheetText p)
+unfolding sheetText
+sheet-cuts p =
+    let t = p .table in
+    let n : suc (suc (length (keys t))) ≡ sheetLines t = omega (arith, keys-length t) in
+    rw (← n) (table-cuts t _ (sex-cuts (p .sex) _ (lines-cut (keys t) (values p) (keys-above t) (values-length p))))
 
 -- ---- the sheet at the front
 
--- the bytes are a sheet's text, and then the rest; the text is read as the set, whatever follows it
-record Front (p : Params) (bs rest : List ℕ) : Type 0 where
-  text : List ℕ
-  is : bs ≡ text ++ rest
-  cuts : Cuts sheetLines text
-  reads : (more : List ℕ) → setFront (text ++ more) ≡ taken p more
-  fits : length text ≤ mostBytes
+-- the first line says the table
+table-at : (t : Table) (rest : List ℕ) → tableAt (tableText t ++ rest) ≡ t
+unfolding tableAt tableText bytesOf takeText
+table-at Ag2014 rest = refl
+table-at LiLee rest = refl
 
-front-read : (bs : List ℕ) (p : Params) (rest : List ℕ) → setFront bs ≡ taken p rest → Front p bs rest
-unfolding setFront fromLines
-front-read bs p rest e =
-    then-taken (readHead bs) _ e λ sex after q e₁.
-    then-taken (readLines keys after) _ e₁ λ vs next r e₂.
-    let x : paramsOf sex vs ≡ p = cc in
-    let y : next ≡ rest = cc in
-    let l = lines-read keys after vs next r in
-    let c = lines-cut keys vs keys-above (l .long) in
-    rw (← x, ← y)
-    (record {
-      text = headText sex ++ linesText keys vs;
-      is = rw (head-read bs sex after q, l .is) (sym (append-assoc (headText sex) (linesText keys vs) next));
-      cuts = head-cuts sex (linesText keys vs) (rw keys-length at c);
-      reads = λ more.
-          rw (append-assoc (headText sex) (linesText keys vs) more)
-          (goes _ (head-reads sex (linesText keys vs ++ more)) ∙ goes _ (lines-reads keys vs more (l .long) (l .small)));
-      fits = rw (← params-sheet sex vs (l .long ∙ keys-length)) (omega (arith, sheet-length (paramsOf sex vs)));
-    })
+sheet-table : (p : Params) (rest : List ℕ) → tableAt (sheetText p ++ rest) ≡ p .table
+unfolding sheetText
+sheet-table p rest = rw (append-assoc (tableText (p .table))) (table-at (p .table) _)
+
+-- the lines of a sheet are its text, whatever follows it
+sheet-front : (p : Params) (rest : List ℕ) → frontLines (sheetText p ++ rest) ≡ sheetText p
+unfolding frontLines
+sheet-front p rest = rw (sheet-table p rest) (sheet-cuts p .first rest)
 
 module _ (bs : List ℕ) where
-  -- one is read: so are the first lines, which end where it ends
-  module _ (p : Params) (rest : List ℕ) (e : setFront bs ≡ taken p rest) where
-    first-text : (f : Front p bs rest) → firstLines sheetLines bs ≡ f .text
-    first-text f = ap (firstLines sheetLines) (f .is) ∙ f .cuts .first rest
+  -- one is read: so are its lines, which end where it ends
+  module _ (p : Params) (rest : List ℕ) (e : readFront bs ≡ taken p rest) where
+    front-text : frontLines bs ≡ sheetText p
+    front-text = ap frontLines (front-read bs p rest e .is) ∙ sheet-front p rest
 
-    pub first-read : readSheet (firstLines sheetLines bs) ≡ readingOf (taken p [])
-    unfolding whole
+    pub first-read : sheetOf bs ≡ readingOf (taken p [])
+    unfolding sheetOf
     first-read =
         let f = front-read bs p rest e in
-        rw (first-text f)
-        (not-too-long (f .text) (f .fits)
-        ∙ ap readingOf (front-whole (f .text) ∙ ap whole (ap setFront (sym (append-nil (f .text))) ∙ f .reads [])))
+        rw (front-text)
+        (not-too-long (sheetText p) (omega (arith, sheet-length p))
+        ∙ ap readingOf (set-reads p (f .whole) (f .shown) (f .small)))
 
-    pub first-ends : length (firstLines sheetLines bs) + length rest ≡ length bs
+    pub first-ends : sheetEnd bs + length rest ≡ length bs
+    unfolding sheetEnd
     first-ends =
-        let f = front-read bs p rest e in
-        rw (first-text f) (sym (length-append (f .text) rest) ∙ ap length (sym (f .is)))
+        rw (front-text) (sym (length-append (sheetText p) rest) ∙ ap length (sym (front-read bs p rest e .is)))
 
-  -- none is read: the first lines are none
-  pub first-none : setFront bs ≡ malformed → readSheet (firstLines sheetLines bs) ≡ refused Malformed
-  unfolding readingOf whole
-  first-none e = by-length (firstLines sheetLines bs) (front-whole _ ∙ ap whole (go (setFront (firstLines sheetLines bs)) refl))
+  -- none is read: so many lines are none
+  lines-none : readFront bs ≡ malformed → (n : ℕ) → readFront (firstLines n bs) ≡ malformed
+  lines-none e n = go (readFront (firstLines n bs)) refl
+    where
+      go : (q : Parse Params) → readFront (firstLines n bs) ≡ q → readFront (firstLines n bs) ≡ malformed
+      go malformed h = h
+      go (taken p rest) h =
+          let f = front-read (firstLines n bs) p rest h in
+          let more = rest ++ afterLines n bs in
+          let is : bs ≡ sheetText p ++ more =
+          sym (lines-split n bs) ∙ ap (λ (l : List ℕ). l ++ afterLines n bs) (f .is) ∙ append-assoc (sheetText p) rest (afterLines n bs) in
+          malformed-not-taken (sym e ∙ ap readFront is ∙ front-reads p (f .whole) (f .shown) (f .small) more)
+
+  pub first-none : readFront bs ≡ malformed → sheetOf bs ≡ refused Malformed
+  unfolding sheetOf frontLines readSet readingOf nothingAfter
+  first-none e = by-length (frontLines bs) (ap nothingAfter (lines-none e (sheetLines (tableAt bs))))
     where
       by-length : (l : List ℕ) → readSet l ≡ malformed → readSheet l ≡ refused Malformed
       by-length l m = elim (decLe (length l) mostBytes) [
@@ -140,30 +154,34 @@ module _ (bs : List ℕ) where
         | no k ↦ too-long l (omega arith)
       ]
 
-      go : (q : Parse Params) → setFront (firstLines sheetLines bs) ≡ q → setFront (firstLines sheetLines bs) ≡ malformed
-      go malformed h = h
-      go (taken p rest) h =
-          let f = front-read (firstLines sheetLines bs) p rest h in
-          let is : bs ≡ f .text ++ (rest ++ afterLines sheetLines bs) =
-          sym (lines-split sheetLines bs) ∙ ap (λ (l : List ℕ). l ++ afterLines sheetLines bs) (f .is)
-          ∙ append-assoc (f .text) rest (afterLines sheetLines bs) in
-          malformed-not-taken (sym e ∙ ap setFront is ∙ f .reads (rest ++ afterLines sheetLines bs))
+-- it ends within the bytes
+pub sheet-within : (bs : List ℕ) → sheetEnd bs ≤ length bs
+unfolding sheetEnd frontLines
+sheet-within bs = lines-within (sheetLines (tableAt bs)) bs
+
+-- how many lines, by the first one
+pub lilee-lines : (bs : List ℕ) → textAt bs 0 (tableText LiLee) ≡ true → sheetLines (tableAt bs) ≡ 372
+unfolding tableAt sheetLines
+lilee-lines bs f = rw (text-found bs 0 (tableText LiLee) f, tableAt)
+
+pub other-lines : (bs : List ℕ) → textAt bs 0 (tableText LiLee) ≡ false → sheetLines (tableAt bs) ≡ 370
+unfolding tableAt sheetLines
+other-lines bs m = rw (text-missing bs 0 (tableText LiLee) m, tableAt)
 
 -- ---- by what the code read
 
-module _ (bytes : List ℕ) (r : SetRead) (e : setRead bytes r ≡ setFront bytes) where
-  -- the first lines' sheet
-  pub first-reading : readingOf (cond (r .ok) (taken (r .set) []) malformed) ≡ readSheet (firstLines sheetLines bytes)
+module _ (bytes : List ℕ) (r : SetRead) (e : setRead bytes r ≡ readFront bytes) where
+  -- its reading
+  pub first-reading : readingOf (cond (r .ok) (taken (r .set) []) malformed) ≡ sheetOf bytes
   unfolding readingOf
   first-reading = go (r .ok) refl
     where
-      go : (b : Bool) → r .ok ≡ b
-          → readingOf (cond b (taken (r .set) []) malformed) ≡ readSheet (firstLines sheetLines bytes)
+      go : (b : Bool) → r .ok ≡ b → readingOf (cond b (taken (r .set) []) malformed) ≡ sheetOf bytes
       go true o = sym (first-read bytes (r .set) (drop (r .next) bytes) (sym e ∙ rw o))
       go false o = sym (first-none bytes (sym e ∙ rw o))
 
-  -- and how long they are
-  pub first-place : r .ok ≡ true → length (firstLines sheetLines bytes) + (length bytes - r .next) ≡ length bytes
+  -- and where it ends
+  pub first-place : r .ok ≡ true → sheetEnd bytes + (length bytes - r .next) ≡ length bytes
   first-place o =
-      ap (λ (n : ℕ). length (firstLines sheetLines bytes) + n) (sym (length-drop (r .next) bytes))
+      ap (λ (n : ℕ). sheetEnd bytes + n) (sym (length-drop (r .next) bytes))
       ∙ first-ends bytes (r .set) (drop (r .next) bytes) (sym e ∙ rw o)

@@ -1,31 +1,31 @@
 -- The sheet in the steps of the code: its length, its first two lines, its other lines to their end, and the limits.
 use mathlib.Core.Path.{_≡_, refl, sym, ap, _∙_}
-use Prim.Native.Nat.{ℕ, _≤_, _<_}
+use Prim.Native.Nat.{ℕ, _+_, _≤_, _<_}
 use native.Mathlib.Omega.{arith}
 use mathlib.Core.Bool.{Bool, true, false, cond}
-use mathlib.Core.List.{List, [], _∷_, _++_}
+use mathlib.Core.List.{List, []}
 use borrow.Author.Tests.{le-leb, lt-leb, leb-true, leb-false}
 use lib.Dec.{leb}
-use lib.IntN.{ℤ}
 use lib.ListN.{length, drop, drop-of-length-le}
 use lib.Seq.{drop-cons}
-use Rattle.text_tokens.specs.Text.{bytesOf, Parse, malformed, taken, takeText}
+use Rattle.text_tokens.specs.Text.{bytesOf, malformed, taken}
 use Rattle.text_tokens.specs.code.Places.{textAt}
-use Rattle.text_tokens.specs.laws.TextLaws.{text-found, text-missing, takeText-then, takeText-malformed}
+use Rattle.text_tokens.specs.laws.TextLaws.{text-found, text-missing}
 use Rattle.set_params.specs.declared.Params.{Params}
 use Rattle.set_refusal.specs.declared.Refusal.{Refusal}
 use Rattle.set_refusal.specs.declared.Refusal.the-variants.{Accepted, Malformed, OutOfLimits}
-use Rattle.set_params.specs.declared.Sex.{Sex}
+use Rattle.set_params.specs.declared.Table.{Table}
+use Rattle.set_params.specs.declared.Table.the-variants.{Ag2014, LiLee}
 use Rattle.set_params.specs.declared.Sex.the-variants.{M, F}
 use Rattle.set_refusal.specs.Refusals.{refusalNumber}
 use Rattle.set_params.specs.Set.{blank}
-use Rattle.set_params.specs.Limits.{inLimits}
-use Rattle.sheet.specs.Sheet.{mostBytes, headBytes, keys, headText, readLines, readHead, paramsOf, readSet}
+use Rattle.set_limits.specs.InLimits.{inLimits}
+use Rattle.sheet.specs.Sheet.{mostBytes, tableText, sexText, readEither, readTable, readSex, readFront, nothingAfter, readSet}
 use Rattle.sheet.specs.Sheet.{refused, readingOf, readSheet}
 use Rattle.sheet_set.specs.declared.SetRead.{SetRead}
 use Rattle.sheet_set.specs.code.Ages.{setRead}
 use Rattle.sheet_set.specs.code.SetLines.{fromLines}
-use Rattle.sheet_reader.specs.code.Read.{setFront, whole, atEnd, refusalOf}
+use Rattle.sheet_reader.specs.code.Read.{fromSex, atEnd, refusalOf}
 use Rattle.text_tokens.specs.laws.Steps.{goes, stops}
 
 -- ---- its length
@@ -40,91 +40,52 @@ not-too-long bs h = rw (le-leb (length bs) mostBytes h)
 
 -- ---- its first two lines
 
--- the set of the whole bytes is the one at their front, where nothing follows it
-pub front-whole : (bs : List ℕ) → readSet bs ≡ whole (setFront bs)
-unfolding readSet setFront fromLines whole
-front-whole bs = go (readHead bs)
-  where
-    lines : (sex : Sex) (q : Parse (List ℤ))
-        → _≡_ {A = Parse Params}
-        (elim q
-        [ malformed ↦ malformed | taken vs next ↦ elim next [ [] ↦ taken (paramsOf sex vs) [] | b ∷ more ↦ malformed ] ])
-        (whole (elim q [ malformed ↦ malformed | taken vs next ↦ taken (paramsOf sex vs) next ]))
-    lines sex malformed = refl
-    lines sex (taken vs []) = refl
-    lines sex (taken vs (b ∷ more)) = refl
+-- the one of two whose text is found at a place
+module _ {X : Type 0} (text : X → List ℕ) (x y : X) (bytes : List ℕ) (at : ℕ) where
+  pub either-first : textAt bytes at (text x) ≡ true
+      → readEither text x y (drop at bytes) ≡ taken x (drop (at + length (text x)) bytes)
+  unfolding readEither
+  either-first f = rw (text-found bytes at (text x) f, readEither)
 
-    go : (q : Parse Sex)
-        → _≡_ {A = Parse Params}
-        (elim q [
-          | malformed ↦ malformed
-          | taken sex rest ↦
-              elim (readLines keys rest)
-              [ malformed ↦ malformed | taken vs next ↦ elim next [ [] ↦ taken (paramsOf sex vs) [] | b ∷ more ↦ malformed ] ]
-        ])
-        (whole (elim q [
-          | malformed ↦ malformed
-          | taken sex rest ↦ elim (readLines keys rest) [ malformed ↦ malformed | taken vs next ↦ taken (paramsOf sex vs) next ]
-        ]))
-    go malformed = refl
-    go (taken sex rest) = lines sex (readLines keys rest)
+  module _ (n : textAt bytes at (text x) ≡ false) where
+    pub either-second : textAt bytes at (text y) ≡ true
+        → readEither text x y (drop at bytes) ≡ taken y (drop (at + length (text y)) bytes)
+    unfolding readEither
+    either-second f = rw (text-missing bytes at (text x) n, readEither) (rw (text-found bytes at (text y) f))
 
--- either sex's lines, or none
-module _ (bs : List ℕ) where
-  m-head : {rest : List ℕ} → takeText (headText M) bs ≡ taken tt rest → readHead bs ≡ taken M rest
-  unfolding readHead
-  m-head e = rw (e, readHead)
+    pub either-none : textAt bytes at (text y) ≡ false → readEither text x y (drop at bytes) ≡ malformed
+    unfolding readEither
+    either-none m = rw (text-missing bytes at (text x) n, readEither) (rw (text-missing bytes at (text y) m))
 
-  f-head : {rest : List ℕ} → takeText (headText M) bs ≡ malformed → takeText (headText F) bs ≡ taken tt rest
-      → readHead bs ≡ taken F rest
-  unfolding readHead
-  f-head d e = rw (d, readHead) (rw e)
+module _ (bytes : List ℕ) where
+  -- the first line: either table's, or none
+  pub table-ag2014 : textAt bytes 0 (tableText Ag2014) ≡ true → readFront bytes ≡ fromSex Ag2014 (drop 13 bytes)
+  unfolding readFront readTable tableText bytesOf fromSex fromLines
+  table-ag2014 f = goes _ (either-first tableText Ag2014 LiLee bytes 0 f)
 
-  no-head : takeText (headText M) bs ≡ malformed → takeText (headText F) bs ≡ malformed → readHead bs ≡ malformed
-  unfolding readHead
-  no-head d e = rw (d, readHead) (rw e)
+  module _ (n : textAt bytes 0 (tableText Ag2014) ≡ false) where
+    pub table-lilee : textAt bytes 0 (tableText LiLee) ≡ true → readFront bytes ≡ fromSex LiLee (drop 12 bytes)
+    unfolding readFront readTable tableText bytesOf fromSex fromLines
+    table-lilee f = goes _ (either-second tableText Ag2014 LiLee bytes 0 n f)
 
--- up to the sex they are the same
-abbrev pub sexText : List ℕ
-sexText = bytesOf "table=AG2014\nsex="
+    pub table-none : textAt bytes 0 (tableText LiLee) ≡ false → readFront bytes ≡ malformed
+    unfolding readFront readTable
+    table-none m = stops _ (either-none tableText Ag2014 LiLee bytes 0 n m)
 
-abbrev pub sexPlace : ℕ
-sexPlace = 17
+  -- the second: either sex's, or none
+  module _ (t : Table) (at : ℕ) where
+    pub sex-m : textAt bytes at (sexText M) ≡ true → fromSex t (drop at bytes) ≡ fromLines t M (drop (at + 6) bytes)
+    unfolding fromSex readSex sexText bytesOf
+    sex-m f = goes _ (either-first sexText M F bytes at f)
 
-module _ (bs : List ℕ) where
-  -- other first bytes are no sheet's
-  pub head-none : textAt bs 0 sexText ≡ false → setFront bs ≡ malformed
-  unfolding setFront readHead headText bytesOf
-  head-none h =
-      let e = text-missing bs 0 sexText h in
-      stops _ (no-head bs (takeText-malformed sexText (bytesOf "M\n") bs e) (takeText-malformed sexText (bytesOf "F\n") bs e))
+    module _ (n : textAt bytes at (sexText M) ≡ false) where
+      pub sex-f : textAt bytes at (sexText F) ≡ true → fromSex t (drop at bytes) ≡ fromLines t F (drop (at + 6) bytes)
+      unfolding fromSex readSex sexText bytesOf
+      sex-f f = goes _ (either-second sexText M F bytes at n f)
 
-  module _ (h : textAt bs 0 sexText ≡ true) where
-    -- what follows them decides
-    then-sex : (line : List ℕ) → takeText (sexText ++ line) bs ≡ takeText line (drop sexPlace bs)
-    unfolding bytesOf
-    then-sex line = takeText-then sexText line bs (text-found bs 0 sexText h)
-
-    pub head-m : textAt bs sexPlace (bytesOf "M\n") ≡ true → setFront bs ≡ fromLines M (drop headBytes bs)
-    unfolding setFront headText bytesOf
-    head-m m =
-        goes _
-        (m-head bs (then-sex (bytesOf "M\n") ∙ text-found bs sexPlace (bytesOf "M\n") m))
-
-    module _ (m : textAt bs sexPlace (bytesOf "M\n") ≡ false) where
-      not-m : takeText (headText M) bs ≡ malformed
-      unfolding headText bytesOf
-      not-m = then-sex (bytesOf "M\n") ∙ text-missing bs sexPlace (bytesOf "M\n") m
-
-      pub head-f : textAt bs sexPlace (bytesOf "F\n") ≡ true → setFront bs ≡ fromLines F (drop headBytes bs)
-      unfolding setFront headText bytesOf
-      head-f f =
-          goes _
-          (f-head bs not-m (then-sex (bytesOf "F\n") ∙ text-found bs sexPlace (bytesOf "F\n") f))
-
-      pub head-malformed : textAt bs sexPlace (bytesOf "F\n") ≡ false → setFront bs ≡ malformed
-      unfolding setFront headText bytesOf
-      head-malformed f = stops _ (no-head bs not-m (then-sex (bytesOf "F\n") ∙ text-missing bs sexPlace (bytesOf "F\n") f))
+      pub sex-none : textAt bytes at (sexText F) ≡ false → fromSex t (drop at bytes) ≡ malformed
+      unfolding fromSex readSex
+      sex-none m = stops _ (either-none sexText M F bytes at n m)
 
 -- ---- to the sheet's end
 
@@ -143,12 +104,12 @@ followed {next} {n} e h = rw (e, lt-leb n next h)
 
 module _ (bytes : List ℕ) (r : SetRead) where
   -- what the code read is the set, where it came to the sheet's end
-  whole-set : whole (setRead bytes r) ≡ cond (atEnd (r .ok) (r .next) (length bytes)) (taken (r .set) []) malformed
-  unfolding whole
+  whole-set : nothingAfter (setRead bytes r) ≡ cond (atEnd (r .ok) (r .next) (length bytes)) (taken (r .set) []) malformed
+  unfolding nothingAfter
   whole-set = go (r .ok) refl (leb (length bytes) (r .next)) refl
     where
       go : (b : Bool) → r .ok ≡ b → (c : Bool) → leb (length bytes) (r .next) ≡ c
-          → whole (setRead bytes r) ≡ cond (atEnd (r .ok) (r .next) (length bytes)) (taken (r .set) []) malformed
+          → nothingAfter (setRead bytes r) ≡ cond (atEnd (r .ok) (r .next) (length bytes)) (taken (r .set) []) malformed
       go false e c f = rw (unread (r .next) (length bytes) e, e)
       go true e true f =
           let h = leb-true (length bytes) (r .next) f in
@@ -197,8 +158,9 @@ module _ (w : Bool) (p : Params) {f : Refusal} (d : f ≡ refusalOf w (inLimits 
       go true false e h = absurd (omega arith)
       go false i e h = absurd (omega arith)
 
--- what was read at the front, readingOf where nothing follows it, is the sheet that the bytes are
-pub whole-reading : (bytes : List ℕ) (r : SetRead) → setRead bytes r ≡ setFront bytes → length bytes ≤ mostBytes
+-- what was read at the front, where nothing follows it, is the sheet that the bytes are
+pub whole-reading : (bytes : List ℕ) (r : SetRead) → setRead bytes r ≡ readFront bytes → length bytes ≤ mostBytes
     → readingOf (cond (atEnd (r .ok) (r .next) (length bytes)) (taken (r .set) []) malformed) ≡ readSheet bytes
+unfolding readSet
 whole-reading bytes r e h =
-    ap readingOf (sym (whole-set bytes r) ∙ ap whole e ∙ sym (front-whole bytes)) ∙ sym (not-too-long bytes h)
+    ap readingOf (sym (whole-set bytes r) ∙ ap nothingAfter e) ∙ sym (not-too-long bytes h)

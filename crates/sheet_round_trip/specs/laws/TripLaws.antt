@@ -17,9 +17,9 @@ use Rattle.sheet.specs.declared.Written.{Written}
 use Rattle.set_refusal.specs.Refusals.{refusalNumber}
 use Rattle.set_refusal.specs.laws.RefusalLaws.{accepted as is-accepted}
 use Rattle.set_params.specs.Set.{Whole}
-use Rattle.set_params.specs.Limits.{inLimits}
-use Rattle.sheet.specs.Sheet.{sheetText, headText, readHead, readSet, refused, readingOf, readSheet}
-use Rattle.sheet.specs.Sheet.{writeRefusal, writtenLength, writeAnswer, writtenBuffer}
+use Rattle.set_limits.specs.InLimits.{inLimits}
+use Rattle.sheet.specs.Sheet.{tableText, sheetText, readEither, readTable, readFront, nothingAfter, readSet, refused, readingOf}
+use Rattle.sheet.specs.Sheet.{readSheet, writeRefusal, writtenLength, writeAnswer, writtenBuffer}
 use Rattle.sheet_writer.specs.laws.Answers.{Answers}
 use Rattle.sheet.specs.laws.SheetTrip.{written-reads-back, read-writes-back}
 use Rattle.sheet_round_trip.specs.Trips.{accepted, readBack, copies, copied, copyRefusal, copyAnswer}
@@ -28,7 +28,7 @@ use Rattle.sheet_round_trip.specs.Trips.{accepted, readBack, copies, cop
 
 -- an empty input is malformed
 empty-malformed : readSheet [] ≡ refused Malformed
-unfolding readSheet readSet readHead headText bytesOf takeText readingOf
+unfolding readSheet readSet nothingAfter readFront readTable readEither tableText bytesOf takeText readingOf
 empty-malformed = refl
 
 -- what was written is within the buffer

@@ -22,9 +22,12 @@ run i vs n = forAges (λ (x : ℕ). getD vs (i + 4 * x) (pos 0) ∷ []) n
 unfoldable pub withRuns : Params → List ℤ → Params
 withRuns p vs =
     record {
+      table = p .table;
       sex = p .sex;
+      start = p .start;
       a = p .a;
       theta = p .theta;
+      c = p .c;
       period = p .period;
       kappa = p .kappa;
       level = run 0 vs ages;

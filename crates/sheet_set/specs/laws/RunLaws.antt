@@ -55,33 +55,25 @@ run-end {l} r = sym (take-all ages l (omega (arith, r .long))) ∙ r .front
 
 -- ---- the set
 
--- the first x ages are read, up to the place next: their values, and where the set has them
-pub record AgesRead (bs rest : List ℕ) (start : Params) (x : ℕ) (p : Params) : Type 0 where
+-- the first x ages are read, up to the place next: their values, and where the set has them, which else is as it was begun
+pub record AgesRead (bs rest : List ℕ) (begun : Params) (x : ℕ) (p : Params) : Type 0 where
   pub vs : List ℤ
   pub read : readLines (forAges ageKeys x) bs ≡ taken vs rest
   pub long : length vs ≡ 4 * x
-  pub sex : p .sex ≡ start .sex
-  pub a : p .a ≡ start .a
-  pub theta : p .theta ≡ start .theta
-  pub period : p .period ≡ start .period
-  pub kappa : p .kappa ≡ start .kappa
+  pub same : (us : List ℤ) → withRuns p us ≡ withRuns begun us
   pub level : Run (p .level) 0 vs x
   pub slope : Run (p .slope) 1 vs x
   pub alpha : Run (p .alpha) 2 vs x
   pub beta : Run (p .beta) 3 vs x
 
-pub ages-start : (bs : List ℕ) (start : Params) → Whole start → AgesRead bs bs start 0 start
+pub ages-start : (bs : List ℕ) (begun : Params) → Whole begun → AgesRead bs bs begun 0 begun
 unfolding readLines forAges
-ages-start bs start w =
+ages-start bs begun w =
     record {
       vs = [];
       read = refl;
       long = refl;
-      sex = refl;
-      a = refl;
-      theta = refl;
-      period = refl;
-      kappa = refl;
+      same = λ us. refl;
       level = run-start _ 0 [] (w .level);
       slope = run-start _ 1 [] (w .slope);
       alpha = run-start _ 2 [] (w .alpha);
@@ -92,9 +84,12 @@ ages-start bs start w =
 abbrev pub stored : Params → ℕ → ℤ → ℤ → ℤ → ℤ → Params
 stored p x v₀ v₁ v₂ v₃ =
     record {
+      table = p .table;
       sex = p .sex;
+      start = p .start;
       a = p .a;
       theta = p .theta;
+      c = p .c;
       period = p .period;
       kappa = p .kappa;
       level = set (p .level) x v₀;
@@ -103,19 +98,16 @@ stored p x v₀ v₁ v₂ v₃ =
       beta = set (p .beta) x v₃;
     }
 
-pub ages-next : {bs rest next : List ℕ} {start : Params} {x : ℕ} {p : Params} {v₀ v₁ v₂ v₃ : ℤ} → x < ages
-    → readLines (ageKeys x) rest ≡ taken (v₀ ∷ v₁ ∷ v₂ ∷ v₃ ∷ []) next → AgesRead bs rest start x p
-    → AgesRead bs next start (suc x) (stored p x v₀ v₁ v₂ v₃)
-ages-next {bs} {rest} {next} {start} {x} {p} {v₀} {v₁} {v₂} {v₃} h e f =
+pub ages-next : {bs rest next : List ℕ} {begun : Params} {x : ℕ} {p : Params} {v₀ v₁ v₂ v₃ : ℤ} → x < ages
+    → readLines (ageKeys x) rest ≡ taken (v₀ ∷ v₁ ∷ v₂ ∷ v₃ ∷ []) next → AgesRead bs rest begun x p
+    → AgesRead bs next begun (suc x) (stored p x v₀ v₁ v₂ v₃)
+unfolding withRuns
+ages-next {bs} {rest} {next} {begun} {x} {p} {v₀} {v₁} {v₂} {v₃} h e f =
     record {
       vs = f .vs ++ (v₀ ∷ v₁ ∷ v₂ ∷ v₃ ∷ []);
       read = rw (ages-suc ageKeys x) (lines-then (forAges ageKeys x) (ageKeys x) bs (f .read) ∙ ap (after (f .vs)) e);
       long = rw length-append (omega (arith, f .long));
-      sex = f .sex;
-      a = f .a;
-      theta = f .theta;
-      period = f .period;
-      kappa = f .kappa;
+      same = f .same;
       level = run-store {i = 0} (v₀ ∷ v₁ ∷ v₂ ∷ v₃ ∷ []) v₀ (omega arith) h (f .long) refl (f .level);
       slope = run-store {i = 1} (v₀ ∷ v₁ ∷ v₂ ∷ v₃ ∷ []) v₁ (omega arith) h (f .long) refl (f .slope);
       alpha = run-store {i = 2} (v₀ ∷ v₁ ∷ v₂ ∷ v₃ ∷ []) v₂ (omega arith) h (f .long) refl (f .alpha);
@@ -123,8 +115,8 @@ ages-next {bs} {rest} {next} {start} {x} {p} {v₀} {v₁} {v₂} {v₃} h e f =
     }
 
 -- an age's lines are malformed, so all are
-pub ages-malformed : {bs rest : List ℕ} {start : Params} {x : ℕ} {p : Params} → x < ages
-    → readLines (ageKeys x) rest ≡ malformed → AgesRead bs rest start x p → fromAges start bs ≡ malformed
+pub ages-malformed : {bs rest : List ℕ} {begun : Params} {x : ℕ} {p : Params} → x < ages
+    → readLines (ageKeys x) rest ≡ malformed → AgesRead bs rest begun x p → fromAges begun bs ≡ malformed
 unfolding fromAges
 ages-malformed {bs} {x} h e f =
     let t : readLines (forAges ageKeys x ++ ageKeys x) bs ≡ malformed =
@@ -133,21 +125,10 @@ ages-malformed {bs} {x} h e f =
     stops _ (rw k at (more-malformed ageKeys bs (ages - suc x) (suc x) (rw (ages-suc ageKeys x) t)))
 
 -- all are read
-runs-read : {bs rest : List ℕ} {start p : Params} (f : AgesRead bs rest start ages p) → withRuns start (f .vs) ≡ p
+runs-read : {bs rest : List ℕ} {begun p : Params} (f : AgesRead bs rest begun ages p) → withRuns p (f .vs) ≡ p
 unfolding withRuns
-runs-read f =
-    rw (
-      ← f .sex,
-      ← f .a,
-      ← f .theta,
-      ← f .period,
-      ← f .kappa,
-      ← run-end (f .level),
-      ← run-end (f .slope),
-      ← run-end (f .alpha),
-      ← run-end (f .beta),
-    )
+runs-read f = rw (← run-end (f .level), ← run-end (f .slope), ← run-end (f .alpha), ← run-end (f .beta))
 
-pub ages-end : {bs rest : List ℕ} {start p : Params} → AgesRead bs rest start ages p → fromAges start bs ≡ taken p rest
+pub ages-end : {bs rest : List ℕ} {begun p : Params} → AgesRead bs rest begun ages p → fromAges begun bs ≡ taken p rest
 unfolding fromAges
-ages-end {rest} f = goes _ (f .read) ∙ ap (λ (p : Params). taken p rest) (runs-read f)
+ages-end {rest} f = goes _ (f .read) ∙ ap (λ (p : Params). taken p rest) (sym (f .same (f .vs)) ∙ runs-read f)

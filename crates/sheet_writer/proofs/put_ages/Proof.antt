@@ -9,7 +9,7 @@ use native.Mathlib.Omega.{arith}
 use Rattle.set_params.specs.declared.Age.{Age}
 use Rattle.set_params.specs.Set.{ages, ageOf, four-age}
 use Rattle.set_params.specs.code.Within.{AgeWithin}
-use Rattle.set_params.specs.laws.LimitsLaws.{in-limits-age}
+use Rattle.set_limits.specs.laws.LimitsLaws.{in-limits-age}
 use Rattle.text_printing.specs.code.Put.{Room, Put}
 use Rattle.text_printing.specs.laws.PutLaws.{put-none, put-as, room-as, put-length, room-rest, put-join}
 use Rattle.sheet_length.specs.code.Parts.{ageText, agesText}

@@ -4,7 +4,7 @@ use mathlib.Core.Path.{_≡_, sym, _∙_}
 use mathlib.Core.Bool.{true}
 use native.Mathlib.Omega.{arith}
 use borrow.Author.Tests.{not-true, not-false}
-use Rattle.set_params.specs.Limits.{inLimits}
+use Rattle.set_limits.specs.InLimits.{inLimits}
 use Rattle.sheet_writer.specs.laws.Answers.{out-of-limits, short, accepted}
 use Rattle.sheet_writer.proofs.write.Statement.{statement}
 use Rattle.sheet_writer.proofs.write.Tie as tie

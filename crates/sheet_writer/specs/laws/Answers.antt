@@ -10,7 +10,7 @@ use Rattle.text_printing.specs.laws.OverwrittenLaws.{overwritten-front}
 use Rattle.set_params.specs.declared.Params.{Params}
 use Rattle.sheet.specs.declared.Written.{Written}
 use Rattle.set_refusal.specs.declared.Refusal.the-variants.{Accepted, OutOfLimits, BufferTooShort}
-use Rattle.set_params.specs.Limits.{inLimits}
+use Rattle.set_limits.specs.InLimits.{inLimits}
 use Rattle.sheet.specs.Sheet.{sheetText, writeRefusal, writtenLength, writeAnswer, writtenBuffer}
 use Rattle.text_printing.specs.code.Put.{Put}
 

@@ -1,0 +1,17 @@
+-- The lowest log force in range, and one below it, by computation. The papers' own rows are those of the crate `edges`.
+use mathlib.Core.Path.{_≡_, refl}
+use mathlib.Core.Bool.{true, false}
+use lib.IntN.{ℤ, pos, negℤ}
+use Rattle.number_whole.specs.declared.SignedEnds.{SignedEnds}
+use Rattle.model_log_force.specs.LogForce.{inRange}
+
+abbrev ends : ℤ → ℤ → SignedEnds
+ends l u = record { lower = l; upper = u }
+
+lower-in : inRange (ends (negℤ (pos 30000000000)) (negℤ (pos 700000000))) ≡ true
+unfolding inRange
+lower-in = refl
+
+lower-out : inRange (ends (negℤ (pos 30000000001)) (negℤ (pos 700000000))) ≡ false
+unfolding inRange
+lower-out = refl

@@ -1,0 +1,5 @@
+pub mod HoldsLaws
+pub mod WidthLaws
+pub mod BoundLaws
+pub mod RangeLaws
+pub mod YearLaws

@@ -1,5 +1,0 @@
-pub mod Series
-pub mod Exact
-pub mod code
-pub mod laws
-pub mod examples

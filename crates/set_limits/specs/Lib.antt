@@ -1,0 +1,2 @@
+pub mod InLimits
+pub mod laws

@@ -1,0 +1,32 @@
+-- The time series on the grid (paper 01, "The grid"; 02, E7; 001, section 2). Years are counted from the start year: year n is
+-- start + n.
+use Prim.Native.Nat.{ℕ, zero, suc}
+use lib.IntN.{ℤ, pos, _+ℤ_, _*ℤ_}
+use Rattle.number_whole.specs.declared.SignedEnds.{SignedEnds}
+use Rattle.number_whole.specs.SignedEnds.{leastProduct, greatestProduct, outward, shifted}
+use Rattle.set_params.specs.declared.Params.{Params}
+use Rattle.set_params.specs.declared.Dynamics.{Dynamics}
+use Rattle.set_params.specs.Set.{dynamicsOf}
+
+-- the unit of a, B and beta: 10^-8
+abbrev pub coefficientUnit : ℕ
+coefficientUnit = 100000000
+
+-- "K in year t is K + (t − 2013)·theta, exactly."
+unfoldable pub periodIn : ℤ → ℤ → ℕ → ℤ
+periodIn start theta n = start +ℤ pos n *ℤ theta
+
+abbrev pub periodIndex : Params → ℕ → ℤ
+periodIndex p n = periodIn (p .period) (p .theta) n
+
+-- "Kappa starts exact; each year it is multiplied by a and divided by 10^8, outward." A constant c, "added exactly after each
+-- year's product".
+unfoldable pub kappaStep : Dynamics → SignedEnds → SignedEnds
+kappaStep d e = shifted (d .c) (outward (leastProduct (d .a) e) (greatestProduct (d .a) e) coefficientUnit)
+
+unfoldable pub kappaIn : Dynamics → ℤ → ℕ → SignedEnds
+kappaIn d start zero = record { lower = start; upper = start }
+kappaIn d start (suc n) = kappaStep d (kappaIn d start n)
+
+abbrev pub kappa : Params → ℕ → SignedEnds
+kappa p n = kappaIn (dynamicsOf p) (p .kappa) n

@@ -1,0 +1,3 @@
+pub mod SeriesLaws
+pub mod WidthLaws
+pub mod BoundLaws
