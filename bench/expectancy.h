@@ -1,4 +1,5 @@
-/* Life expectancies worked by C and by Arb, annuities and survival to a day by C, at one age in year n, counted from the start. */
+/* Life expectancies worked by C and by Arb, annuities, survival to a day and expectancies of couples by C, at one age, or two, in
+   year n, counted from the start. */
 #ifndef EXPECTANCY_H
 #define EXPECTANCY_H
 #include "compilers.h"
@@ -23,6 +24,12 @@ annuity_in_c annuity_by_gcc, annuity_by_clang;
 /* The same of survival to a day along the cohort: whole years, and then days of a year that has so many. */
 typedef int day_in_c(const params *p, int age, unsigned n, int whole, unsigned days, unsigned of, uint64_t *ends);
 day_in_c day_by_gcc, day_by_clang;
+
+/* The same of the expectancy of a couple, two lives with a set and an age each and one start year, along the cohort. */
+enum status { JOINT_LIFE, LAST_SURVIVOR };
+typedef int couple_in_c(const params *p, const params *other, enum status status, int age, int other_age, unsigned n,
+    uint64_t *ends);
+couple_in_c couple_by_gcc, couple_by_clang;
 
 /* An expectancy by ball arithmetic at 64 bits: the middle, in years. */
 double expectancy_by_arb(const params *p, enum kind kind, int age, unsigned n);

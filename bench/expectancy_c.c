@@ -1,6 +1,7 @@
-/* An expectancy, an annuity and survival to a day on the grid in plain C: only the cells of the path, and the eleven H of a year
-   where an age above 90 needs them. A cohort steps K and kappa along; a period path works its closure once, and takes the forces
-   from 80 to 90 from it. Past 120 the cell of age 120 serves: of a cohort in each year, of a period once. */
+/* An expectancy, an annuity, survival to a day and the expectancy of a couple on the grid in plain C: only the cells of the path,
+   and the eleven H of a year where an age above 90 needs them. A cohort steps K and kappa along; a period path works its closure
+   once, and takes the forces from 80 to 90 from it. Past 120 the cell of age 120 serves: of a cohort in each year, of a period
+   once. The two lives of a couple are walked side by side. */
 #include "expectancy.h"
 #include "grid.h"
 
@@ -120,5 +121,32 @@ int COMPILED(day)(const params *p, int age, unsigned n, int whole, unsigned days
     if (days > 0 && !survive_part(p, age + whole, days, of, &at)) return 0;
     out[0] = at.alive.lower;
     out[1] = at.alive.upper;
+    return 1;
+}
+
+static inline ends against(ends chance) {
+    ends r = {UNIT - chance.upper, UNIT - chance.lower};
+    return r;
+}
+
+/* The chance that both live, or 1 less the product of the two death chances. */
+static inline ends status_chance(enum status status, ends one, ends other) {
+    if (status == LAST_SURVIVOR) one = against(one), other = against(other);
+    ends both = {one.lower * other.lower / UNIT, up(one.upper * other.upper, UNIT)};
+    return status == LAST_SURVIVOR ? against(both) : both;
+}
+
+int COMPILED(couple)(const params *p, const params *other, enum status status, int age, int other_age, unsigned n,
+    uint64_t *out) {
+    place one, two;
+    begin(p, COHORT, n, &one);
+    begin(other, COHORT, n, &two);
+    out[0] = out[1] = UNIT / 2;
+    for (int s = 0; s < years_on(n); s++) {
+        if (!survive(p, COHORT, age + s, &one) || !survive(other, COHORT, other_age + s, &two)) return 0;
+        ends chance = status_chance(status, one.alive, two.alive);
+        out[0] += chance.lower;
+        out[1] += chance.upper;
+    }
     return 1;
 }

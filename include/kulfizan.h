@@ -1,6 +1,6 @@
 /* Kulfizan for C: the AG2014 table, or a later fit of the same model, with the parameters of a sheet. A sheet read and written, a
-   query of it answered, an annuity of it priced, survival to a day by it, a published column checked by it, and the whole run of
-   an input. `make lib` writes libkulfizan.a and libkulfizan.so into target/lib.
+   query of it answered, an annuity of it priced, survival to a day by it, a query of a couple's two sheets answered, a published
+   column checked by a sheet, and the whole run of an input. `make lib` writes libkulfizan.a and libkulfizan.so into target/lib.
 
    A set is 372 numbers: the table (0 for AG2014, 1 for LILEE), the sex (0 for M, 1 for F), a, theta, K, k, the start year, the
    constant c, and then for ages 0 to 90 A, B, alpha, beta, in the sheet's units. A set of AG2014 has the start year 2013 and c 0;
@@ -13,7 +13,8 @@
    that take a sheet's bytes are as they were; a buffer for any sheet has KULFIZAN_LONGEST_SHEET bytes, 45 more than before.
 
    A call gives 0, or the number of its refusal and then leaves everything that it is lent as it was. The lowest number
-   that applies is given, where 8 comes after 5 and before 6, 9 after 2 and before 4, and 10 after 4 and before 5.
+   that applies is given, where 8 comes after 5 and before 6, 9 after 2 and before 4, 10 after 4 and before 5, and 11 after 2 and
+   before 3. Of a couple each number is tried on the first life, then on the second, before the next number.
 
    The caller sees to it that no pointer is null, also where its length is 0; that each points to as many elements as its
    length says; and that nothing that is written overlaps anything else that is lent. Nothing else is asked: each call
@@ -42,19 +43,20 @@
 /* The refusals, and none. */
 enum kulfizan_refusal {
     KULFIZAN_ACCEPTED = 0,
-    KULFIZAN_TORN = 1,         /* the sheet, the kind's word or the list of numbers breaks its form */
-    KULFIZAN_OFF_SCALE = 2,    /* a parameter, or K + 171*theta, is past its size, or kappa in some year from the start to
-                                  start + 171; the start year is outside 2013 to 2033; a set of AG2014 has another start than
-                                  2013 or another c than 0 */
-    KULFIZAN_NO_SUCH_AGE = 3,  /* the age is outside 0 to 120 */
-    KULFIZAN_NO_SUCH_YEAR = 4, /* the year is outside the kind's range, which counts from the set's start year */
-    KULFIZAN_NO_SUCH_SPAN = 5, /* the span is outside 0 to 121 - age; for q, expectancies and annuities, not 0; a date is
-                                  outside its term */
-    KULFIZAN_STEEP = 6,        /* a needed cell's log force leaves its range */
-    KULFIZAN_SHORT = 7,        /* what is lent has too little room */
-    KULFIZAN_NO_SUCH_RATE = 8, /* the rate is outside 0 to 200,000 */
-    KULFIZAN_TORN_COLUMN = 9,  /* the column breaks its form */
-    KULFIZAN_NO_SUCH_DATE = 10 /* the date is no day YYYYMMDD by the Gregorian rule, from the year 1000 to 9999 */
+    KULFIZAN_TORN = 1,          /* a sheet, the kind's word or the list of numbers breaks its form */
+    KULFIZAN_OFF_SCALE = 2,     /* a parameter, or K + 171*theta, is past its size, or kappa in some year from the start to
+                                   start + 171; the start year is outside 2013 to 2033; a set of AG2014 has another start than
+                                   2013 or another c than 0 */
+    KULFIZAN_NO_SUCH_AGE = 3,   /* an age is outside 0 to 120 */
+    KULFIZAN_NO_SUCH_YEAR = 4,  /* the year is outside the kind's range, which counts from the set's start year */
+    KULFIZAN_NO_SUCH_SPAN = 5,  /* the span is outside 0 to 121 - age; for q, expectancies and annuities, not 0; a date is
+                                   outside its term */
+    KULFIZAN_STEEP = 6,         /* a needed cell's log force leaves its range */
+    KULFIZAN_SHORT = 7,         /* what is lent has too little room */
+    KULFIZAN_NO_SUCH_RATE = 8,  /* the rate is outside 0 to 200,000 */
+    KULFIZAN_TORN_COLUMN = 9,   /* the column breaks its form */
+    KULFIZAN_NO_SUCH_DATE = 10, /* the date is no day YYYYMMDD by the Gregorian rule, from the year 1000 to 9999 */
+    KULFIZAN_STARTS_DIFFER = 11 /* the sheets of a couple have different start years */
 };
 
 /* The verdicts on a column. */
@@ -101,6 +103,17 @@ uint8_t kulfizan_annuity(const uint8_t *sheet, size_t sheet_length, const uint8_
    term, steep, and short where there are fewer than four numbers. */
 uint8_t kulfizan_day(const uint8_t *sheet, size_t sheet_length, int64_t age, int64_t year, int64_t date, uint64_t *quote,
                      size_t quote_length);
+
+/* Answers one query of a couple: two independent lives, each with its own sheet and age, along the cohort. The two sheets may be
+   the same one. The kind is one of the words joint and last, the chances that both live and that at least one lives after the
+   span, and ejoint and elast, the expectancies of these two states, with no byte after it. The sheets have one start year, and the
+   year is one from start + 1 to start + 51; the span is one from 0 to 121 less the higher of the two ages, and 0 for ejoint and
+   elast. The quote is as above, in steps of 0.00001, for ejoint and elast 0.1. Torn where a sheet or the kind is, off scale, starts
+   differ, no such age, year or span, steep, and short where there are fewer than four numbers. Where the first sheet is off scale
+   and the second torn, torn is given. */
+uint8_t kulfizan_couple(const uint8_t *sheet, size_t sheet_length, const uint8_t *other_sheet, size_t other_sheet_length,
+                        const uint8_t *kind, size_t kind_length, int64_t age, int64_t other_age, int64_t year, int64_t span,
+                        uint64_t *quote, size_t quote_length);
 
 /* Checks a column of q for one year that somebody published: 121 lines `age=0 q=0.00312`, each ended by a line feed, in any order,
    each age from 0 to 120 once. The verdict is wrong where some age with a printed figure here has another entry; else open, where

@@ -10,6 +10,9 @@ for F), a, theta, K, k, the start year and the constant c, and then for ages 0 t
 Years count from the start: a quote takes those from start + 1 to start + 51, q and a column those to start + 171. Earlier the list
 had 369 numbers, with neither table, start nor c.
 
+A couple is two lives, each with its own sheet and age; both sheets have one start year. Of a couple each refusal is tried on the
+first life, then on the second, before the next number: 1, 2, 11, 3, 4, 5, 6.
+
 A refused call raises `Refused`, which has the refusal's number: also where a number is past 64 bits, since out of the table is out
 of the table, however far.
 """
@@ -31,9 +34,9 @@ LONGEST_SHEET = 8_528
 LEAST, GREATEST = -(2**63), 2**63 - 1
 
 REFUSALS = {
-    1: "torn: the sheet, the kind's word or the list of numbers breaks its form",
+    1: "torn: a sheet, the kind's word or the list of numbers breaks its form",
     2: "off scale: a parameter, K + 171*theta or kappa is past its size, or the start year or c is none of the table's",
-    3: "no such age: the age is outside 0 to 120",
+    3: "no such age: an age is outside 0 to 120",
     4: "no such year: the year is outside the kind's range, which counts from the start year",
     5: "no such span: the span is outside 0 to 121 - age; for q, expectancies and annuities, not 0; a date is outside its term",
     6: "steep: a needed cell's log force leaves its range",
@@ -41,6 +44,7 @@ REFUSALS = {
     8: "no such rate: the rate is outside 0 to 200,000",
     9: "torn column: the column breaks its form",
     10: "no such date: the date is no day YYYYMMDD by the Gregorian rule, from the year 1000 to 9999",
+    11: "starts differ: the sheets of a couple have different start years",
 }
 
 VERDICTS = ("right", "wrong", "open")
@@ -78,9 +82,10 @@ def load(where):
     library.kulfizan_quote.argtypes = [data, size, data, size, *[signed] * 3, counts, size]
     library.kulfizan_annuity.argtypes = [data, size, data, size, *[signed] * 4, counts, size]
     library.kulfizan_day.argtypes = [data, size, *[signed] * 3, counts, size]
+    library.kulfizan_couple.argtypes = [*[data, size] * 3, *[signed] * 4, counts, size]
     library.kulfizan_verdict.argtypes = [data, size, signed, data, size, counts]
     library.kulfizan_run.argtypes = [data, size, ctypes.c_uint8, data, size, counts]
-    for name in ("read", "write", "quote", "annuity", "day", "verdict", "run"):
+    for name in ("read", "write", "quote", "annuity", "day", "couple", "verdict", "run"):
         getattr(library, f"kulfizan_{name}").restype = ctypes.c_uint8
     return library
 
@@ -147,6 +152,14 @@ def day(sheet, age, year, date):
     sheet = bytes(sheet)
     given, _ = signed((age, year, date))
     return quoted(LIBRARY.kulfizan_day, sheet, len(sheet), *given)
+
+
+def couple(sheet, other_sheet, kind, age, other_age, year, span=0):
+    """The quote of a query of two independent lives, along the cohort. The kind is "joint" or "last", the chance that both live or
+    that at least one lives after the span, or "ejoint" or "elast", the expectancy of that state."""
+    sheet, other_sheet, word = bytes(sheet), bytes(other_sheet), kind.encode()
+    given, _ = signed((age, other_age, year, span))
+    return quoted(LIBRARY.kulfizan_couple, sheet, len(sheet), other_sheet, len(other_sheet), word, len(word), *given)
 
 
 def verdict(sheet, year, column):

@@ -101,6 +101,14 @@ def day(library, sheet, age, year, date, before):
     return number, kept(values, before)
 
 
+def couple(library, sheet, other_sheet, word, *numbers, before):
+    """The number that a query of two lives gives, of two ages, a year and a span, and the numbers after it."""
+    values = held("Q", before)
+    lent = sheet, len(sheet), other_sheet, len(other_sheet), word, len(word)
+    number = library.kulfizan_couple(*lent, *numbers, values, len(before))
+    return number, kept(values, before)
+
+
 def verdict(library, sheet, year, column, before):
     """The number that a verdict on a column gives, and the verdict's own number after it."""
     told = held("Q", [before])

@@ -1,6 +1,7 @@
 """The library's calls from other languages: every answer to a query of a sheet, with a rate, a date or neither, against a second
-implementation, the refusal, both ends and the figure, with every number that was lent; the whole run of an input, with every
-byte that was lent; the Python module's own functions; and the example in C.
+implementation, the refusal, both ends and the figure, with every number that was lent; a couple's refusals that are decided by
+its sheets and its word; the whole run of an input, with every byte that was lent; the Python module's own functions; and the
+example in C.
 
 Sheets, sets and the two calls between them are tests/test_sheets.py, and which numbers are dates is tests/test_dates.py. An
 argument is taken as the seed.
@@ -23,7 +24,7 @@ import test_quotes
 from c_interface import GREATEST, LEAST, QUOTE_LENGTH, ROOT, SET_LENGTH, listed
 from grid import flat
 from quotes import ANNUITIES, DAY, KINDS, OPEN, UNRATED, Quotes, figure
-from reader import KEYS, LIMITS, LONGEST, SHORT, SIZES, TORN, Set, params_of, read, set_from
+from reader import KEYS, LIMITS, LONGEST, OFF_SCALE, SHORT, SIZES, TORN, Set, params_of, read, set_from
 
 SEED = 20142065
 PLACES = (QUOTE_LENGTH, QUOTE_LENGTH, QUOTE_LENGTH, QUOTE_LENGTH + 1, 9, QUOTE_LENGTH - 1, 2, 1, 0)
@@ -124,15 +125,15 @@ def met(count, counts):
 
 # ---- words that are no kind's
 
-def words(draw):
+def words(draw, kinds):
     """Starts of the kinds' words, the words with a byte before, after or changed, and bytes of any kind."""
-    for kind in KINDS:
+    for kind in kinds:
         word = kind.encode()
         yield from (word[:i] for i in range(len(word)))
         yield from (word + bytes([b]) for b in range(256))
         yield from (bytes([b]) + word for b in range(256))
         yield from (word[:i] + bytes([b]) + word[i + 1:] for i in range(len(word)) for b in range(256))
-        yield from (word + other.encode() for other in KINDS)
+        yield from (word + other.encode() for other in kinds)
         yield word.upper()
     for _ in range(200):
         yield draw.randbytes(draw.randrange(6))
@@ -143,7 +144,7 @@ def compare_words(count, draw, library):
     other way round, and `day` with either."""
     good = sheets.text(flat())
     off_scale = sheets.text(dict(flat(), a=SIZES["a"] + 1))
-    for word in [DAY.encode()] * 20 + list(words(draw)):
+    for word in [DAY.encode()] * 20 + list(words(draw, KINDS)):
         for kinds, rates in ((UNRATED, ()), (ANNUITIES, (0, 30_000, 200_001))):
             if word.decode("latin-1") in kinds:
                 continue
@@ -151,6 +152,60 @@ def compare_words(count, draw, library):
             before, rate = lent(draw, draw.choice(PLACES)), [draw.choice(rates)] if rates else []
             got = c_interface.quote(library, sheet, word, age, 2020, 0, *rate, before=before)
             count.take(got == (TORN, before), f"the kind {word}, rate {rate}: {got[0]}")
+
+
+# ---- couples
+
+COUPLES = ("joint", "last", "ejoint", "elast")
+STARTS_DIFFER = 11
+
+
+def sheets_refusal(sheet, other_sheet):
+    """The refusal of a couple's two sheets of different start years: each number is tried on the first, then on the second."""
+    given = read(sheet)[0], read(other_sheet)[0]
+    return next((no for no in (TORN, OFF_SCALE) if no in given), STARTS_DIFFER)
+
+
+def couple_sheets():
+    """Good, torn and off scale sheets of 2013, and such sheets of 2014 and 2033."""
+    off_scale = dict(flat(), a=SIZES["a"] + 1)
+    one = [sheets.text(flat()), sheets.text(flat())[:-1], b"", sheets.text(off_scale)]
+    other = [sheets.text(sheets.of_lilee(params, start)) for params in (flat(), off_scale) for start in (2014, 2033)]
+    return one, other + [other[0] + b"\n", other[0][:-1], b"\n"]
+
+
+def compare_couples(count, draw, module):
+    """Sheets that are refused, or whose start years differ, which comes before every age, year and span, either way round; and
+    words that are no couple's kind, which are torn whatever the sheets are."""
+    numbers = list(itertools.product((LEAST, -1, 0, 65, 121, GREATEST), AGES, YEARS, SPANS))
+    met = collections.Counter()
+    for pair in itertools.product(*couple_sheets()):
+        for sheet, other_sheet in (pair, pair[::-1]):
+            wanted = sheets_refusal(sheet, other_sheet)
+            met[wanted] += 1
+            for kind, places in itertools.product(COUPLES, (*PLACES, 4, 4)):
+                asked, before = draw.choice(numbers), lent(draw, places)
+                got = c_interface.couple(module.LIBRARY, sheet, other_sheet, kind.encode(), *asked, before=before)
+                count.take(got == (wanted, before), f"{kind} {asked}, {places} places: {got} and not {wanted}")
+            got = raised(module.couple, sheet, bytearray(other_sheet), "ejoint", 65, 62, 2020)
+            count.take(got == wanted, f"the module's couple gives {got} and not {wanted}")
+    count.take(set(met) == {TORN, OFF_SCALE, STARTS_DIFFER}, f"met are {met}")
+    good, late = sheets.text(flat()), sheets.text(sheets.of_lilee(flat(), 2033))
+    for word in [*(kind.encode() for kind in KINDS), *words(draw, COUPLES)]:
+        if word.decode("latin-1") in COUPLES:
+            continue
+        sheet, other_sheet = draw.choice(((good, good), (good, late), (couple_sheets()[0][3], late)))
+        before = lent(draw, draw.choice(PLACES))
+        got = c_interface.couple(module.LIBRARY, sheet, other_sheet, word, 65, 62, 2020, 0, before=before)
+        count.take(got == (TORN, before), f"the couple's kind {word}: {got[0]}")
+        got = c_interface.quote(module.LIBRARY, good, draw.choice(COUPLES).encode(), 65, 2020, 0, before=before)
+        count.take(got == (TORN, before), f"a couple's kind of one life: {got[0]}")
+    for far in (GREATEST + 1, 2**64 + 65, LEAST - 1):
+        got = raised(module.couple, good, late, "last", far, 62, far, far)
+        count.take(got == STARTS_DIFFER, f"a couple with the age {far}: {got}")
+    for wrong in (65.5, "65", None):
+        got = raised(module.couple, good, late, "last", 65, wrong, 2020, 20)
+        count.take(got == "TypeError", f"a couple with the age {wrong}: {got}")
 
 
 # ---- the whole run
@@ -278,7 +333,7 @@ def compare_module(count, draw, module):
     for wanted, call, *rest in refusals:
         got = raised(call, *rest)
         count.take(got == wanted, f"{call.__name__} {str(rest[-3:])[:60]}: {got} and not {wanted}")
-    for no, word in ((1, "torn"), (8, "rate"), (10, "date")):
+    for no, word in ((1, "torn"), (8, "rate"), (10, "date"), (STARTS_DIFFER, "starts differ")):
         count.take(word in str(module.Refused(no)), f"refusal {no} has no words")
 
 
@@ -346,6 +401,7 @@ def main():
             compare_queries(count, counts, draw, module.LIBRARY, one)
         met(count, counts)
         compare_words(count, draw, module.LIBRARY)
+        compare_couples(count, draw, module)
         compare_runs(count, draw, module)
         compare_module(count, draw, module)
         compare_places(count, module)

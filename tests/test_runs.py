@@ -1,5 +1,5 @@
 """The whole run of `quotes` and `ends`, byte for byte, against the second implementation in whole_run.py; and what README.md shows
-of these programs, of `compare` and of `verdict`.
+of these programs, of `compare`, of `couples` and of `verdict`.
 
 It runs both programs on some thousand inputs each: sheets that are whole, torn and off scale, queries of every kind, torn at
 every field and byte, inputs up to, at and past the longest, and any bytes; whole, in pieces, and with a reader that closes
@@ -20,6 +20,7 @@ import time
 import whole_run
 import programs
 import sheets
+from couples import COUPLES
 from grid import HIGHEST, flat
 from quotes import ANNUITIES, DAY, KINDS, OLDEST, UNRATED, years_of
 from reader import KEYS, LONGEST, SIZES
@@ -181,14 +182,15 @@ NUMBERS = (
 NAMES = (
     b"", b"Q", b"q ", b" q", b"qq", b"q\0", b"\0", b"c", b"co", b"cohh", b"COH", b"pe", b"perr", b"e", b"ec", b"eco", b"ecohh",
     b"ep", b"epe", b"eperr", b"eq", b"a", b"ac", b"aco", b"acohh", b"ap", b"ape", b"aperr", b"aecoh", b"d", b"da", b"dayy", b"Day",
-    b"per,coh", b"0", b"\xe9", b"q=", b"=q", b"q" * 300,
-    *[kind.encode() for kind in KINDS],
+    b"per,coh", b"0", b"\xe9", b"q=", b"=q", b"q" * 300, b"join", b"joints", b"Joint", b"ejoin", b"ejoints", b"las", b"lasts",
+    b"elas", b"elasts", *[kind.encode() for kind in KINDS + COUPLES],
 )
 WHOLE = (
     b"%b ", b" %b", b"%b\r", b"%b\t", b"%b\0", b"\0%b", b"%b fig=0.30780", b"%b span=0", b"%b x", b"kind=%b", b"#%b",
     b"\xef\xbb\xbf%b", b"%b rate=0", b"%b rate=", b"%b rate=-1 rate=0", b"%b date=20410315", b"%b date=",
+    b"%b age2=62",
 )
-KEYS_OF_QUERY = (b"kind", b"age", b"year", b"span", b"rate", b"date")
+KEYS_OF_QUERY = (b"kind", b"age", b"age2", b"year", b"span", b"rate", b"date")
 
 
 def joined(fields, between=b" ", equals=b"="):

@@ -32,16 +32,29 @@ QUERIES = (
 )
 
 
+COUPLE_QUERIES = (
+    b"kind=joint age=119 age2=118 year=2020 span=2\n", b"kind=last age=65 age2=119 year=2064 span=2\n",
+    b"kind=ejoint age=120 age2=119 year=2064 span=0\n", b"kind=elast age=119 age2=120 year=2064 span=0\n",
+    b"kind=last age=119 age2=65 year=2020 span=3\n", b"kind=joint age=65 age2=121 year=2020 span=0\n",
+)
+WITH_QUERIES = ("quotes", "ends", "compare", "couples")
+
+
 def head_of(name):
     """What stands before the queries of a program's input."""
-    return FLAT * 2 if name == "compare" else FLAT
+    return FLAT * 2 if name in ("compare", "couples") else FLAT
+
+
+def queries_of(name):
+    return COUPLE_QUERIES if name == "couples" else QUERIES
 
 
 def short_run(name):
     """An input with some lines of output, and one that is torn."""
     if name == "verdict":
         return (EXAMPLES / "women.sheet").read_bytes() + (EXAMPLES / "women-2020.column").read_bytes()
-    return head_of(name) + b"".join(QUERIES) + b"\n" + QUERIES[0]
+    queries = queries_of(name)
+    return head_of(name) + b"".join(queries) + b"\n" + queries[0]
 
 
 def line_feeds(name, size):
@@ -53,7 +66,7 @@ def line_feeds(name, size):
 def mixed(name, size):
     """So many bytes: queries among line feeds, and at the end a line without one."""
     body = head_of(name)
-    for query in itertools.cycle(QUERIES):
+    for query in itertools.cycle(queries_of(name)):
         if len(body) + len(query) + 400 > size:
             break
         body += query + b"\n" * 300
@@ -79,7 +92,7 @@ def run(name, **streams):
 # ---- long outputs
 
 def long_runs():
-    for name in ("quotes", "ends", "compare"):
+    for name in WITH_QUERIES:
         for make, size in itertools.product((line_feeds, mixed), (LONGEST - 1, LONGEST)):
             data = make(name, size)
             want, queries = whole_run.PROGRAMS[name](data), len(whole_run.lines_in(data)) - len(whole_run.lines_in(head_of(name)))
@@ -130,8 +143,9 @@ def failing():
 
 def heads():
     """The output into `head -n 1`: its line is the first, and all programs of the pipe end."""
-    for name in ("quotes", "ends", "compare"):
-        data = head_of(name) + QUERIES[0] + line_feeds(name, LONGEST)[len(head_of(name)) + len(QUERIES[0]) :]
+    for name in WITH_QUERIES:
+        start = head_of(name) + queries_of(name)[0]
+        data = start + line_feeds(name, LONGEST)[len(start) :]
         done = subprocess.run(["sh", "-c", '"$0" | head -n 1', programs.path(name)], input=data, check=False, timeout=PATIENCE,
                               stdout=subprocess.PIPE, stderr=subprocess.PIPE)
         first = whole_run.PROGRAMS[name](data).partition(b"\n")[0] + b"\n"

@@ -1,14 +1,16 @@
 """The whole run of the rate sheet's programs, from input bytes to output bytes, written from paper 01, "The quote program",
-and for annuities, survival to a day, sheets of the table LILEE and `verdict` from paper 02.
+and for annuities, survival to a day, sheets of the table LILEE, `verdict` and `couples` from paper 02.
 
 `quotes` echoes a query with its figure, `ends` with its two ends ahead of the figure. `compare` reads two sheets and echoes a
-query with the figure of each and what the two pairs of ends tell of the two values. `verdict` reads a sheet, a year and a
-column, and prints the verdict on the column.
+query with the figure of each and what the two pairs of ends tell of the two values. `couples` reads two sheets, a life's each,
+and echoes a query of both lives as `ends` does. `verdict` reads a sheet, a year and a column, and prints the verdict on the
+column.
 """
 import functools
 import re
 
 from columns import columns_of
+from couples import COUPLES, SINGLE, Couple
 from quotes import ANNUITIES, DAY, OPEN, TENTHS, UNRATED, Quotes, figure
 from reader import LONGEST, NUMBER, TORN, params_of, read
 
@@ -25,6 +27,7 @@ FORMS = (
     form(UNRATED, b"age", b"year", b"span"), form(ANNUITIES, b"age", b"year", b"span", b"rate"),
     form((DAY,), b"age", b"year", b"date"),
 )
+COUPLE_FORMS = (form(COUPLES, b"age", b"age2", b"year", b"span"),)
 
 
 def lines_in(data):
@@ -38,10 +41,10 @@ def parted(lines):
     return b"".join(lines[:count]), lines[count:]
 
 
-def query_of(line):
-    """The kind, age, year and span of a query line, or the date in the span's place, and an annuity's rate; None where it is
-    torn."""
-    got = next(filter(None, (one.fullmatch(line) for one in FORMS)), None)
+def query_of(line, forms=FORMS):
+    """The kind, age, year and span of a query line, or the date in the span's place, and an annuity's rate, or what else the
+    forms have; None where it is torn."""
+    got = next(filter(None, (one.fullmatch(line) for one in forms)), None)
     return (got[1].decode(), *map(int, got.groups()[1:])) if got else None
 
 
@@ -68,29 +71,32 @@ def echo(line):
     return line.decode().rstrip("\n")
 
 
+def answered(quotes, query):
+    """The refusal of a query, 0 where it is accepted, and its two ends."""
+    no = quotes.refusal(*query)
+    return (no, None) if no else (0, quotes.ends(*query))
+
+
+def shown(line, kind, answer, with_ends):
+    """A query line with its answer, with the step and decimals of a kind."""
+    no, ends = answer
+    if no:
+        return f"{echo(line)} {refused(no)}"
+    return echo(line) + (f" lo={ends[0]} hi={ends[1]}" if with_ends else "") + figure_field(kind, ends)
+
+
 class Sheet:
     """The answers over one sheet, each worked once."""
 
     def __init__(self, sheet):
         self.no, given = read(sheet)
         self.quotes = None if self.no else Quotes(params_of(given))
-        self.answer = functools.cache(self.answer)
-
-    def answer(self, query):
-        """The refusal of a query, 0 where it is accepted, and its two ends."""
-        no = self.quotes.refusal(*query)
-        return (no, None) if no else (0, self.quotes.ends(*query))
+        self.answer = functools.cache(functools.partial(answered, self.quotes))
 
     def printed(self, line, with_ends):
         """The line that is printed for a later line of the input."""
         query = query_of(line)
-        if query is None:
-            return refused(TORN)
-        no, ends = self.answer(query)
-        if no:
-            return f"{echo(line)} {refused(no)}"
-        shown = f" lo={ends[0]} hi={ends[1]}" if with_ends else ""
-        return echo(line) + shown + figure_field(query[0], ends)
+        return refused(TORN) if query is None else shown(line, query[0], self.answer(query), with_ends)
 
 
 sheet_of = functools.lru_cache(200)(Sheet)
@@ -146,17 +152,48 @@ def compared(first, second, line):
     return echo(line) + figure_field(query[0], ends) + figure_field(query[0], other_ends) + values(ends, other_ends)
 
 
+def two_sheets(data):
+    """The two sheets at the front of an input, and the lines after them."""
+    one, rest = parted(lines_in(data))
+    other, lines = parted(rest)
+    return sheet_of(one), sheet_of(other), lines
+
+
 def compare(data):
     """What `compare` prints for its whole input."""
     if len(data) > LONGEST:
         return text([refused(TORN)])
-    one, rest = parted(lines_in(data))
-    other, lines = parted(rest)
-    first, second = sheet_of(one), sheet_of(other)
+    first, second, lines = two_sheets(data)
     for number, sheet in ((1, first), (2, second)):
         if sheet.no:
             return text([f"sheet={number} {refused(sheet.no)}"])
     return text(compared(first, second, line) for line in lines)
+
+
+# ---- couples
+
+@functools.lru_cache(200)
+def couple_of(first, second):
+    """The answers over two sheets, each worked once."""
+    return functools.cache(functools.partial(answered, Couple(first.quotes, second.quotes)))
+
+
+def of_couple(answer, line):
+    """The line that is printed for a line after a couple's two sheets."""
+    query = query_of(line, COUPLE_FORMS)
+    return refused(TORN) if query is None else shown(line, SINGLE[query[0]], answer(query), with_ends=True)
+
+
+def couples(data):
+    """What `couples` prints for its whole input: of two refused sheets the lower number is given, of equal ones the first's."""
+    if len(data) > LONGEST:
+        return text([refused(TORN)])
+    first, second, lines = two_sheets(data)
+    refusals = [(sheet.no, number) for number, sheet in ((1, first), (2, second)) if sheet.no]
+    if refusals:
+        no, number = min(refusals)
+        return text([f"sheet={number} {refused(no)}"])
+    return text(of_couple(couple_of(first, second), line) for line in lines)
 
 
 # ---- a published column
@@ -178,4 +215,4 @@ def verdict(data):
 
 
 ONE_SHEET = {"quotes": quotes, "ends": ends}
-PROGRAMS = ONE_SHEET | {"compare": compare, "verdict": verdict}
+PROGRAMS = ONE_SHEET | {"compare": compare, "couples": couples, "verdict": verdict}

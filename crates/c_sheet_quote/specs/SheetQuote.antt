@@ -18,13 +18,13 @@ use Rattle.quote_along.specs.declared.Answer.{Answer}
 use Rattle.quote_along.specs.declared.Answer.the-variants.{Quoted, Refused}
 use Rattle.quote.specs.Quote.{answerOf}
 use Rattle.quote_kinds.specs.Kinds.{ruleOf, takesRate, withRate}
-use Rattle.run_query.specs.Query.{onOffer, readWord, alone}
+use Rattle.run_query.specs.Query.{wordOf, onOffer, wholeWord}
 
 -- ---- the kind
 
 -- the kind of a word, rates aside, and malformed where the word is no kind's or goes on
 unfoldable pub wordKind : List ℕ → Parse Kind
-wordKind word = andThen (readWord onOffer word) (λ kind rest. alone kind rest)
+wordKind word = wholeWord wordOf onOffer word
 
 -- as in a query line, an annuity's word without a rate and another kind's with one are malformed, and so is the word of a kind
 -- whose term is a date where a span is given. The kind of a word with a span and no rate, and with a rate

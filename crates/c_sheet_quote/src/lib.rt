@@ -121,7 +121,7 @@ fn put_quote(numbers: &mut [u64], quote: Quote) -> u8
 }
 
 // Puts an answer into the first four numbers: the refusal's number, or 0; refused, every number stays as it was.
-fn put_answer(numbers: &mut [u64], answer: Answer) -> u8
+pub fn put_answer(numbers: &mut [u64], answer: Answer) -> u8
     ensures { λ r. ⌜ r ≡ quoteNo answer (length (now (numbers .entry))) ⌝ }
     ensures { λ r. ⌜ now (numbers .exit) ≡ quoteAfter answer (now (numbers .entry)) ⌝ }
 {

@@ -1,5 +1,6 @@
 // The C interface, for programs in other languages: a sheet read into numbers, numbers written as a sheet, a query of a
-// sheet answered, with a rate, a date or neither, the verdict on a published column, and the whole run of an input.
+// sheet answered, with a rate, a date or neither, a query of a couple's two sheets, the verdict on a published column, and the
+// whole run of an input.
 ghost use mathlib.Core.Path.{_≡_};
 ghost use mathlib.Core.List.{[]};
 ghost use lib.ListN.{length};
@@ -7,6 +8,7 @@ ghost use Rattle.text_tokens.specs.Text.{taken};
 ghost use Rattle.quote_kinds.specs.declared.Kind.the-variants.{Day};
 ghost use Rattle.c_set_numbers.specs.SetNumbers.{readNo, numbersAfter, writeNo, bufferAfter, lengthAfter};
 ghost use Rattle.c_sheet_quote.specs.SheetQuote.{kindOf, ratedKindOf, sheetAnswer, quoteNo, quoteAfter};
+ghost use Rattle.c_couple_quote.specs.SheetsCouple.{coupleKindOf, sheetsAnswer};
 ghost use Rattle.run_column_verdict.specs.SheetVerdict.{sheetVerdict, verdictNo, verdictAfter};
 ghost use Rattle.kulfizan.specs.Run.{runNo, runBuffer, runLength};
 use run::Program;
@@ -90,6 +92,30 @@ pub extern "C" fn kulfizan_day(
         (now (quote .entry)) ⌝ }
 {
     c_sheet_quote::day_into(sheet, age, year, date, quote)
+}
+
+// The same of a couple: two lives, each with its own sheet and age, the year and the span in common.
+#[no_mangle]
+pub extern "C" fn kulfizan_couple(
+    first: &[u8],
+    second: &[u8],
+    kind: &[u8],
+    age: i64,
+    other: i64,
+    year: i64,
+    span: i64,
+    quote: &mut [u64],
+) -> u8
+    ensures { λ r. ⌜ r ≡ quoteNo
+        (sheetsAnswer (now (first .entry)) (now (second .entry)) (coupleKindOf (now (kind .entry)))
+        age other year span)
+        (length (now (quote .entry))) ⌝ }
+    ensures { λ r. ⌜ now (quote .exit) ≡ quoteAfter
+        (sheetsAnswer (now (first .entry)) (now (second .entry)) (coupleKindOf (now (kind .entry)))
+        age other year span)
+        (now (quote .entry)) ⌝ }
+{
+    c_couple_quote::couple_into(first, second, kind, age, other, year, span, quote)
 }
 
 // Checks a published column of q for one year by a sheet: the number is then 0 for right, 1 for wrong and 2 for open. The refusal's

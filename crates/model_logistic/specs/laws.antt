@@ -1,3 +1,4 @@
+pub mod SignedUnits
 pub mod WidthFacts
 pub mod Sizes
 pub mod AtMostOne

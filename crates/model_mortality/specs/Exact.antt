@@ -5,7 +5,7 @@ use mathlib.Core.Bool.{cond}
 use mathlib.Core.List.{List}
 use lib.Dec.{ltb, lit<}
 use Rattle.number_whole.specs.Listed.{listed}
-use Rattle.number_fraction.specs.Ratio.{Ratio, _*/_, complement}
+use Rattle.number_fraction.specs.Ratio.{Ratio, _*/_}
 use Rattle.number_fraction.specs.Bracket.{Bracket}
 use Rattle.number_fraction.specs.Fraction.{Fraction, _+ℚ_, quotientℚ, signed, absolute}
 use Rattle.number_taylor.specs.Order.{orderLower, orderUpper}
@@ -16,7 +16,6 @@ use Rattle.model_closure.specs.Weights.{fitted, firstFitted, firstClosed}
 use Rattle.model_logistic.specs.Units.{Interval}
 use Rattle.model_logistic.specs.Exact.{orderLogisticLower, orderLogisticUpper}
 use Rattle.model_closure.specs.Exact.{exactClosedSum}
-use Rattle.model_mortality.specs.Cell.{wholeYear}
 
 -- the parameters' unit, 10^-9
 abbrev pub sheetUnit : ℕ
@@ -59,8 +58,3 @@ unfoldable pub orderSurvival : Params → ℕ → ℕ → Ratio → ℕ → Brac
 orderSurvival p x n part j =
     let f = orderForceOver part (orderForce p x n j) in
     record { least = orderLower (f .most) j; most = orderUpper (f .least) j }
-
-unfoldable pub orderDeath : Params → ℕ → ℕ → ℕ → Bracket
-orderDeath p x n j =
-    let s = orderSurvival p x n wholeYear j in
-    record { least = complement (s .most); most = complement (s .least) }

@@ -1,3 +1,4 @@
+pub mod OrderDeath
 pub mod Facts
 pub mod Answered
 pub mod Needed

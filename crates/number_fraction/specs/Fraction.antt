@@ -2,10 +2,9 @@
 -- multiplication, and nothing is ever reduced.
 use Prim.Native.Nat.{ℕ, _*_, _<_}
 use native.Mathlib.Nat.{mul-pos}
-use mathlib.Core.List.{List, [], _∷_}
 use lib.Dec.{lit<}
-use lib.IntN.{ℤ, pos, negℤ, natAbs, _+ℤ_, _-ℤ_, _*ℤ_}
-use lib.Signed.{_≤ℤ_, _<ℤ_}
+use lib.IntN.{ℤ, pos, natAbs, _+ℤ_, _-ℤ_, _*ℤ_}
+use lib.Signed.{_≤ℤ_}
 use Rattle.number_fraction.specs.Ratio.{Ratio}
 
 pub record Fraction : Type 0 where
@@ -17,17 +16,6 @@ pub record Fraction : Type 0 where
 infix 50 _≤ℚ_
 pub record _≤ℚ_ (x y : Fraction) : Type 0 where
   pub cross : (x .num *ℤ pos (y .den)) ≤ℤ (y .num *ℤ pos (x .den))
-
--- x is less than y
-infix 50 _<ℚ_
-pub record _<ℚ_ (x y : Fraction) : Type 0 where
-  pub cross : (x .num *ℤ pos (y .den)) <ℤ (y .num *ℤ pos (x .den))
-
--- x and y are the same number: each is at most the other
-infix 50 _≈ℚ_
-pub record _≈ℚ_ (x y : Fraction) : Type 0 where
-  pub below : x ≤ℚ y
-  pub above : y ≤ℚ x
 
 -- the whole number z, over 1
 unfoldable pub wholeℚ : ℤ → Fraction
@@ -49,10 +37,6 @@ x +ℚ y = record {
   den = x .den * y .den;
   positive = mul-pos (x .positive) (y .positive);
 }
-
--- −(a/b) = (−a)/b
-unfoldable pub negℚ : Fraction → Fraction
-negℚ x = record { num = negℤ (x .num); den = x .den; positive = x .positive }
 
 -- a/b − c/d = (a·d − c·b)/(b·d)
 infixl 60 _-ℚ_
@@ -83,16 +67,3 @@ quotientℚ x k h = record {
   den = x .den * k;
   positive = mul-pos (x .positive) h;
 }
-
--- a/b divided by c/d, for c positive: (a·d)/(b·c)
-unfoldable pub divideℚ : Fraction → (y : Ratio) → 0 < y .num → Fraction
-divideℚ x y h = record {
-  num = x .num *ℤ pos (y .den);
-  den = x .den * y .num;
-  positive = mul-pos (x .positive) h;
-}
-
--- the sum of a list
-unfoldable pub sumℚ : List Fraction → Fraction
-sumℚ [] = wholeℚ (pos 0)
-sumℚ (x ∷ xs) = x +ℚ sumℚ xs

@@ -2,7 +2,6 @@
 -- cross multiplication, and nothing is ever reduced. Every value from the first exponential on is of this kind.
 use Prim.Native.Nat.{ℕ, _+_, _-_, _*_, _≤_, _<_}
 use native.Mathlib.Nat.{mul-pos}
-use mathlib.Core.List.{List, [], _∷_}
 use lib.Dec.{lit<}
 
 pub record Ratio : Type 0 where
@@ -19,12 +18,6 @@ pub record _≤/_ (x y : Ratio) : Type 0 where
 infix 50 _</_
 pub record _</_ (x y : Ratio) : Type 0 where
   pub cross : x .num * y .den < y .num * x .den
-
--- x and y are the same number: each is at most the other
-infix 50 _≈/_
-pub record _≈/_ (x y : Ratio) : Type 0 where
-  pub below : x ≤/ y
-  pub above : y ≤/ x
 
 -- the whole number n, over 1
 unfoldable pub whole/ : ℕ → Ratio
@@ -56,15 +49,6 @@ quotient/ x k h = record {
   positive = mul-pos (x .positive) h;
 }
 
--- 1 over a/b, for a positive: b/a
-unfoldable pub reciprocal : (x : Ratio) → 0 < x .num → Ratio
-reciprocal x h = record { num = x .den; den = x .num; positive = h }
-
 -- 1 − a/b, for a/b at most 1: (b − a)/b
 unfoldable pub complement : Ratio → Ratio
 complement x = record { num = x .den - x .num; den = x .den; positive = x .positive }
-
--- the sum of a list
-unfoldable pub sum/ : List Ratio → Ratio
-sum/ [] = whole/ 0
-sum/ (x ∷ xs) = x +/ sum/ xs

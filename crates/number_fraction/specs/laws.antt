@@ -1,3 +1,5 @@
+pub mod RatioTerms
+pub mod FractionTerms
 pub mod RatioLaws
 pub mod Room
 pub mod Multiples

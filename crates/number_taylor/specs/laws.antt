@@ -1,3 +1,4 @@
+pub mod AlternatingSums
 pub mod Meaning
 pub mod Cross
 pub mod Sums

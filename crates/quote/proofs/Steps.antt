@@ -49,12 +49,12 @@ append-by : (b : Bool) (r : Refusal) {s t : Refusal} → (cond b s r ≡ Accepte
 append-by true r n h = h n
 append-by false r n h = refl
 
-failed-append : (ts us : List Test) → (firstFailed ts ≡ Accepted → ⊥) → firstFailed (ts ++ us) ≡ firstFailed ts
+pub failed-append : (ts us : List Test) → (firstFailed ts ≡ Accepted → ⊥) → firstFailed (ts ++ us) ≡ firstFailed ts
 unfolding firstFailed
 failed-append [] us n = absurd (n refl)
 failed-append (t ∷ ts) us n = append-by (t .passed) (t .refusal) n (failed-append ts us)
 
-first-passed : (t : Test) (ts : List Test) → T (t .passed) → firstFailed (t ∷ ts) ≡ firstFailed ts
+pub first-passed : (t : Test) (ts : List Test) → T (t .passed) → firstFailed (t ∷ ts) ≡ firstFailed ts
 unfolding firstFailed
 first-passed t ts h = rw (is-true (t .passed) h)
 
@@ -113,7 +113,7 @@ pub met : {p : Params} {k : Kind} {age year term : ℤ} {a : Answer} → a ≡ a
 met {p} {k} {age} {year} {term} e = (e, rw e (demand-met p k age year term))
 
 -- an answer that the table refuses
-number-none : refusalNumber Accepted ≡ 0
+pub number-none : refusalNumber Accepted ≡ 0
 unfolding refusalNumber
 number-none = refl
 

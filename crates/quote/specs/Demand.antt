@@ -5,11 +5,13 @@ use Prim.Native.Nat.{ℕ, _+_, _≤_}
 use lib.IntN.{ℤ, natAbs}
 use Rattle.number_exponential.specs.Billionths.{billionths}
 use Rattle.number_exponential.specs.Grid.{inUnits}
+use Rattle.number_exponential.specs.declared.Ends.{Ends}
 use Rattle.set_params.specs.declared.Params.{Params}
+use Rattle.set_refusal.specs.declared.Refusal.{Refusal}
 use Rattle.set_refusal.specs.Refusals.{refusalNumber}
 use Rattle.number_exact.specs.declared.Figure.{Figure}
 use Rattle.number_exact.specs.declared.Figure.the-variants.{Printed, Open}
-use Rattle.number_exact.specs.Value.{AtLeast, AtMost, RoundsTo, OneStep, Narrows, Agrees}
+use Rattle.number_exact.specs.Value.{Exact, AtLeast, AtMost, RoundsTo, OneStep, Narrows, Agrees}
 use Rattle.number_exact.specs.Figure.{halfUp}
 use Rattle.quote_kinds.specs.declared.Kind.{Kind}
 use Rattle.quote_kinds.specs.Kinds.{OneKind, ruleOf, stepOf, widthOf, spanOf}
@@ -45,37 +47,54 @@ unfoldable pub figureShown : Answer → Shown
 figureShown (Quoted q) = shownOf (q .figure)
 figureShown (Refused r) = noFigure
 
+-- ---- what is promised of an answer
+
+-- of an accepted quote, by its ends e on the grid, its exact value x, the units s in a step of its figure, and how far apart its
+-- ends may lie, w: the ends are the grid's; the exact value is at least the lower one and at most the upper one, which lie no
+-- further apart than w; its brackets are those of one number, since any two agree and they narrow past any whole fraction; and
+-- the figure is open exactly when the two ends round half up to different steps
+pub record KeptBy (e : Ends) (x : Exact) (s w : ℕ) (a : Answer) : Type 0 where
+  pub of-grid : (lowerOf a ≡ e .lower) × (upperOf a ≡ e .upper)
+  pub at-least : AtLeast x (inUnits billionths (lowerOf a))
+  pub at-most : AtMost x (inUnits billionths (upperOf a))
+  pub width : upperOf a ≤ lowerOf a + w
+  pub agrees : Agrees x
+  pub narrows : Narrows x
+  pub open-when : (figureShown a ≡ markedOpen) ↔ (halfUp s (lowerOf a) ≡ halfUp s (upperOf a) → ⊥)
+
+-- of any answer: it has the number of its refusal r, and 0 where it is accepted; refused, it has ends 0 and 0 and no figure;
+-- accepted, it is kept; and a printed figure is the exact value rounded half up
+pub record Promised (r : Refusal) (e : Ends) (x : Exact) (s w : ℕ) (a : Answer) : Type 0 where
+  pub number : numberOf a ≡ refusalNumber r
+  pub refused : (numberOf a ≡ 0 → ⊥) → (lowerOf a ≡ 0) × (upperOf a ≡ 0) × (figureShown a ≡ noFigure)
+  pub kept : numberOf a ≡ 0 → KeptBy e x s w a
+  pub rounds : (n : ℕ) → figureShown a ≡ printed n → RoundsTo billionths s n x
+
 -- ---- demand 3
 
 -- units in a step of the kind's figures
 abbrev pub step : Kind → ℕ
 step kind = stepOf (ruleOf kind .fold)
 
+-- how far apart the ends of a query may lie
+abbrev pub queryWidth : Kind → ℤ → ℤ → ℤ → ℕ
+queryWidth kind age year term = widthOf (ruleOf kind) (natAbs age) (natAbs (spanOf (ruleOf kind) year term))
+
 -- the exact value of a query rounds to n steps
 abbrev pub RoundsAt : Params → Kind → ℤ → ℤ → ℤ → ℕ → Type 0
 RoundsAt p kind age year term n = RoundsTo billionths (step kind) n (exactQuery p kind age year term)
 
--- of an accepted quote: the ends are the grid's; the exact value is at least the lower one and at most the upper one, which
--- lie no further apart than the kind allows; its brackets are those of one number, since any two agree and they narrow past any
--- whole fraction; and the figure is open exactly when the two ends round half up to different steps
-pub record Kept (p : Params) (kind : Kind) (age year term : ℤ) (a : Answer) : Type 0 where
-  pub of-grid : (lowerOf a ≡ queryEnds p kind age year term .lower) × (upperOf a ≡ queryEnds p kind age year term .upper)
-  pub at-least : AtLeast (exactQuery p kind age year term) (inUnits billionths (lowerOf a))
-  pub at-most : AtMost (exactQuery p kind age year term) (inUnits billionths (upperOf a))
-  pub width : upperOf a ≤ lowerOf a + widthOf (ruleOf kind) (natAbs age) (natAbs (spanOf (ruleOf kind) year term))
-  pub agrees : Agrees (exactQuery p kind age year term)
-  pub narrows : Narrows (exactQuery p kind age year term)
-  pub open-when : (figureShown a ≡ markedOpen) ↔ (halfUp (step kind) (lowerOf a) ≡ halfUp (step kind) (upperOf a) → ⊥)
+-- an accepted query is kept
+abbrev pub Kept : Params → Kind → ℤ → ℤ → ℤ → Answer → Type 0
+Kept p kind age year term a =
+    KeptBy (queryEnds p kind age year term) (exactQuery p kind age year term) (step kind) (queryWidth kind age year term) a
 
--- "Demand 3 is one claim over any two accepted quotes of one kind": a has the number of its refusal, and 0 where it is
--- accepted; refused, it has ends 0 and 0 and no figure; accepted, it is kept; a printed figure is the exact value rounded half
--- up; and of any second quote of the kind that is printed, whichever its set, age, year, term and rate, the figures are equal
--- exactly when the two exact values round to one same step
+-- "Demand 3 is one claim over any two accepted quotes of one kind": what is promised of a by itself, and of any second quote of
+-- the kind that is printed, whichever its set, age, year, term and rate, the figures are equal exactly when the two exact values
+-- round to one same step
 pub record Demand3 (p : Params) (kind : Kind) (age year term : ℤ) (a : Answer) : Type 0 where
-  pub number : numberOf a ≡ refusalNumber (refusalOf p kind age year term)
-  pub refused : (numberOf a ≡ 0 → ⊥) → (lowerOf a ≡ 0) × (upperOf a ≡ 0) × (figureShown a ≡ noFigure)
-  pub kept : numberOf a ≡ 0 → Kept p kind age year term a
-  pub rounds : (n : ℕ) → figureShown a ≡ printed n → RoundsAt p kind age year term n
+  pub alone : Promised (refusalOf p kind age year term) (queryEnds p kind age year term) (exactQuery p kind age year term)
+      (step kind) (queryWidth kind age year term) a
   pub one-step : (n : ℕ) → figureShown a ≡ printed n
       → (p′ : Params) (kind′ : Kind) (age′ year′ term′ : ℤ) (n′ : ℕ) → OneKind kind kind′
       → figureShown (answerOf p′ kind′ age′ year′ term′) ≡ printed n′

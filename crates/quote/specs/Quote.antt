@@ -2,7 +2,7 @@
 -- that takes a rate has it. The term is a span, or of the kind `day` a date.
 use mathlib.Core.Bool.{cond}
 use mathlib.Core.List.{List, [], _∷_, _++_}
-use Prim.Native.Nat.{_+_}
+use Prim.Native.Nat.{ℕ, _+_}
 use lib.Dec.{eqb}
 use lib.IntN.{ℤ, natAbs}
 use Rattle.number_exponential.specs.declared.Ends.{Ends}
@@ -49,10 +49,12 @@ refusalOf p kind age year term =
     (record { passed = inLimits p; refusal = OutOfLimits } ∷ tableTests (p .start) (ruleOf kind) age year term
     ++ (record { passed = pathInRange p (queryPath (p .start) kind age year term); refusal = LogForceOutOfRange } ∷ []))
 
+-- the quote of two ends, with its figure in steps of so many units
+abbrev pub quoteBy : ℕ → Ends → Quote
+quoteBy s e = record { lower = e .lower; upper = e .upper; figure = figureOf s e }
+
 unfoldable pub quoteOf : Params → Kind → ℤ → ℤ → ℤ → Quote
-quoteOf p kind age year term =
-    let e = queryEnds p kind age year term in
-    record { lower = e .lower; upper = e .upper; figure = figureOf (stepOf (ruleOf kind .fold)) e }
+quoteOf p kind age year term = quoteBy (stepOf (ruleOf kind .fold)) (queryEnds p kind age year term)
 
 -- a quote where nothing is refused
 unfoldable pub answerBy : Refusal → Quote → Answer

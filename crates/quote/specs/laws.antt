@@ -1,4 +1,5 @@
 pub mod AnswerLaws
+pub mod Promises
 pub mod Tests
 pub mod Theorem
 pub mod NoInterest

@@ -3,13 +3,35 @@
 ghost use mathlib.Core.Path.{_≡_};
 ghost use lib.Dec.{T};
 ghost use Rattle.set_limits.specs.InLimits.{inLimits};
+ghost use Rattle.set_params.specs.code.Within.{StartWithin};
+ghost use Rattle.set_refusal.specs.declared.Refusal.the-variants.{Accepted};
+ghost use Rattle.quote_kinds.specs.Kinds.{ruleOf};
+ghost use Rattle.quote_table_tests.specs.TableTests.{firstFailed, tableTests};
 ghost use Rattle.quote.specs.Quote.{answerOf};
+ghost use Rattle.quote.specs.code.Code.{pathTo};
 ghost use Rattle.quote.specs.Demand.{Demand3};
 use quote_along::Answer;
 use quote_kinds::Kind;
 use quote_paths::Path;
 use set_params::Params;
 use set_refusal::Refusal;
+
+// The path of a query in the table, to the last whole year of its term.
+pub fn path_to(start: i64, kind: Kind, age: i64, year: i64, term: i64) -> Path
+    requires { ⌜ StartWithin start × (firstFailed (tableTests start (ruleOf kind) age year term) ≡ Accepted) ⌝ }
+    ensures { λ r. ⌜ r ≡ pathTo start kind age year term ⌝ }
+{
+    let rule = quote_kinds::rule_of(kind);
+    let fold = rule.fold;
+    let n = set_params::year_number(start, year);
+    let span = quote_kinds::span_of(rule, year, term);
+    Path {
+        cohort: rule.cohort,
+        age: age as usize,
+        year: n,
+        count: quote_kinds::count_of(fold, n, span as usize),
+    }
+}
 
 // The answer to a query of a set in its limits.
 pub fn quote_within(p: Params, kind: Kind, age: i64, year: i64, term: i64) -> Answer
@@ -22,14 +44,7 @@ pub fn quote_within(p: Params, kind: Kind, age: i64, year: i64, term: i64) -> An
         return Answer::Refused(refusal);
     }
     let fold = rule.fold;
-    let n = set_params::year_number(p.start, year);
-    let span = quote_kinds::span_of(rule, year, term);
-    let path = Path {
-        cohort: rule.cohort,
-        age: age as usize,
-        year: n,
-        count: quote_kinds::count_of(fold, n, span as usize),
-    };
+    let path = path_to(p.start, kind, age, year, term);
     quote_along::answer_along(p, fold, path, quote_kinds::part_of(rule, term))
 }
 

@@ -1,6 +1,6 @@
 -- "Standard input is a sheet, then query lines", or two sheets and then query lines: the whole run of a program, from the
 -- input's bytes to the output's.
-use mathlib.Core.Bool.{Bool, true, false, cond}
+use mathlib.Core.Bool.{cond}
 use mathlib.Core.List.{List, _++_}
 use Prim.Native.Nat.{ℕ, _+_, _*_}
 use lib.Dec.{eqb}
@@ -10,9 +10,11 @@ use Rattle.set_refusal.specs.declared.Refusal.{Refusal}
 use Rattle.set_refusal.specs.Refusals.{refusalNumber}
 use Rattle.run_answer_text.specs.AnswerText.{refusalLine, refusedText}
 use Rattle.run_sheets.specs.declared.Front.{Front}
+use Rattle.run_sheets.specs.declared.Sheets.{Sheets}
+use Rattle.run_sheets.specs.declared.Sheets.the-variants.{One, InTurn, ByNumber}
 use Rattle.run_sheets.specs.Front.{frontOf}
 use Rattle.run_line.specs.declared.Mode.{Mode}
-use Rattle.run_line.specs.declared.Mode.the-variants.{Quotes, Compare}
+use Rattle.run_line.specs.declared.Mode.the-variants.{Quotes, Compare, Couples}
 use Rattle.run_line.specs.Line.{lineAnswer, longestLine}
 use Rattle.run_verdict.specs.VerdictRun.{verdictRun}
 use Rattle.run_verdict_text.specs.VerdictText.{mostVerdict}
@@ -22,10 +24,12 @@ use Rattle.run.specs.Answers.{answersFrom}
 
 -- ---- a program of lines
 
--- a comparison takes two sheets
-unfoldable pub takesTwo : Mode → Bool
-takesTwo (Quotes ends) = false
-takesTwo Compare = true
+-- a comparison takes two sheets and couples do; of couples' "each number is tried on the first life, then the second, before the
+-- next number"
+unfoldable pub sheetsBy : Mode → Sheets
+sheetsBy (Quotes ends) = One
+sheetsBy Compare = InTurn
+sheetsBy Couples = ByNumber
 
 -- "a refused sheet .. prints `no=` and its number as the one line of the run"; of two sheets it is named, `sheet=1 no=…` or
 -- `sheet=2 no=…`
@@ -39,7 +43,7 @@ outputOf mode f input =
     (refusedRun (f .named) (f .refusal))
 
 unfoldable pub linesRun : Mode → List ℕ → List ℕ
-linesRun mode input = outputOf mode (frontOf (takesTwo mode) input) input
+linesRun mode input = outputOf mode (frontOf (sheetsBy mode) input) input
 
 -- ---- any program
 

@@ -8,8 +8,9 @@ ghost use Rattle.text_printing.specs.code.Put.{Put};
 ghost use Rattle.run_line.specs.Line.{lineAnswer, longestLine};
 ghost use Rattle.run.specs.Answers.{answersFrom};
 ghost use Rattle.run.specs.Into.{textAnswer, textBuffer};
-ghost use Rattle.run.specs.Run.{takesTwo, refusedRun, linesRun, runOf, runRoom};
+ghost use Rattle.run.specs.Run.{sheetsBy, refusedRun, linesRun, runOf, runRoom};
 use run_line::Mode;
+use run_sheets::Sheets;
 use run_verdict_text::MOST_VERDICT;
 use set_params::Params;
 use set_refusal::Refusal;
@@ -21,13 +22,14 @@ pub enum Program {
     Verdict,
 }
 
-// Whether a program of lines takes two sheets.
-fn takes_two(mode: Mode) -> bool
-    ensures { λ r. ⌜ r ≡ takesTwo mode ⌝ }
+// The sheets that a program of lines takes.
+fn sheets_by(mode: Mode) -> Sheets
+    ensures { λ r. ⌜ r ≡ sheetsBy mode ⌝ }
 {
     match mode {
-        Mode::Quotes(_) => false,
-        Mode::Compare => true,
+        Mode::Quotes(_) => Sheets::One,
+        Mode::Compare => Sheets::InTurn,
+        Mode::Couples => Sheets::ByNumber,
     }
 }
 
@@ -92,7 +94,8 @@ fn put_lines(mode: Mode, input: &[u8], out: &mut [u8]) -> usize
     requires { ⌜ 5 * length (now input) + longestLine mode ≤ length (now out) ⌝ }
     ensures { λ r. ⌜ Put (now (out .entry)) 0 (linesRun mode (now (input .entry))) (now (out .exit)) r ⌝ }
 {
-    let front = run_sheets::read_front(takes_two(mode), input);
+    let sheets = sheets_by(mode);
+    let front = run_sheets::read_front(sheets, input);
     let refusal = front.refusal;
     if set_refusal::refusal_number(refusal) != 0 {
         return put_refused(out, front.named, refusal);

@@ -7,6 +7,8 @@ use Rattle.text_tokens.specs.Text.{bytesOf}
 use Rattle.text_tokens.specs.Number.{unsignedText}
 use Rattle.set_refusal.specs.declared.Refusal.{Refusal}
 use Rattle.set_refusal.specs.Refusals.{refusalNumber}
+use Rattle.quote_kinds.specs.declared.Kind.{Kind}
+use Rattle.quote_kinds.specs.Kinds.{ruleOf, decimalsOf}
 use Rattle.run_figure_text.specs.FigureText.{shownText}
 use Rattle.quote_along.specs.declared.Quote.{Quote}
 use Rattle.quote_along.specs.declared.Answer.{Answer}
@@ -27,6 +29,10 @@ endsText ends lower upper = cond ends ((bytesOf " lo=" ++ unsignedText lower) ++
 -- a quote, its figure with so many decimals
 unfoldable pub quoteText : Bool → ℕ → Quote → List ℕ
 quoteText ends d a = endsText ends (a .lower) (a .upper) ++ (shownText d (a .figure) ++ bytesOf "\n")
+
+-- the decimals of a kind's figures
+abbrev pub kindDecimals : Kind → ℕ
+kindDecimals kind = decimalsOf (ruleOf kind .fold)
 
 -- an answer
 unfoldable pub answerText : Bool → ℕ → Answer → List ℕ

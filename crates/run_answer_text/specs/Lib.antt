@@ -1,4 +1,5 @@
 pub mod AnswerText
+pub mod Line
 pub mod code
 pub mod laws
 pub mod examples

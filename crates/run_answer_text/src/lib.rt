@@ -1,14 +1,35 @@
-// What is printed after a query, written into a buffer that the caller lends.
+// What is printed of a query: its line, and what follows it, written into a buffer that the caller lends.
 ghost use mathlib.Core.Path.{_≡_};
 ghost use mathlib.Core.List.{_++_};
 ghost use Prim.Native.Nat.{_^_, _<_};
+ghost use lib.ListN.{length};
 ghost use Rattle.text_tokens.specs.Number.{mostDigits, unsignedText};
 ghost use Rattle.text_printing.specs.code.Put.{Room, Put};
-ghost use Rattle.run_answer_text.specs.AnswerText.{refusalLine, refusedText, endsText, quoteText, answerText};
+ghost use Rattle.run_answer_text.specs.AnswerText.{refusalLine, refusedText, endsText, quoteText, kindDecimals, answerText};
+ghost use Rattle.run_answer_text.specs.Line.{withoutFeed};
 ghost use Rattle.run_answer_text.specs.code.Sizes.{Sized, SizedAnswer};
 use quote_along::Answer;
 use quote_along::Quote;
+use quote_kinds::Kind;
 use set_refusal::Refusal;
+
+// The decimals of a kind's figures.
+pub fn decimals_for(kind: Kind) -> usize
+    ensures { λ r. ⌜ r ≡ kindDecimals kind ⌝ }
+{
+    let rule = quote_kinds::rule_of(kind);
+    let fold = rule.fold;
+    quote_kinds::decimals_of(fold)
+}
+
+// Writes a line without its line feed; the place after it.
+pub fn put_echo(buffer: &mut [u8], at: usize, line: &[u8]) -> usize
+    requires { ⌜ (0 < length (now line)) × Room (now buffer) at (withoutFeed (now line)) ⌝ }
+    ensures { λ r. ⌜ Put (now (buffer .entry)) at (withoutFeed (now (line .entry))) (now (buffer .exit)) r ⌝ }
+{
+    let end = line.len() - 1;
+    text_printing::put_text(buffer, at, &line[..end])
+}
 
 // Writes a name and a number; the place after them.
 pub fn put_field(buffer: &mut [u8], at: usize, name: &[u8], n: u64) -> usize

@@ -5,18 +5,26 @@ ghost use lib.Dec.{T};
 ghost use lib.ListN.{length};
 ghost use Rattle.text_printing.specs.code.Put.{Room, Put};
 ghost use Rattle.set_limits.specs.InLimits.{inLimits};
-ghost use Rattle.run_line.specs.Line.{kindDecimals, queryAnswer, reply, lineAnswer, longestLine};
+ghost use Rattle.run_line.specs.Line.{queryAnswer, reply, queryLine, lineAnswer, longestReply, longestLine};
 use quote_along::Answer;
-use quote_kinds::Kind;
+use run_couple_line::MOST_COUPLE;
 use run_query::Query;
 use run_query::QueryRead;
 use set_params::Params;
 use set_refusal::Refusal;
 
-// What a program answers a query with: its figure, with the ends where they are asked for, or its figures by two sheets.
+// What a program answers a line with: a query's figure, with the ends where they are asked for, its figures by two sheets, or a
+// couple's figure with the ends.
 pub enum Mode {
     Quotes(bool),
     Compare,
+    Couples,
+}
+
+// What follows a query: its answer, with the ends where they are asked for, or its answers by two sets, compared.
+pub enum Reply {
+    Quote(bool),
+    Compared,
 }
 
 // No answer is longer, whichever the mode.
@@ -29,16 +37,8 @@ pub fn longest_line(mode: Mode) -> usize
     match mode {
         Mode::Quotes(_) => 161,
         Mode::Compare => 205,
+        Mode::Couples => MOST_COUPLE,
     }
-}
-
-// The decimals of a kind's figures.
-fn decimals_for(kind: Kind) -> usize
-    ensures { λ r. ⌜ r ≡ kindDecimals kind ⌝ }
-{
-    let rule = quote_kinds::rule_of(kind);
-    let fold = rule.fold;
-    quote_kinds::decimals_of(fold)
 }
 
 // The answer to a query of a set within its limits.
@@ -54,25 +54,44 @@ pub fn answer_to(p: Params, query: Query) -> Answer
 fn put_reply(
     buffer: &mut [u8],
     at: usize,
-    mode: Mode,
+    follows: Reply,
     first: Params,
     second: Params,
     query: Query,
 ) -> usize
-    requires { ⌜ T (inLimits first) × T (inLimits second) × Room (now buffer) at (reply mode first second query) ⌝ }
-    ensures { λ r. ⌜ Put (now (buffer .entry)) at (reply mode first second query) (now (buffer .exit)) r ⌝ }
+    requires { ⌜ T (inLimits first) × T (inLimits second) × Room (now buffer) at (reply follows first second query) ⌝ }
+    ensures { λ r. ⌜ Put (now (buffer .entry)) at (reply follows first second query) (now (buffer .exit)) r ⌝ }
 {
     let kind = query.kind;
-    let decimals = decimals_for(kind);
+    let decimals = run_answer_text::decimals_for(kind);
     let answer = answer_to(first, query);
-    match mode {
-        Mode::Quotes(ends) => run_answer_text::put_answer(buffer, at, ends, decimals, answer),
-        Mode::Compare => {
+    match follows {
+        Reply::Quote(ends) => run_answer_text::put_answer(buffer, at, ends, decimals, answer),
+        Reply::Compared => {
             let other = answer_to(second, query);
             let comparison = quote_compare::compare(answer, other);
             run_compare_text::put_comparison(buffer, at, decimals, comparison)
         }
     }
+}
+
+// Writes the answer to a query's line by two sets within their limits; the place after it.
+fn put_query(
+    buffer: &mut [u8],
+    at: usize,
+    follows: Reply,
+    first: Params,
+    second: Params,
+    line: &[u8],
+) -> usize
+    requires { ⌜ T (inLimits first) × T (inLimits second) × (at + longestReply follows ≤ length (now buffer)) ⌝ }
+    ensures { λ r. ⌜ Put (now (buffer .entry)) at (queryLine follows first second (now (line .entry))) (now (buffer .exit)) r ⌝ }
+{
+    let QueryRead::Of(query) = run_query::query_of(line) else {
+        return run_answer_text::put_refusal(buffer, at, Refusal::Malformed);
+    };
+    let place = run_answer_text::put_echo(buffer, at, line);
+    put_reply(buffer, place, follows, first, second, query)
 }
 
 // Writes the answer to a line by two sets within their limits; the place after it.
@@ -87,10 +106,9 @@ pub fn put_line(
     requires { ⌜ T (inLimits first) × T (inLimits second) × (at + longestLine mode ≤ length (now buffer)) ⌝ }
     ensures { λ r. ⌜ Put (now (buffer .entry)) at (lineAnswer mode first second (now (line .entry))) (now (buffer .exit)) r ⌝ }
 {
-    let QueryRead::Of(query) = run_query::query_of(line) else {
-        return run_answer_text::put_refusal(buffer, at, Refusal::Malformed);
-    };
-    let end = line.len() - 1;
-    let place = text_printing::put_text(buffer, at, &line[..end]);
-    put_reply(buffer, place, mode, first, second, query)
+    match mode {
+        Mode::Quotes(ends) => put_query(buffer, at, Reply::Quote(ends), first, second, line),
+        Mode::Compare => put_query(buffer, at, Reply::Compared, first, second, line),
+        Mode::Couples => run_couple_line::put_couple(buffer, at, first, second, line),
+    }
 }

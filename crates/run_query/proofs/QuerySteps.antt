@@ -13,7 +13,7 @@ use Rattle.run_query.specs.declared.Query.{Query}
 use Rattle.run_query.specs.declared.KindRead.{KindRead}
 use Rattle.run_query.specs.declared.KindRead.the-variants.{Malformed, Of}
 use Rattle.quote_kinds.specs.Kinds.{takesRate, withRate}
-use Rattle.run_query.specs.Query.{onOffer, termName, readWord, readField, readRate, alone, readQuery}
+use Rattle.run_query.specs.Query.{wordOf, onOffer, termName, readWord, readField, readRate, alone, wholeWord, readQuery}
 use Rattle.run_query.specs.code.Code.{kindRead}
 
 -- ---- what is still to be read
@@ -36,7 +36,7 @@ abbrev pub fromAge : Kind → List ℕ → Parse Query
 fromAge word bs = andThen (readField (bytesOf " age=") bs) (λ age rest. fromYear word age rest)
 
 abbrev pub fromWord : List ℕ → Parse Query
-fromWord bs = andThen (readWord onOffer bs) (λ word rest. fromAge word rest)
+fromWord bs = andThen (readWord wordOf onOffer bs) (λ word rest. fromAge word rest)
 
 -- ---- the start, and the end
 
@@ -57,6 +57,21 @@ followed a line n h = rw (drop-cons line n 0 h)
 pub at-end : {A : Type 0} (a : A) (line : List ℕ) (n : ℕ) → length line ≤ n → alone a (drop n line) ≡ taken a []
 unfolding alone
 at-end a line n h = rw (drop-of-length-le line h)
+
+-- a word that is none on offer, goes on, or ends
+module _ {X : Type 0} (word : X → List ℕ) (xs : List X) (bs : List ℕ) where
+  pub no-word : readWord word xs bs ≡ malformed → wholeWord word xs bs ≡ malformed
+  unfolding wholeWord
+  no-word e = stops _ e
+
+  module _ {x : X} (n : ℕ) (e : readWord word xs bs ≡ taken x (drop n bs)) where
+    pub word-goes-on : n < length bs → wholeWord word xs bs ≡ malformed
+    unfolding wholeWord
+    word-goes-on h = goes _ e ∙ followed x bs n h
+
+    pub word-ends : length bs ≤ n → wholeWord word xs bs ≡ taken x (drop n bs)
+    unfolding wholeWord
+    word-ends h = goes _ e ∙ at-end x bs n h ∙ rw (drop-of-length-le bs h)
 
 -- ---- a rate
 

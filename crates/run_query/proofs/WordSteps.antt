@@ -1,4 +1,4 @@
--- A kind's word and a field at a place, in the steps of the code: each is found there, or is not.
+-- A word of a table and a field at a place, in the steps of the code: each is found there, or is not.
 use mathlib.Core.Path.{_≡_, sym, _∙_}
 use Prim.Native.Nat.{ℕ, _+_}
 use mathlib.Core.Bool.{Bool, true, false}
@@ -12,8 +12,7 @@ use Rattle.text_tokens.specs.code.Places.{textAt, numberAt, numberRead}
 use Rattle.text_tokens.specs.laws.TextLaws.{text-found, text-missing}
 use Rattle.text_tokens.specs.laws.NumberLaws.{number-found, number-malformed}
 use Rattle.text_tokens.specs.laws.Steps.{goes, stops}
-use Rattle.quote_kinds.specs.declared.Kind.{Kind}
-use Rattle.run_query.specs.Query.{wordOf, readWord, readField}
+use Rattle.run_query.specs.Query.{readWord, readField}
 
 -- the number that the code's result at a place says was read
 number-said : (bytes : List ℕ) (at : ℕ) (r : NumberRead) → r ≡ numberAt bytes at
@@ -23,16 +22,16 @@ number-said bytes at (Number v next) e = sym (number-found bytes at (sym e))
 
 module _ (bytes : List ℕ) (at : ℕ) where
   -- the first word on offer is found, or the others are left
-  module _ (k : Kind) (ks : List Kind) where
-    pub word-found : {r : Bool} → r ≡ textAt bytes at (wordOf k) → r ≡ true
-        → readWord (k ∷ ks) (drop at bytes) ≡ taken k (drop (at + length (wordOf k)) bytes)
+  module _ {X : Type 0} (word : X → List ℕ) (x : X) (xs : List X) where
+    pub word-found : {r : Bool} → r ≡ textAt bytes at (word x) → r ≡ true
+        → readWord word (x ∷ xs) (drop at bytes) ≡ taken x (drop (at + length (word x)) bytes)
     unfolding readWord
-    word-found e h = rw (text-found bytes at (wordOf k) (sym e ∙ h), readWord)
+    word-found e h = rw (text-found bytes at (word x) (sym e ∙ h), readWord)
 
-    pub word-missing : {r : Bool} → r ≡ textAt bytes at (wordOf k) → r ≡ false
-        → readWord (k ∷ ks) (drop at bytes) ≡ readWord ks (drop at bytes)
+    pub word-missing : {r : Bool} → r ≡ textAt bytes at (word x) → r ≡ false
+        → readWord word (x ∷ xs) (drop at bytes) ≡ readWord word xs (drop at bytes)
     unfolding readWord
-    word-missing e h = rw (text-missing bytes at (wordOf k) (sym e ∙ h), readWord)
+    word-missing e h = rw (text-missing bytes at (word x) (sym e ∙ h), readWord)
 
   -- a field's name is missing, or its number follows
   module _ (name : List ℕ) where

@@ -53,10 +53,10 @@ queryText q =
 
 -- ---- reading
 
--- the kind whose word stands at the front
-unfoldable pub readWord : List Kind → List ℕ → Parse Kind
-readWord [] bs = malformed
-readWord (k ∷ ks) bs = elim (takeText (wordOf k) bs) [ malformed ↦ readWord ks bs | taken u rest ↦ taken k rest ]
+-- the first of those on offer whose word, by a table of words, stands at the front
+unfoldable pub readWord : {X : Type 0} → (X → List ℕ) → List X → List ℕ → Parse X
+readWord word [] bs = malformed
+readWord word (x ∷ xs) bs = elim (takeText (word x) bs) [ malformed ↦ readWord word xs bs | taken u rest ↦ taken x rest ]
 
 -- a name, and the number behind it
 unfoldable pub readField : List ℕ → List ℕ → Parse ℤ
@@ -74,11 +74,15 @@ unfoldable pub alone : {A : Type 0} → A → List ℕ → Parse A
 alone a [] = taken a []
 alone a (b ∷ bs) = malformed
 
+-- such a word that nothing follows
+unfoldable pub wholeWord : {X : Type 0} → (X → List ℕ) → List X → List ℕ → Parse X
+wholeWord word xs bs = andThen (readWord word xs bs) (λ x rest. alone x rest)
+
 -- the query of a whole line; a line of the kind `day` with ` span=`, or of another kind with ` date=`, is malformed
 unfoldable pub readQuery : List ℕ → Parse Query
 readQuery line =
     andThen (takeText (bytesOf "kind=") line) (λ u after₀.
-    andThen (readWord onOffer after₀) (λ word after₁.
+    andThen (readWord wordOf onOffer after₀) (λ word after₁.
     andThen (readField (bytesOf " age=") after₁) (λ age after₂.
     andThen (readField (bytesOf " year=") after₂) (λ year after₃.
     andThen (readField (termName word) after₃) (λ term after₄.

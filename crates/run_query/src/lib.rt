@@ -4,7 +4,7 @@ ghost use mathlib.Core.Path.{_≡_};
 ghost use lib.ListN.{drop};
 ghost use Rattle.text_tokens.specs.code.Places.{numberRead};
 ghost use Rattle.quote_kinds.specs.Kinds.{takesRate, withRate};
-ghost use Rattle.run_query.specs.Query.{onOffer, termName, readWord, readField, readRate, readQuery};
+ghost use Rattle.run_query.specs.Query.{wordOf, onOffer, termName, readWord, readField, readRate, readQuery};
 ghost use Rattle.run_query.specs.code.Code.{kindRead, queryRead};
 use quote_kinds::Kind;
 use text_tokens::NumberRead;
@@ -63,7 +63,7 @@ pub fn with_rate(kind: Kind, rate: i64) -> Kind
 
 // The kind whose word stands at a place, rates aside.
 pub fn kind_at(bytes: &[u8], at: usize) -> KindRead
-    ensures { λ r. ⌜ kindRead (now (bytes .entry)) r ≡ readWord onOffer (drop at (now (bytes .entry))) ⌝ }
+    ensures { λ r. ⌜ kindRead (now (bytes .entry)) r ≡ readWord wordOf onOffer (drop at (now (bytes .entry))) ⌝ }
 {
     if text_tokens::text_at(bytes, at, b"q") {
         return KindRead::Of(Kind::Death, at + 1);

@@ -1,2 +1,4 @@
 pub mod Front
+pub mod code
 pub mod laws
+pub mod examples

@@ -1,6 +1,6 @@
 -- The run of the program `verdict` (paper 02, E3), from the input's bytes to the output's: a sheet, one line `year=` and a
 -- number formed as in a sheet, and the column, which is all that follows; it prints one line.
-use mathlib.Core.Bool.{false, cond}
+use mathlib.Core.Bool.{cond}
 use mathlib.Core.List.{List}
 use Prim.Native.Nat.{ℕ}
 use lib.Dec.{eqb}
@@ -12,6 +12,7 @@ use Rattle.set_refusal.specs.Refusals.{refusalNumber}
 use Rattle.sheet.specs.Sheet.{readLine}
 use Rattle.run_answer_text.specs.AnswerText.{refusalLine}
 use Rattle.run_sheets.specs.declared.Front.{Front}
+use Rattle.run_sheets.specs.declared.Sheets.the-variants.{One}
 use Rattle.run_sheets.specs.Front.{frontOf}
 use Rattle.run_column_verdict.specs.ColumnVerdict.{columnVerdict}
 use Rattle.run_verdict_text.specs.VerdictText.{verdictLine}
@@ -34,4 +35,4 @@ verdictBy f input =
 
 -- the whole run; an input past 65,536 bytes has a malformed sheet
 unfoldable pub verdictRun : List ℕ → List ℕ
-verdictRun input = verdictBy (frontOf false input) input
+verdictRun input = verdictBy (frontOf One input) input

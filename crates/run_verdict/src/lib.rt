@@ -8,6 +8,7 @@ ghost use Rattle.text_printing.specs.code.Put.{Put};
 ghost use Rattle.run_verdict_text.specs.VerdictText.{mostVerdict};
 ghost use Rattle.run_verdict.specs.VerdictRun.{readYear, verdictRun};
 ghost use Rattle.run_verdict.specs.code.Code.{PlaceIn};
+use run_sheets::Sheets;
 use set_refusal::Refusal;
 use text_tokens::NumberRead;
 
@@ -30,7 +31,7 @@ pub fn put_verdict(input: &[u8], out: &mut [u8]) -> usize
     requires { ⌜ mostVerdict ≤ length (now out) ⌝ }
     ensures { λ r. ⌜ Put (now (out .entry)) 0 (verdictRun (now (input .entry))) (now (out .exit)) r ⌝ }
 {
-    let front = run_sheets::read_front(false, input);
+    let front = run_sheets::read_front(Sheets::One, input);
     let NumberRead::Number(year, next) = year_at(input, front.next) else {
         return run_answer_text::put_refusal(out, 0, Refusal::Malformed);
     };

@@ -1,3 +1,4 @@
 pub mod Set
 pub mod Limits
 pub mod code
+pub mod laws

@@ -2,7 +2,7 @@
 use Prim.Native.Nat.{ℕ}
 use lib.IntN.{ℤ, pos, natAbs, _-ℤ_}
 use lib.ListN.{getD, length, replicate}
-use mathlib.Core.Path.{_≡_, refl}
+use mathlib.Core.Path.{_≡_}
 use mathlib.Core.List.{List}
 use Rattle.set_params.specs.declared.Params.{Params}
 use Rattle.set_params.specs.declared.Age.{Age}
@@ -48,11 +48,6 @@ fourAt level slope alpha beta x =
       alpha = getD alpha x (pos 0);
       beta = getD beta x (pos 0);
     }
-
--- of a set's runs, the age's parameters
-pub four-age : (p : Params) (x : ℕ) → fourAt (p .level) (p .slope) (p .alpha) (p .beta) x ≡ ageOf p x
-unfolding A B alpha beta
-four-age p x = refl
 
 -- each run has one number for each age, as in every set that a program holds
 pub record Whole (p : Params) : Type 0 where

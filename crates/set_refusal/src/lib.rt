@@ -1,6 +1,6 @@
 // The refusals of the papers.
 ghost use mathlib.Core.Path.{_≡_};
-ghost use Rattle.set_refusal.specs.Refusals.{refusalNumber};
+ghost use Rattle.set_refusal.specs.Refusals.{refusalNumber, lowerRefusal};
 
 // The papers' refusals, and none; where the papers have a word of the trade it is given.
 pub enum Refusal {
@@ -20,6 +20,7 @@ pub enum Refusal {
     // "torn column"
     MalformedColumn,
     NoSuchDate,
+    StartsDiffer,
 }
 
 // The number of a refusal in the papers, and 0 where nothing is refused.
@@ -38,5 +39,25 @@ pub fn refusal_number(r: Refusal) -> u8
         Refusal::NoSuchRate => 8,
         Refusal::MalformedColumn => 9,
         Refusal::NoSuchDate => 10,
+        Refusal::StartsDiffer => 11,
     }
+}
+
+// Of the refusals of two lives the one with the lower number, and of equal ones the first's; where one life is not refused, the
+// other's.
+pub fn lower_refusal(first: Refusal, second: Refusal) -> Refusal
+    ensures { λ r. ⌜ r ≡ lowerRefusal first second ⌝ }
+{
+    let m = refusal_number(first);
+    let n = refusal_number(second);
+    if n == 0 {
+        return first;
+    }
+    if m == 0 {
+        return second;
+    }
+    if m <= n {
+        return first;
+    }
+    second
 }

@@ -21,10 +21,6 @@ unfoldable pub firstLines : ℕ → List ℕ → List ℕ
 firstLines zero bs = []
 firstLines (suc n) bs = firstLine bs ++ firstLines n (afterLine bs)
 
-unfoldable pub afterLines : ℕ → List ℕ → List ℕ
-afterLines zero bs = bs
-afterLines (suc n) bs = afterLines n (afterLine bs)
-
 -- a byte before the first of some lines
 unfoldable pub ahead : ℕ → List (List ℕ) → List (List ℕ)
 ahead b [] = (b ∷ []) ∷ []

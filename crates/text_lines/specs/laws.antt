@@ -1,2 +1,3 @@
+pub mod AfterLines
 pub mod LineLaws
 pub mod CutLaws

@@ -43,7 +43,7 @@ use Rattle.quote_along.specs.declared.Answer.the-variants.{Quoted, Refused}
 use Rattle.quote.specs.Quote.{queryPath, refusalOf, answerOf}
 use Rattle.quote.specs.Demand.{numberOf}
 use Rattle.quote.specs.laws.Theorem.{demand-met}
-use Rattle.run_query.specs.Query.{wordOf, onOffer, readWord, alone}
+use Rattle.run_query.specs.Query.{wordOf, onOffer, readWord, alone, wholeWord}
 use Rattle.run_figure_text.specs.FigureText.{lastDigits, stepsText, figureText}
 use Rattle.c_sheet_quote.specs.SheetQuote.{wordKind, kindOf, answerTo, sheetAnswer, quoteLength, quotedNo, quoteNo}
 use Rattle.c_edges.specs.examples.Edges.{setOf, withTheta, withForce, callNumber, printedText, minus, StarredEdges}
@@ -70,7 +70,7 @@ module _ (word : List ℕ) (kind : Kind) (read : kindOf word ≡ taken kind []) 
     number-within t =
         ap (λ (a : Answer). quoteNo a quoteLength) (answer-read (written-reads-back p w t))
         ∙ answer-number (answerOf p kind age year term)
-        ∙ demand-met p kind age year term .number
+        ∙ demand-met p kind age year term .alone .number
 
     -- and else 2
     number-past : Shown p → AllSmall (values p) → inLimits p ≡ false
@@ -81,11 +81,11 @@ module _ (word : List ℕ) (kind : Kind) (read : kindOf word ≡ taken kind []) 
 -- ---- the kinds' words
 
 read-coh : kindOf (bytesOf "coh") ≡ taken kind.CohortSurvival []
-unfolding bytesOf takeText wordOf onOffer ruleOf takesRate readWord alone wordKind kindOf
+unfolding bytesOf takeText wordOf onOffer ruleOf takesRate readWord alone wholeWord wordKind kindOf
 read-coh = refl
 
 read-q : kindOf (bytesOf "q") ≡ taken kind.Death []
-unfolding bytesOf takeText wordOf onOffer ruleOf takesRate readWord alone wordKind kindOf
+unfolding bytesOf takeText wordOf onOffer ruleOf takesRate readWord alone wholeWord wordKind kindOf
 read-q = refl
 
 -- ---- the sets

@@ -6,7 +6,8 @@ use Prim.Native.Nat.{_+_, _*_, _-_, _≤_}
 use native.Mathlib.Omega.{arith}
 use native.Mathlib.Numerals.{add-one}
 use mir.Facts.{toZ-ofZ}
-use Rattle.set_params.specs.Set.{ages, ageOf, four-age}
+use Rattle.set_params.specs.Set.{ages, ageOf}
+use Rattle.set_params.specs.laws.SetLaws.{four-age}
 use Rattle.c_set_numbers.specs.SetNumbers.{setLength}
 use Rattle.c_set_numbers.specs.laws.SetNumbersLaws.{Front, front-length, front-self, front-over}
 use Rattle.c_set_numbers.specs.laws.SetNumbersLaws.{firstAges, first-length, head-put, age-put, ages-all}

@@ -5,9 +5,9 @@ use Prim.Native.Nat.{ℕ}
 use native.Mathlib.Omega.{arith}
 use lib.ListN.{drop}
 use Rattle.text_tokens.specs.Text.{taken}
-use Rattle.run_query.specs.Query.{onOffer, readWord}
-use Rattle.run_query.proofs.QuerySteps.{kind-malformed, kind-taken}
-use Rattle.c_sheet_quote.specs.laws.AnswerLaws.{word-malformed, word-goes-on, word-ends}
+use Rattle.run_query.specs.Query.{wordOf, onOffer, readWord}
+use Rattle.run_query.proofs.QuerySteps.{no-word, word-goes-on, word-ends, kind-malformed, kind-taken}
+use Rattle.c_sheet_quote.specs.SheetQuote.{wordKind}
 use Rattle.c_sheet_quote.proofs.word_kind.Statement.{statement}
 use Rattle.c_sheet_quote.proofs.word_kind.Tie as tie
 
@@ -20,19 +20,22 @@ after c = c .before .kind .given .0 .1 .0
 
 -- the word's kind, and what follows it
 word-taken : (c : tie.After-known-told) → let w = called c .before .before .args .word .now in
-    readWord onOffer w ≡ taken (c .before .kind .given .0 .0) (drop (after c) w)
+    readWord wordOf onOffer w ≡ taken (c .before .kind .given .0 .0) (drop (after c) w)
 word-taken c = kind-taken _ (called c .kind-at .ensures) (c .before .kind .given .1)
 
 returns : tie.Need-returns
+unfolding wordKind
 returns c =
     let k = c .before .before in
-    sym (word-malformed _ (kind-malformed _ (k .kind-at .ensures) (c .enum-told .given .1)))
+    sym (no-word _ _ _ (kind-malformed _ (k .kind-at .ensures) (c .enum-told .given .1)))
 
 returns-2 : tie.Need-returns-2
-returns-2 c = let k = c .before in sym (word-goes-on _ (after k) (word-taken k) (omega (arith, c .if1 .taken)))
+unfolding wordKind
+returns-2 c = let k = c .before in sym (word-goes-on _ _ _ (after k) (word-taken k) (omega (arith, c .if1 .taken)))
 
 returns-3 : tie.Need-returns-3
-returns-3 c = let k = c .before in sym (word-ends _ (after k) (word-taken k) (omega (arith, c .if1 .left)))
+unfolding wordKind
+returns-3 c = let k = c .before in sym (word-ends _ _ _ (after k) (word-taken k) (omega (arith, c .if1 .left)))
 
 pub word-kind-spec : {M : Type 1} → statement M
 word-kind-spec =

@@ -5,7 +5,7 @@ use mathlib.Core.List.{List, [], _∷_}
 use Prim.Native.Nat.{ℕ, _≤_, _<_}
 use borrow.Author.Tests.{le-leb, lt-leb, ne-eqb}
 use lib.IntN.{ℤ}
-use lib.ListN.{length, drop, set, drop-of-length-le}
+use lib.ListN.{length, set}
 use lib.Seq.{sets-eq}
 use Rattle.text_tokens.specs.Text.{Parse, malformed, taken}
 use Rattle.text_tokens.specs.laws.Steps.{goes, stops}
@@ -20,8 +20,6 @@ use Rattle.quote_along.specs.declared.Answer.{Answer}
 use Rattle.quote_along.specs.declared.Answer.the-variants.{Quoted, Refused}
 use Rattle.quote.specs.Quote.{answerOf}
 use Rattle.quote_kinds.specs.Kinds.{ruleOf, takesRate, withRate}
-use Rattle.run_query.specs.Query.{onOffer, readWord}
-use Rattle.run_query.proofs.QuerySteps.{followed, at-end}
 use Rattle.c_sheet_quote.specs.SheetQuote.{wordKind, kindOf, ratedKindOf, answerTo, sheetAnswer}
 use Rattle.c_sheet_quote.specs.SheetQuote.{quoteLength, printedNumber, stepsNumber, quoteNumbers, quoteOver}
 use Rattle.c_sheet_quote.specs.SheetQuote.{quotedNo, quotedAfter, quoteNo, quoteAfter}
@@ -32,20 +30,6 @@ use Rattle.run_query.specs.code.Code.{kindRead}
 -- ---- the kind of a word
 
 module _ (word : List ℕ) where
-  -- rates aside
-  pub word-malformed : readWord onOffer word ≡ malformed → wordKind word ≡ malformed
-  unfolding wordKind
-  word-malformed e = stops _ e
-
-  module _ {kind : Kind} (n : ℕ) (e : readWord onOffer word ≡ taken kind (drop n word)) where
-    pub word-goes-on : n < length word → wordKind word ≡ malformed
-    unfolding wordKind
-    word-goes-on h = goes _ e ∙ followed kind word n h
-
-    pub word-ends : length word ≤ n → wordKind word ≡ taken kind (drop n word)
-    unfolding wordKind
-    word-ends h = goes _ e ∙ at-end kind word n h ∙ rw (drop-of-length-le word h)
-
   -- with a span and no rate, and with a rate
   pub kind-malformed : wordKind word ≡ malformed → kindOf word ≡ malformed
   unfolding kindOf

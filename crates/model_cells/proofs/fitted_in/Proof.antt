@@ -10,7 +10,8 @@ use borrow.Author.Tests.{not-true, not-false}
 use Rattle.number_whole.specs.declared.SignedEnds.{SignedEnds}
 use Rattle.number_exponential.specs.Billionths.{billionths}
 use Rattle.number_exponential.specs.Exponential.{expBetween}
-use Rattle.set_params.specs.Set.{ageOf, four-age}
+use Rattle.set_params.specs.Set.{ageOf}
+use Rattle.set_params.specs.laws.SetLaws.{four-age}
 use Rattle.model_log_force.specs.LogForce.{logForce, inRange}
 use Rattle.model_log_force.specs.laws.RangeLaws.{logForce-negated}
 use Rattle.model_logarithm.specs.Logarithm.{inverseLogistic}

@@ -14,7 +14,8 @@ use Rattle.number_fraction.specs.Fraction.{Fraction, wholeℚ, absolute, _+ℚ_
 use Rattle.model_closure.specs.Weights.{fitted, firstClosed, lastClosed, weightUnit, weight}
 use Rattle.model_closure.specs.code.Totals.{mostSize, sizeTotal}
 use Rattle.model_closure.specs.laws.WeightLaws.{weights-size}
-use Rattle.model_logistic.specs.Units.{Bounded, Interval}
+use Rattle.model_logistic.specs.Units.{Interval}
+use Rattle.model_logistic.specs.laws.SignedUnits.{Bounded}
 use Rattle.model_closure.specs.Exact.{intervalAt, leastScaled, greatestScaled, exactLeastSum}
 use Rattle.model_closure.specs.Exact.{exactGreatestSum, exactClosedSum}
 

@@ -14,12 +14,14 @@ use Rattle.number_whole.specs.SignedEnds.{leastProduct, greatestProduct, outwar
 use Rattle.number_whole.specs.Division.{floorDiv, ceilDiv}
 use Rattle.number_whole.specs.laws.DivisionLaws.{split-floor, split-ceil}
 use Rattle.number_whole.specs.laws.Order.{pos-nonneg}
-use Rattle.number_fraction.specs.Fraction.{_≤ℚ_, _≈ℚ_, wholeℚ, _+ℚ_, scaleℚ, quotientℚ}
+use Rattle.number_fraction.specs.Fraction.{_≤ℚ_, wholeℚ, _+ℚ_, scaleℚ, quotientℚ}
+use Rattle.number_fraction.specs.laws.FractionTerms.{_≈ℚ_}
 use Rattle.number_fraction.specs.laws.FractionLaws.{≤ℚ-trans, ≤ℚ-difference, ≈ℚ-difference, +ℚ-mono, scaleℚ-keeps}
 use Rattle.number_fraction.specs.laws.FractionLaws.{scaleℚ-exchanges, quotientℚ-mono}
 use Rattle.number_exponential.specs.Grid.{Grid}
 use Rattle.model_closure.specs.Weights.{fitted, weightUnit, weight}
-use Rattle.model_logistic.specs.Units.{Interval, inUnitsℚ, SignedOverlap}
+use Rattle.model_logistic.specs.Units.{Interval}
+use Rattle.model_logistic.specs.laws.SignedUnits.{inUnitsℚ, SignedOverlap}
 use Rattle.model_closure.specs.Closure.{endsAt, leastSum, greatestSum, weightedMean, closedSum}
 use Rattle.model_closure.specs.Exact.{intervalAt, leastScaled, greatestScaled, exactLeastSum}
 use Rattle.model_closure.specs.Exact.{exactGreatestSum, exactClosedSum}

@@ -10,7 +10,8 @@ use lib.Signed.{_≤ℤ_, _<ℤ_, leZ, leZ-yes}
 use Rattle.number_whole.specs.Parts.{above, below}
 use Rattle.number_whole.specs.laws.Split.{split, split-add}
 use Rattle.number_whole.specs.declared.SignedEnds.{SignedEnds}
-use Rattle.number_fraction.specs.Fraction.{Fraction, _≤ℚ_, wholeℚ, negℚ}
+use Rattle.number_fraction.specs.Fraction.{Fraction, _≤ℚ_, wholeℚ}
+use Rattle.number_fraction.specs.laws.FractionTerms.{negℚ}
 use Rattle.number_fraction.specs.laws.FractionLaws.{negℚ-reverse, wholeℚ-negℚ}
 use Rattle.set_params.specs.declared.Params.{Params}
 use Rattle.set_params.specs.declared.Age.{Age}

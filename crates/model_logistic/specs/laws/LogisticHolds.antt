@@ -22,7 +22,8 @@ use Rattle.model_logistic.specs.Positive.{sum-positive}
 use Rattle.model_logistic.specs.laws.Sizes.{both-above, both-below, apart}
 use Rattle.model_logistic.specs.Logistic.{overOneLower, overOneUpper, shareLower, shareUpper, logisticLower}
 use Rattle.model_logistic.specs.Logistic.{logisticUpper, logistic}
-use Rattle.model_logistic.specs.Units.{Interval, over, inUnitsℚ, SignedOverlap}
+use Rattle.model_logistic.specs.Units.{Interval}
+use Rattle.model_logistic.specs.laws.SignedUnits.{over, inUnitsℚ, SignedOverlap}
 use Rattle.model_logistic.specs.Exact.{overOne, share, orderLogisticLower, orderLogisticUpper}
 
 -- ---- the two quotients: 1/(1 + E) falls with E, E/(1 + E) rises with E

@@ -15,7 +15,8 @@ use Rattle.number_fraction.specs.laws.FractionLaws.{≤ℚ-difference}
 use Rattle.number_taylor.specs.Order.{orderLower, orderUpper}
 use Rattle.number_taylor.specs.laws.OrderLaws.{upper-below-one, narrow-below}
 use Rattle.number_taylor.specs.laws.Narrowing.{narrowOrder}
-use Rattle.model_logistic.specs.Units.{Interval, over}
+use Rattle.model_logistic.specs.Units.{Interval}
+use Rattle.model_logistic.specs.laws.SignedUnits.{over}
 use Rattle.model_logistic.specs.Exact.{overOne, share, orderLogisticLower, orderLogisticUpper}
 use Rattle.model_logistic.specs.laws.ExpNarrow.{one-slope, exp-narrow-below}
 

@@ -7,7 +7,7 @@ use lib.IntN.{ℤ, pos, negsuc}
 use Rattle.number_fraction.specs.Ratio.{Ratio, _≤/_, whole/}
 use Rattle.number_fraction.specs.Fraction.{Fraction, _≤ℚ_, absolute}
 use Rattle.number_taylor.specs.laws.OrderLaws.{orders-agree}
-use Rattle.model_logistic.specs.Units.{over}
+use Rattle.model_logistic.specs.laws.SignedUnits.{over}
 use Rattle.model_logistic.specs.Exact.{overOne, share, orderLogisticLower, orderLogisticUpper}
 use Rattle.model_logistic.specs.laws.Sizes.{both-above, both-below, apart}
 use Rattle.model_logistic.specs.laws.LogisticHolds.{order-lower-one}

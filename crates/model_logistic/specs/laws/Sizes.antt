@@ -6,7 +6,7 @@ use lib.IntN.{pos, negsuc}
 use Rattle.number_whole.specs.laws.Split.{split, split-scale}
 use Rattle.number_fraction.specs.Ratio.{_≤/_}
 use Rattle.number_fraction.specs.Fraction.{_≤ℚ_, absolute}
-use Rattle.model_logistic.specs.Units.{over}
+use Rattle.model_logistic.specs.laws.SignedUnits.{over}
 
 module _ {d e : ℕ} {p : 0 < d} {q : 0 < e} (a b : ℕ) where
   pub both-above : over d p (pos a) ≤ℚ over e q (pos b) → absolute (over d p (pos a)) ≤/ absolute (over e q (pos b))

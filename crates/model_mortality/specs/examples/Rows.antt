@@ -14,7 +14,8 @@ use Rattle.set_params.specs.Set.{ages, A, B, alpha, beta}
 use Rattle.set_series.specs.Series.{periodIn}
 use Rattle.set_series.specs.Exact.{perUnit, exactKappa}
 use Rattle.model_log_force.specs.Exact.{exactLogForce}
-use Rattle.model_mortality.specs.Exact.{exactM, exactZ, orderYoungForce, orderForce, orderForceOver, orderSurvival, orderDeath}
+use Rattle.model_mortality.specs.Exact.{exactM, exactZ, orderYoungForce, orderForce, orderForceOver, orderSurvival}
+use Rattle.model_mortality.specs.laws.OrderDeath.{orderDeath}
 
 -- every A −1,000,000,000, and every other number 0
 flat : Params

@@ -24,7 +24,7 @@ use Rattle.model_closure.specs.Weights.{firstClosed}
 use Rattle.model_logistic.specs.laws.WidthFacts.{Fine}
 use Rattle.model_logistic.specs.laws.Billionths.{billionths-fine}
 use Rattle.model_mortality.specs.Cell.{wholeYear, survival, death}
-use Rattle.model_mortality.specs.Exact.{orderDeath}
+use Rattle.model_mortality.specs.laws.OrderDeath.{orderDeath}
 use Rattle.model_mortality.specs.laws.Facts.{Fit}
 use Rattle.model_mortality.specs.laws.Answered.{Answered}
 use Rattle.model_mortality.specs.laws.Holds.{death-holds}

@@ -13,7 +13,8 @@ use Rattle.number_whole.specs.Parts.{below}
 use Rattle.number_whole.specs.laws.Table.{listed-at}
 use Rattle.number_fraction.specs.Ratio.{Ratio, _≤/_, whole/, quotient/, complement, _*/_}
 use Rattle.number_fraction.specs.laws.RatioLaws.{≤/-trans, quotient/-mono, complement-reverse}
-use Rattle.number_fraction.specs.Fraction.{Fraction, _≤ℚ_, _+ℚ_, negℚ, wholeℚ, quotientℚ, signed, absolute}
+use Rattle.number_fraction.specs.Fraction.{Fraction, _≤ℚ_, _+ℚ_, wholeℚ, quotientℚ, signed, absolute}
+use Rattle.number_fraction.specs.laws.FractionTerms.{negℚ}
 use Rattle.number_fraction.specs.laws.FractionLaws.{≤ℚ-trans, signed-≤ℚ, signed-whole, signed-absolute, wholeℚ-≤ℚ, +ℚ-mono, quotientℚ-mono}
 use Rattle.number_taylor.specs.Order.{leastOrder}
 use Rattle.number_exponential.specs.Grid.{Grid, inUnits}
@@ -34,13 +35,14 @@ use Rattle.model_logarithm.specs.laws.Force.{force-half}
 use Rattle.model_logarithm.specs.laws.Holds.{log-overlap}
 use Rattle.model_closure.specs.Weights.{fitted, firstFitted, firstClosed}
 use Rattle.model_logistic.specs.laws.LogisticHolds.{logistic-overlap}
-use Rattle.model_logistic.specs.Units.{inUnitsℚ, SignedOverlap}
+use Rattle.model_logistic.specs.laws.SignedUnits.{inUnitsℚ, SignedOverlap}
 use Rattle.model_closure.specs.Closure.{endsAt, closedSum}
 use Rattle.model_closure.specs.Exact.{intervalAt, exactClosedSum}
 use Rattle.model_closure.specs.laws.WeightedSum.{closedSum-overlap}
 use Rattle.model_force.specs.Force.{negated, deathOf}
 use Rattle.model_mortality.specs.Cell.{youngForce, fittedEnds, fittedList, oldForce, force, wholeYear, forceOver, survival, death}
-use Rattle.model_mortality.specs.Exact.{sheetUnit, exactM, exactZ, orderYoungForce, orderFitted, orderFittedList, orderOldForce, orderForce, orderForceOver, orderSurvival, orderDeath}
+use Rattle.model_mortality.specs.Exact.{sheetUnit, exactM, exactZ, orderYoungForce, orderFitted, orderFittedList, orderOldForce, orderForce, orderForceOver, orderSurvival}
+use Rattle.model_mortality.specs.laws.OrderDeath.{orderDeath}
 use Rattle.model_mortality.specs.laws.Facts.{Fit}
 use Rattle.model_mortality.specs.laws.Answered.{Answered}
 use Rattle.model_mortality.specs.laws.Needed.{young-needed, old-needed}

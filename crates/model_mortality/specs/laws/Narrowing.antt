@@ -28,7 +28,7 @@ use Rattle.model_logarithm.specs.laws.Half.{half, logOrder}
 use Rattle.model_logarithm.specs.laws.Narrowing.{log-narrow}
 use Rattle.model_logarithm.specs.laws.Force.{order-force-half}
 use Rattle.model_closure.specs.Weights.{firstFitted, firstClosed}
-use Rattle.model_logistic.specs.Units.{Bounded}
+use Rattle.model_logistic.specs.laws.SignedUnits.{Bounded}
 use Rattle.model_logistic.specs.Exact.{overOne, share, orderLogisticLower, orderLogisticUpper}
 use Rattle.model_logistic.specs.laws.LogisticNarrow.{logistic-narrow}
 use Rattle.model_logistic.specs.laws.ExpNarrow.{exp-narrow-below}
@@ -36,7 +36,8 @@ use Rattle.model_logistic.specs.laws.LogisticHolds.{order-lower-one}
 use Rattle.model_closure.specs.laws.SumBound.{absolute-sum, closedSum-bounded}
 use Rattle.model_closure.specs.Exact.{exactClosedSum}
 use Rattle.model_closure.specs.laws.SumNarrow.{closedSum-narrow}
-use Rattle.model_mortality.specs.Exact.{exactM, exactZ, orderYoungForce, orderFitted, orderFittedList, orderOldForce, orderForce, orderForceOver, orderSurvival, orderDeath}
+use Rattle.model_mortality.specs.Exact.{exactM, exactZ, orderYoungForce, orderFitted, orderFittedList, orderOldForce, orderForce, orderForceOver, orderSurvival}
+use Rattle.model_mortality.specs.laws.OrderDeath.{orderDeath}
 use Rattle.model_force.specs.Force.{negated}
 use Rattle.model_mortality.specs.Cell.{wholeYear}
 use Rattle.model_mortality.specs.laws.Answered.{Answered}

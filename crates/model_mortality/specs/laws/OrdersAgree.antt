@@ -15,12 +15,13 @@ use Rattle.model_log_force.specs.LogForce.{logForce}
 use Rattle.model_log_force.specs.code.Within.{logForceWidth, Negated}
 use Rattle.model_logarithm.specs.laws.Brackets.{log-agrees}
 use Rattle.model_closure.specs.Weights.{fitted, firstFitted, firstClosed}
-use Rattle.model_logistic.specs.Units.{Meet}
+use Rattle.model_logistic.specs.laws.SignedUnits.{Meet}
 use Rattle.model_logistic.specs.laws.OrdersAgree.{logistic-agrees}
 use Rattle.model_closure.specs.Exact.{intervalAt, exactClosedSum}
 use Rattle.model_closure.specs.laws.OrdersAgree.{closedSum-agrees}
 use Rattle.model_mortality.specs.Exact.{exactM, orderFitted, orderFittedList, orderOldForce}
-use Rattle.model_mortality.specs.Exact.{orderForce, orderForceOver, orderSurvival, orderDeath}
+use Rattle.model_mortality.specs.Exact.{orderForce, orderForceOver, orderSurvival}
+use Rattle.model_mortality.specs.laws.OrderDeath.{orderDeath}
 use Rattle.model_mortality.specs.Cell.{wholeYear}
 use Rattle.model_mortality.specs.laws.Answered.{Answered}
 use Rattle.model_mortality.specs.laws.Needed.{young-needed, old-needed}

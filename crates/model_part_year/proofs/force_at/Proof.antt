@@ -5,7 +5,8 @@ use Prim.Native.Nat.{ℕ, _-_, _≤_, _<_}
 use native.Mathlib.Omega.{arith}
 use borrow.Author.Needs.{needs}
 use lib.ListN.{getD}
-use Rattle.set_params.specs.Set.{ageOf, four-age}
+use Rattle.set_params.specs.Set.{ageOf}
+use Rattle.set_params.specs.laws.SetLaws.{four-age}
 use Rattle.model_log_force.specs.laws.YearLaws.{cell-within, year-force}
 use Rattle.model_closure.specs.Weights.{firstClosed, lastClosed, weightRow}
 use Rattle.model_closure.specs.laws.WeightLaws.{table-row}

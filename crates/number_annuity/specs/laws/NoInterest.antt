@@ -3,7 +3,8 @@ use mathlib.Core.List.{List}
 use Prim.Native.Nat.{ℕ, zero, suc}
 use native.Mathlib.Omega.{arith}
 use lib.ListN.{length, take}
-use Rattle.number_fraction.specs.Ratio.{Ratio, _≈/_, whole/, quotient/, _*/_}
+use Rattle.number_fraction.specs.Ratio.{Ratio, whole/, quotient/, _*/_}
+use Rattle.number_fraction.specs.laws.RatioTerms.{_≈/_}
 use Rattle.number_fraction.specs.laws.RatioLaws.{≈/-trans, */-cong, */-one, one-*/}
 use Rattle.number_fraction.specs.Bracket.{Bracket}
 use Rattle.number_folds.specs.Exact.{exactly, orderWithFactor, orderSurvivalFrom, orderSurvivalOver, orderSurvivalsOver, orderPlus, orderSumOver}

@@ -9,7 +9,8 @@ use Rattle.number_taylor.specs.Taylor.{taylorDen, taylorNum, factorial}
 use Rattle.number_taylor.specs.Positive.{taylorDen-positive, taylorNum-positive}
 use Rattle.number_taylor.specs.laws.Meaning.{taylorDen-factorial}
 use Rattle.number_taylor.specs.laws.Sums.{sum-monotone}
-use Rattle.number_taylor.specs.Alternating.{double, evenNum, oddNum}
+use Rattle.number_taylor.specs.Alternating.{double}
+use Rattle.number_taylor.specs.laws.AlternatingSums.{evenNum, oddNum}
 use Rattle.number_taylor.specs.laws.AlternatingLaws.{even-above, odd-below}
 use Rattle.number_exponential.specs.Grid.{Grid}
 use Rattle.number_exponential.specs.Exponential.{total, evens, odds, termLower, termUpper, sumLower, sumUpper}

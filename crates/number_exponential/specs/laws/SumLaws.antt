@@ -7,7 +7,8 @@ use native.Mathlib.Decide.{decLe}
 use native.Mathlib.Omega.{arith}
 use Rattle.number_taylor.specs.Taylor.{taylorDen, taylorNum}
 use Rattle.number_taylor.specs.Positive.{taylorDen-positive, sum-at-least-one}
-use Rattle.number_taylor.specs.Alternating.{double, evenNum, oddNum}
+use Rattle.number_taylor.specs.Alternating.{double}
+use Rattle.number_taylor.specs.laws.AlternatingSums.{evenNum, oddNum}
 use Rattle.number_taylor.specs.laws.AlternatingLaws.{even-above, odd-below}
 use Rattle.number_exponential.specs.Grid.{Grid}
 use Rattle.number_exponential.specs.Exponential.{total, evens, odds, termLower, termUpper, sumLower, sumUpper}

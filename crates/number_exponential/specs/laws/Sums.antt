@@ -5,7 +5,8 @@ use Prim.Native.Nat.{ℕ, zero, suc, _+_, _*_, _/_, _^_, _≤_}
 use native.Mathlib.Nat.{mul-le-mul-right, mul-assoc, pow-zero}
 use native.Mathlib.Omega.{arith}
 use Rattle.number_taylor.specs.Taylor.{taylorDen}
-use Rattle.number_taylor.specs.Alternating.{double, evenNum, oddNum}
+use Rattle.number_taylor.specs.Alternating.{double}
+use Rattle.number_taylor.specs.laws.AlternatingSums.{evenNum, oddNum}
 use Rattle.number_exponential.specs.Exponential.{total, evens, odds}
 
 -- the even terms to 2h; the odd ones below 2h

@@ -50,7 +50,7 @@ module _ (g : Grid) where
   unfolding one exactly inUnits whole/
   one-over = record { below = record { cross = omega arith }; above = record { cross = omega arith } }
 
-  half-over : Even g → Over (half g) (exactly half/)
+  pub half-over : Even g → Over (half g) (exactly half/)
   unfolding half exactly half/ inUnits whole/ quotient/
   half-over e = record { below = record { cross = omega arith }; above = record { cross = omega arith } }
 

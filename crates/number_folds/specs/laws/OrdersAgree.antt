@@ -29,7 +29,7 @@ pub with-factor-agrees : {a b p q : Bracket} → NotAbove a b → NotAbove p q
 unfolding orderWithFactor
 with-factor-agrees h k = record { reaches = */-mono (h .reaches) (k .reaches) }
 
-plus-agrees : {a b p q : Bracket} → NotAbove a b → NotAbove p q → NotAbove (orderPlus a p) (orderPlus b q)
+pub plus-agrees : {a b p q : Bracket} → NotAbove a b → NotAbove p q → NotAbove (orderPlus a p) (orderPlus b q)
 unfolding orderPlus
 plus-agrees h k = record { reaches = +/-mono (h .reaches) (k .reaches) }
 

@@ -1,5 +1,5 @@
 -- Whole multiples of one fraction: they keep a sum of small errors readable.
-use Prim.Native.Nat.{ℕ, suc, _*_, _≤_, _<_}
+use Prim.Native.Nat.{ℕ, suc, _+_, _*_, _≤_, _<_}
 use native.Mathlib.Nat.{mul-le-mul-right}
 use native.Mathlib.Omega.{arith}
 use Rattle.number_fraction.specs.Ratio.{Ratio, _≤/_, whole/, quotient/, _+/_, _*/_}
@@ -15,6 +15,10 @@ times-one e = record { cross = omega arith }
 pub times-suc : (n : ℕ) (e : Ratio) → times n e +/ e ≤/ times (suc n) e
 unfolding times whole/ _*/_ _+/_
 times-suc n e = record { cross = omega arith }
+
+pub times-plus : (m n : ℕ) (e : Ratio) → times m e +/ times n e ≤/ times (m + n) e
+unfolding times whole/ _*/_ _+/_
+times-plus m n e = record { cross = omega arith }
 
 pub times-times : (a b : ℕ) (e : Ratio) → whole/ a */ times b e ≤/ times (a * b) e
 unfolding times whole/ _*/_

@@ -15,7 +15,8 @@ use native.Mathlib.Nat.{
 }
 use native.Mathlib.Decide.{decLe}
 use native.Mathlib.Omega.{arith}
-use Rattle.number_fraction.specs.Ratio.{Ratio, _≤/_, _</_, _≈/_, whole/, _+/_, _*/_, quotient/, complement}
+use Rattle.number_fraction.specs.Ratio.{Ratio, _≤/_, _</_, whole/, _+/_, _*/_, quotient/, complement}
+use Rattle.number_fraction.specs.laws.RatioTerms.{_≈/_}
 
 -- ---- the order
 

@@ -4,7 +4,8 @@ use Prim.Native.Nat.{ℕ, zero, suc, _+_, _*_, _^_, _<_}
 use mathlib.Core.Path.{_≡_, ap}
 use native.Mathlib.Nat.{pow-suc, pow-zero}
 use native.Mathlib.Omega.{arith}
-use Rattle.number_fraction.specs.Ratio.{Ratio, _≤/_, _≈/_, _+/_, _*/_, whole/}
+use Rattle.number_fraction.specs.Ratio.{Ratio, _≤/_, _+/_, _*/_, whole/}
+use Rattle.number_fraction.specs.laws.RatioTerms.{_≈/_}
 use Rattle.number_fraction.specs.laws.RatioLaws.{≈/-iff}
 use Rattle.number_taylor.specs.Taylor.{taylorNum, taylorDen, gap, stretchedNum, stretchedDen, factorial}
 use Rattle.number_taylor.specs.Order.{expSum, orderLower, orderUpper, expTerm, expRemainder}

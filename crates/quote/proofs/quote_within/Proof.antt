@@ -14,11 +14,12 @@ use Rattle.quote_paths.specs.code.Code.{IsPart}
 use Rattle.quote_kinds.specs.declared.Rule.{Rule}
 use Rattle.quote_kinds.specs.Kinds.{ruleOf, countOf, spanOf, partOf}
 use Rattle.quote_table_tests.specs.TableTests.{firstFailed, tableTests}
-use Rattle.quote_table_tests.specs.laws.TableLaws.{InTable, in-table, year-small, year-reached}
+use Rattle.quote_table_tests.specs.laws.TableLaws.{InTable, in-table}
 use Rattle.quote.specs.Quote.{queryPath}
+use Rattle.quote.specs.code.Code.{pathTo}
 use Rattle.quote.specs.laws.Tests.{Counted, counted, path-first, path-room, path-in}
+use Rattle.set_refusal.specs.declared.Refusal.the-variants.{Accepted}
 use Rattle.set_refusal.specs.laws.RefusalLaws.{accepted}
-use Rattle.quote_kinds.proofs.Casts.{cast-whole}
 use Rattle.quote.proofs.Steps.{table-answer, along-answer, years-under, part-room}
 use Rattle.quote.proofs.quote_within.Statement.{statement}
 use Rattle.quote.proofs.quote_within.Tie as tie
@@ -49,14 +50,18 @@ refusal-is c =
     ∙ ap (λ (k : Rule). firstFailed (tableTests (s .args .p .start) k (s .args .age) (s .args .year) (s .args .term))) (r .rule-of .ensures)
 
 -- where it is none, the query is in the table
+passed : (e : tie.Else1) → let s = begun e in
+    firstFailed (tableTests (s .args .p .start) (ruleOf (s .args .kind)) (s .args .age) (s .args .year) (s .args .term)) ≡ Accepted
+passed e =
+    let n = e .before in
+    let r = n .before in
+    sym (refusal-is r) ∙ accepted (r .table-refusal .result) (sym (n .refusal-number .ensures) ∙ e .if1 .left)
+
 table : (e : tie.Else1) → let s = begun e in
     InTable (s .args .p .start) (ruleOf (s .args .kind)) (s .args .age) (s .args .year) (s .args .term)
 table e =
-    let n = e .before in
-    let r = n .before in
     let s = begun e in
-    in-table (s .args .p .start) (ruleOf (s .args .kind)) (s .args .age) (s .args .year) (s .args .term)
-    (sym (refusal-is r) ∙ accepted (r .table-refusal .result) (sym (n .refusal-number .ensures) ∙ e .if1 .left))
+    in-table (s .args .p .start) (ruleOf (s .args .kind)) (s .args .age) (s .args .year) (s .args .term) (passed e)
 
 numbers : (e : tie.Else1) → let s = begun e in
     Counted (s .args .p .start) (s .args .kind) (s .args .age) (s .args .year) (s .args .term)
@@ -76,81 +81,41 @@ returns c =
     table-answer (s .args .p) (s .args .kind) (s .args .age) (s .args .year) (s .args .term) (s .pre) (refusal-is r)
     (λ e. c .if1 .taken (n .refusal-number .ensures ∙ e))
 
--- ---- the year's number
+-- ---- the path and the part of a year after it
 
-year-number-requires : tie.Need-year-number-requires
-year-number-requires c κs =
-    let e = c .before in
-    let s = begun e in
-    rw (start-read s, toZ-ofZ (s .fits .year)) (year-reached (start-within s) (numbers e .year-in))
+path-to-requires : tie.Need-path-to-requires
+path-to-requires c κs =
+    let s = begun (c .before) in
+    let f = s .fits in
+    rw (start-read s, toZ-ofZ (f .age), toZ-ofZ (f .year), toZ-ofZ (f .term)) (start-within s, passed (c .before))
 
-number-is : (c : tie.After-year-number) → let s = begun (c .before .before) in
-    c .year-number .result ≡ yearNumber (s .args .p .start) (s .args .year)
-number-is c =
+path-is : (c : tie.After-path-to) → let s = begun (c .before .before) in
+    c .path-to .result ≡ pathTo (s .args .p .start) (s .args .kind) (s .args .age) (s .args .year) (s .args .term)
+path-is c =
     let s = begun (c .before .before) in
-    rw (start-read s, toZ-ofZ (s .fits .year)) at (c .year-number .ensures)
-
--- ---- the term
-
--- the rule and the term, as they are read
-span-of-requires : tie.Need-span-of-requires
-span-of-requires c κs =
-    let e = c .before .before in
-    let r = ruled (e .before .before) in
-    let s = r .before in
-    let k = s .args .kind in
-    rw (toZ-ofZ (s .fits .year), toZ-ofZ (s .fits .term), r .rule-of .ensures)
-    (year-small (s .args .p .start) (ruleOf k) (s .args .year) (start-within s) (years-under k) (table e .year-in), numbers e .date-in)
-
-span-is : (c : tie.After-span-of) → let s = begun (c .before .before .before) in
-    c .span-of .result ≡ spanOf (ruleOf (s .args .kind)) (s .args .year) (s .args .term)
-span-is c =
-    let r = ruled (c .before .before .before .before .before) in
-    let s = r .before in
-    rw (toZ-ofZ (s .fits .year), toZ-ofZ (s .fits .term), r .rule-of .ensures) at (c .span-of .ensures)
-
-cast-age : tie.Need-cast-t14
-cast-age c = let e = c .before .before .before in cast-whole (begun e .fits .age) (numbers e .age-is)
-
-cast-count-of : tie.Need-cast-count-of
-cast-count-of c =
-    cast-whole {z = c .span-of .result} (record { sfits = c .span-of .ok })
-    (rw (span-is c) (numbers (c .before .before .before) .span-is))
-
-count-of-requires : tie.Need-count-of-requires
-count-of-requires c κs = let y = c .before in omega (arith, number-is y, path-first _ (numbers (y .before .before)))
-
--- the path is the query's
-count-is : (c : tie.After-count-of) → let s = begun (c .before .before .before .before) in
-    c .count-of .result ≡ countOf (ruleOf (s .args .kind) .fold) (yearNumber (s .args .p .start) (s .args .year))
-    (natAbs (spanOf (ruleOf (s .args .kind)) (s .args .year) (s .args .term)))
-count-is c =
-    let p = c .before in
-    let y = p .before in
-    let r = ruled (y .before .before .before .before) in
-    rw (r .rule-of .ensures, number-is y, toZ-ofZ (record { sfits = p .span-of .ok }), span-is p) at (c .count-of .ensures)
+    let f = s .fits in
+    rw (start-read s, toZ-ofZ (f .age), toZ-ofZ (f .year), toZ-ofZ (f .term)) at (c .path-to .ensures)
 
 part-of-requires : tie.Need-part-of-requires
 part-of-requires c κs =
-    let e = c .before .before .before .before in
+    let e = c .before .before in
     let r = ruled (e .before .before) in
     rw (toZ-ofZ (r .before .fits .term), r .rule-of .ensures) (numbers e .date-in)
 
-part-is : (c : tie.After-part-of) → let s = begun (c .before .before .before .before .before) in
+part-is : (c : tie.After-part-of) → let s = begun (c .before .before .before) in
     IsPart (c .part-of .result) (partOf (ruleOf (s .args .kind)) (s .args .term))
 part-is c =
-    let r = ruled (c .before .before .before .before .before .before .before) in
+    let r = ruled (c .before .before .before .before .before) in
     rw (toZ-ofZ (r .before .fits .term), r .rule-of .ensures) at (c .part-of .ensures)
 
 answer-along-requires : tie.Need-answer-along-requires
 answer-along-requires c κs =
     let d = c .before in
-    let y = d .before .before in
-    let e = y .before .before in
+    let e = d .before .before in
     let r = ruled (e .before .before) in
     let s = r .before in
     let k = numbers e in
-    rw (toZ-ofZ (s .fits .age), r .rule-of .ensures, count-is d, number-is y) (
+    rw (r .rule-of .ensures, path-is d) (
       record { limits = s .pre; age = k .age-in; room = path-room _ k; first = path-first _ k; years = path-in _ k },
       part-room (s .args .kind) k (part-is c),
       k .rate-in,
@@ -161,15 +126,14 @@ unfolding queryPath
 returns-2 c =
     let a = c .before in
     let d = a .before in
-    let y = d .before .before in
-    let e = y .before .before in
+    let e = d .before .before in
     let r = ruled (e .before .before) in
     let s = r .before in
-    rw (toZ-ofZ (s .fits .age), r .rule-of .ensures, count-is d, number-is y) at (c .answer-along .ensures) _ (part-is a)
+    rw (r .rule-of .ensures, path-is d) at (c .answer-along .ensures) _ (part-is a)
     ∙ along-answer (s .args .p) (s .args .kind) (s .args .age) (s .args .year) (s .args .term) (s .pre) (table e)
 
 pub quote-within-spec : {M : Type 1} → statement M
 quote-within-spec =
     tie.close
-    (tie.spec (λ c κs. search needs) table-refusal-requires (λ c κs. search needs) returns year-number-requires span-of-requires
-    cast-age cast-count-of count-of-requires part-of-requires answer-along-requires returns-2)
+    (tie.spec (λ c κs. search needs) table-refusal-requires (λ c κs. search needs) returns path-to-requires part-of-requires
+    answer-along-requires returns-2)

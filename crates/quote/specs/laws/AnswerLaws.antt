@@ -1,5 +1,5 @@
 -- An answer by its refusal is one of two: the quote where nothing is refused, or a refusal that has a number.
-use mathlib.Core.Path.{_≡_, refl}
+use mathlib.Core.Path.{_≡_, refl, ap}
 use Prim.Native.Nat.{ℕ, zero, suc}
 use mathlib.Core.Bool.{cond}
 use native.Mathlib.Omega.{arith}
@@ -25,3 +25,12 @@ answer-by r q = go (refusalNumber r) refl
     go : (n : ℕ) → refusalNumber r ≡ n → AnswerBy r q (cond (eqb n 0) (Quoted q) (Refused r))
     go zero e = quoted (accepted r e)
     go (suc n) e = rw (ne-eqb (suc n) 0 (λ z. omega arith)) (refused (λ z. omega (arith, e, z)))
+
+-- what is refused has no quote: two answers by one refusal are the same where their quotes are, if nothing is refused
+pub by-refusal : (r : Refusal) (q q′ : Quote) → (r ≡ Accepted → q ≡ q′) → answerBy r q ≡ answerBy r q′
+unfolding answerBy
+by-refusal r q q′ h = go (refusalNumber r) refl
+  where
+    go : (n : ℕ) → refusalNumber r ≡ n → cond (eqb n 0) (Quoted q) (Refused r) ≡ cond (eqb n 0) (Quoted q′) (Refused r)
+    go zero e = ap Quoted (h (accepted r e))
+    go (suc n) e = rw (ne-eqb (suc n) 0 (λ z. omega arith))

@@ -1,5 +1,5 @@
 -- Every answer meets demand 3, and the claim over two quotes by itself.
-use mathlib.Core.Path.{_≡_, refl, ap, sym, _∙_}
+use mathlib.Core.Path.{_≡_, refl, _∙_}
 use mathlib.Core.Logic.{_↔_}
 use mathlib.Core.Bool.{Bool, true, false}
 use mathlib.Core.List.{_++_}
@@ -8,23 +8,14 @@ use native.Mathlib.Nat.{add-zero}
 use native.Mathlib.Omega.{arith}
 use lib.Dec.{lit<}
 use lib.IntN.{ℤ, natAbs}
-use Rattle.number_whole.specs.laws.Clash.{clash}
 use Rattle.number_fraction.specs.Ratio.{Ratio, whole/}
 use Rattle.number_exponential.specs.Billionths.{billionths}
 use Rattle.set_params.specs.declared.Params.{Params}
-use Rattle.set_refusal.specs.declared.Refusal.{Refusal}
-use Rattle.set_refusal.specs.declared.Refusal.the-variants.{Accepted}
 use Rattle.set_params.specs.Set.{yearNumber}
 use Rattle.model_closure.specs.Weights.{lastClosed}
-use Rattle.set_refusal.specs.Refusals.{refusalNumber}
 use Rattle.set_refusal.specs.laws.RefusalLaws.{accepted}
-use Rattle.number_exact.specs.declared.Figure.{Figure}
-use Rattle.number_exact.specs.declared.Figure.the-variants.{Printed, Open}
 use Rattle.number_exact.specs.Value.{OneStep}
-use Rattle.number_exact.specs.laws.ValueLaws.{overlap-at-least, overlap-at-most}
-use Rattle.number_exact.specs.Figure.{figureOf}
-use Rattle.number_exact.specs.laws.FigureLaws.{figure-printed, figure-open}
-use Rattle.number_exact.specs.laws.Rounding.{printed-rounds, same-step}
+use Rattle.number_exact.specs.laws.Rounding.{same-step}
 use Rattle.number_folds.specs.code.Code.{mostFactors}
 use Rattle.quote_paths.specs.Values as path
 use Rattle.quote_paths.specs.Path.{pathOf, partYear}
@@ -40,56 +31,12 @@ use Rattle.quote_paths.specs.declared.Fold.{Fold}
 use Rattle.quote_paths.specs.declared.Fold.the-variants.{Death, Survival, Expectancy, Annuity}
 use Rattle.quote_kinds.specs.Kinds.{OneKind, ruleOf, mostSpan, longestSpan, yearsOn, countOf, stepOf, cellWidth, foldWidth, widthOf, spanOf, partOf}
 use Rattle.quote_kinds.specs.laws.KindLaws.{one-step-of}
-use Rattle.quote_along.specs.declared.Quote.{Quote}
-use Rattle.quote_along.specs.declared.Answer.{Answer}
-use Rattle.quote_along.specs.declared.Answer.the-variants.{Quoted, Refused}
-use Rattle.quote.specs.Quote.{queryPath, queryEnds, exactQuery, refusalOf, quoteOf, answerBy, answerOf}
-use Rattle.quote.specs.Demand.{printed, markedOpen, noFigure, shownOf, numberOf, lowerOf, upperOf, figureShown, step, RoundsAt, Kept, Demand3}
-use Rattle.quote.specs.laws.AnswerLaws.{AnswerBy, quoted, refused, answer-by}
+use Rattle.quote.specs.Quote.{queryPath, queryEnds, exactQuery, refusalOf, quoteOf, answerOf}
+use Rattle.quote.specs.Demand.{printed, figureShown, step, queryWidth, RoundsAt, Promised, Demand3}
+use Rattle.quote.specs.laws.Promises.{Held, promised}
 use Rattle.quote.specs.laws.Tests.{Passed, all-passed, counted, path-room, query-answered}
 
--- ---- which answers are quotes
-
--- an answer has the number of its refusal
-answer-number : (r : Refusal) (q : Quote) → numberOf (answerBy r q) ≡ refusalNumber r
-unfolding numberOf refusalNumber
-answer-number r q = go (answer-by r q)
-  where
-    go : {a : Answer} → AnswerBy r q a → numberOf a ≡ refusalNumber r
-    go (quoted e) = rw e
-    go (refused n) = refl
-
--- an answer with a number has ends 0 and 0 and no figure
-refused-empty : (a : Answer) → (numberOf a ≡ 0 → ⊥) → (lowerOf a ≡ 0) × (upperOf a ≡ 0) × (figureShown a ≡ noFigure)
-unfolding numberOf lowerOf upperOf figureShown
-refused-empty (Quoted q) n = absurd (n refl)
-refused-empty (Refused r) n = (refl, refl, refl)
-
--- an answer with no number is a quote
-no-number : (r : Refusal) (q : Quote) → numberOf (answerBy r q) ≡ 0 → r ≡ Accepted
-no-number r q e = accepted r (sym (answer-number r q) ∙ e)
-
--- and so is one with a figure
-no-refusal : {n : ℕ} → noFigure ≡ printed n → ⊥
-no-refusal e = clash cc
-
-printed-quote : (r : Refusal) (q : Quote) {n : ℕ} → figureShown (answerBy r q) ≡ printed n → (r ≡ Accepted) × (shownOf (q .figure) ≡ printed n)
-unfolding figureShown
-printed-quote r q {n} = go (answer-by r q)
-  where
-    go : {a : Answer} → AnswerBy r q a → figureShown a ≡ printed n → (r ≡ Accepted) × (shownOf (q .figure) ≡ printed n)
-    go (quoted e) f = (e, f)
-    go (refused m) f = absurd (no-refusal f)
-
-printed-figure : (f : Figure) {n : ℕ} → shownOf f ≡ printed n → f ≡ Printed n
-unfolding shownOf
-printed-figure (Printed m) {n} e = let k : m ≡ n = cc in ap Printed k
-printed-figure Open e = clash cc
-
-open-figure : (f : Figure) → (shownOf f ≡ markedOpen) ↔ (f ≡ Open)
-unfolding shownOf
-open-figure (Printed m) = (λ e. clash cc, λ e. clash cc)
-open-figure Open = (λ e. refl, λ e. refl)
+-- ---- an accepted query
 
 step-positive : (f : Fold) → 0 < stepOf f
 unfolding stepOf
@@ -97,8 +44,6 @@ step-positive Death = lit< tt
 step-positive Survival = lit< tt
 step-positive Expectancy = lit< tt
 step-positive (Annuity rate) = lit< tt
-
--- ---- an accepted query
 
 -- its ends lie no further apart than its fold allows
 fold-width : (f : Fold) {p : Params} (cohort : Bool) (x n span : ℕ) → x ≤ lastClosed → span ≤ mostSpan f x
@@ -178,42 +123,33 @@ module _ {p : Params} {k : Kind} {age year term : ℤ} (h : Passed p k age year 
       ≤ queryEnds p k age year term .lower + widthOf (ruleOf k) (natAbs age) (natAbs (spanOf (ruleOf k) year term))
   query-width = kind-width (dated k) h
 
-  query-kept : Kept p k age year term (Quoted (quoteOf p k age year term))
-  unfolding lowerOf upperOf figureShown quoteOf queryEnds exactQuery
-  query-kept =
+  query-held : Held (queryEnds p k age year term) (exactQuery p k age year term) (step k) (queryWidth k age year term)
+  unfolding queryEnds exactQuery
+  query-held =
       let a = query-answered h in
       let f = ruleOf k .fold in
-      let o = figure-open (step k) (queryEnds p k age year term) in
-      let w = open-figure (figureOf (step k) (queryEnds p k age year term)) in
       record {
-        of-grid = (refl, refl);
-        at-least = overlap-at-least (λ j l. value-holds a j l f);
-        at-most = overlap-at-most (λ j l. value-holds a j l f);
+        positive = step-positive f;
+        holds = λ j l. value-holds a j l f;
         width = query-width;
         agrees = value-agrees a f;
         narrows = value-narrows a f;
-        open-when = (λ e. o .0 (w .0 e), λ e. w .1 (o .1 e));
       }
 
-  -- a printed figure is the exact value rounded half up
-  query-rounds : {n : ℕ} → figureOf (step k) (queryEnds p k age year term) ≡ Printed n → RoundsAt p k age year term n
-  unfolding queryEnds exactQuery
-  query-rounds e =
-      let a = query-answered h in
-      let f = ruleOf k .fold in
-      let g = figure-printed (step k) (queryEnds p k age year term) e in
-      printed-rounds (queryEnds p k age year term) (step-positive (ruleOf k .fold)) (overlap-at-least (λ j l. value-holds a j l f))
-      (overlap-at-most (λ j l. value-holds a j l f)) (value-narrows a f) (g .0) (g .1)
-
 -- ---- the theorems
+
+-- what is promised of every answer by itself
+query-promised : (p : Params) (k : Kind) (age year term : ℤ)
+    → Promised (refusalOf p k age year term) (queryEnds p k age year term) (exactQuery p k age year term) (step k)
+    (queryWidth k age year term) (answerOf p k age year term)
+unfolding answerOf quoteOf
+query-promised p k age year term =
+    promised (refusalOf p k age year term) _ _ _ _ (λ e. query-held (all-passed p k age year term e))
 
 -- a printed figure of any query is its exact value rounded half up
 pub figure-rounds : (p : Params) (k : Kind) (age year term : ℤ) {n : ℕ} → figureShown (answerOf p k age year term) ≡ printed n
     → RoundsAt p k age year term n
-unfolding answerOf quoteOf
-figure-rounds p k age year term e =
-    let q = printed-quote (refusalOf p k age year term) (quoteOf p k age year term) e in
-    query-rounds (all-passed p k age year term (q .0)) (printed-figure _ (q .1))
+figure-rounds p k age year term {n} e = query-promised p k age year term .rounds n e
 
 -- two printed figures of one kind, whichever sets, ages, years, terms and rates they come from, are equal exactly when their
 -- exact values round to one same step
@@ -225,15 +161,8 @@ same-figure k k′ one p p′ age year term age′ year′ term′ e e′ =
 
 -- every answer meets demand 3
 pub demand-met : (p : Params) (k : Kind) (age year term : ℤ) → Demand3 p k age year term (answerOf p k age year term)
-unfolding answerOf answerBy refusalNumber
 demand-met p k age year term =
     record {
-      number = answer-number (refusalOf p k age year term) (quoteOf p k age year term);
-      refused = refused-empty (answerBy (refusalOf p k age year term) (quoteOf p k age year term));
-      kept = λ e. accepted (no-number (refusalOf p k age year term) (quoteOf p k age year term) e);
-      rounds = λ n e. figure-rounds p k age year term e;
+      alone = query-promised p k age year term;
       one-step = λ n e p′ kind′ age′ year′ term′ n′ one e′. same-figure k kind′ one p p′ age year term age′ year′ term′ e e′;
     }
-  where
-    accepted : refusalOf p k age year term ≡ Accepted → Kept p k age year term (answerBy (refusalOf p k age year term) (quoteOf p k age year term))
-    accepted r = rw r (query-kept (all-passed p k age year term r))

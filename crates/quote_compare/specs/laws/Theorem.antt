@@ -3,6 +3,7 @@ use mathlib.Core.Path.{_≡_, ap, _∙_}
 use Prim.Native.Nat.{ℕ}
 use lib.IntN.{ℤ}
 use Rattle.number_exponential.specs.Billionths.{billionths}
+use Rattle.number_exponential.specs.declared.Ends.{Ends}
 use Rattle.set_params.specs.declared.Params.{Params}
 use Rattle.number_exact.specs.declared.Figure.the-variants.{Printed}
 use Rattle.number_exact.specs.Value.{Exact, OneStep}
@@ -10,7 +11,7 @@ use Rattle.quote_kinds.specs.declared.Kind.{Kind}
 use Rattle.quote_kinds.specs.Kinds.{OneKind}
 use Rattle.quote_along.specs.declared.Answer.{Answer}
 use Rattle.quote.specs.Quote.{exactQuery, answerOf}
-use Rattle.quote.specs.Demand.{shownOf, numberOf, step, Kept}
+use Rattle.quote.specs.Demand.{shownOf, numberOf, step, KeptBy, Kept}
 use Rattle.quote.specs.laws.Theorem.{same-figure, demand-met}
 use Rattle.quote_compare.specs.declared.Excess.{Excess}
 use Rattle.quote_compare.specs.declared.Values.the-variants.{Below, Above}
@@ -24,10 +25,9 @@ use Rattle.quote_compare.specs.laws.MeaningLaws.{values-mean, exceeds-le
 -- an accepted answer is kept, and so its ends hold its exact value
 kept : (p : Params) (kind : Kind) (age year term : ℤ) → numberOf (answerOf p kind age year term) ≡ 0
     → Kept p kind age year term (answerOf p kind age year term)
-kept p kind age year term e = demand-met p kind age year term .kept e
+kept p kind age year term e = demand-met p kind age year term .alone .kept e
 
-held : {p : Params} {kind : Kind} {age year term : ℤ} → Kept p kind age year term (answerOf p kind age year term)
-    → Held billionths (answerEnds (answerOf p kind age year term)) (exactQuery p kind age year term)
+held : {e : Ends} {x : Exact} {s w : ℕ} {a : Answer} → KeptBy e x s w a → Held billionths (answerEnds a) x
 unfolding answerEnds
 held k = record { at-least = k .at-least; at-most = k .at-most }
 

@@ -26,7 +26,7 @@ use Rattle.quote_paths.specs.laws.Answers.{AnsweredPath}
 
 module _ (g : Grid) where
   -- unit less the ends, exchanged, over 1 less the bracket
-  death-of-holds : {e : Ends} {b : Bracket} → Over g e b → Over g (deathOf g e) (orderDeathOf b)
+  pub death-of-holds : {e : Ends} {b : Bracket} → Over g e b → Over g (deathOf g e) (orderDeathOf b)
   unfolding deathOf inUnits complement orderDeathOf
   death-of-holds h = record { below = complement-reverse (h .above); above = complement-reverse (h .below) }
 

@@ -26,13 +26,13 @@ use Rattle.quote_paths.specs.Values.{orderDeathOf, orderFoldOver, exactV
 use Rattle.quote_paths.specs.laws.Answers.{AnsweredPath}
 
 -- the parts that 1/M is divided into, for k factors
-abbrev parts : ℕ → ℕ → ℕ
+abbrev pub parts : ℕ → ℕ → ℕ
 parts k M = M * suc (k * suc k)
 
-parts-positive : (k M : ℕ) → 0 < M → 0 < parts k M
+pub parts-positive : (k M : ℕ) → 0 < M → 0 < parts k M
 parts-positive k M h = mul-pos h (omega arith)
 
-abbrev part : (k M : ℕ) → 0 < M → Ratio
+abbrev pub part : (k M : ℕ) → 0 < M → Ratio
 part k M h = quotient/ (whole/ 1) (parts k M) (parts-positive k M h)
 
 -- a survival takes at most k of them, and an expectancy at most k²
@@ -71,15 +71,15 @@ module _ {bs : List Bracket} (M : ℕ) (h : 0 < M) (e : Each (OrderChance (part 
       (times-part (length bs * suc (length bs)) (length bs * suc (length bs)) M h (parts-positive (length bs) M h) (le-refl _)))
 
 module _ {p : Params} {path : List Place} (a : AnsweredPath p path) where
-  -- from this order on each factor is at most one part wide
-  factors-narrow : (M : ℕ) (h : 0 < M) (j : ℕ) → deathOrder (parts (length path) M) ≤ j
-      → Each (OrderChance (part (length path) M h)) (orderFactors p path j)
+  -- from this order on each factor is at most one part wide, of the parts for k factors
+  pub factors-narrow : (k M : ℕ) (h : 0 < M) (j : ℕ) → deathOrder (parts k M) ≤ j
+      → Each (OrderChance (part k M h)) (orderFactors p path j)
   unfolding orderFactors
-  factors-narrow M h j l =
+  factors-narrow k M h j l =
       each-map _ (λ c t. record {
         least = survival-least-one p (c .age) (c .year) (c .part) j;
         most = survival-most-one p (c .age) (c .year) (c .part) j;
-        width = p-narrow (t .cell) (parts (length path) M) (parts-positive (length path) M h) j l (t .within);
+        width = p-narrow (t .cell) (parts k M) (parts-positive k M h) j l (t .within);
       }) a
 
   pub value-narrows : (f : Fold) → Narrows (exactValue f p path)
@@ -89,5 +89,5 @@ module _ {p : Params} {path : List Place} (a : AnsweredPath p path) where
         order = λ M. deathOrder (parts (length path) M);
         counts = λ M. deathOrder-counts (parts (length path) M);
         narrow = λ M h j l.
-            fold-narrow {bs = orderFactors p path j} M h (rw (order-length p path j) (factors-narrow M h j l)) f;
+            fold-narrow {bs = orderFactors p path j} M h (rw (order-length p path j) (factors-narrow (length path) M h j l)) f;
       }

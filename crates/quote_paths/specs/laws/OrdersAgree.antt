@@ -18,7 +18,7 @@ use Rattle.quote_paths.specs.Values.{orderDeathOf, orderFoldOver, exactV
 use Rattle.quote_paths.specs.laws.Answers.{AnsweredPath}
 
 -- 1 less two brackets, their ends exchanged
-death-of-agrees : {a b : Bracket} → NotAbove b a → NotAbove (orderDeathOf a) (orderDeathOf b)
+pub death-of-agrees : {a b : Bracket} → NotAbove b a → NotAbove (orderDeathOf a) (orderDeathOf b)
 unfolding orderDeathOf
 death-of-agrees h = record { reaches = complement-reverse (h .reaches) }
 
@@ -32,7 +32,7 @@ fold-agrees Expectancy h k = expectancy-agrees h
 fold-agrees (Annuity rate) h k = annuity-agrees (natAbs rate) h
 
 module _ {p : Params} {path : List Place} (a : AnsweredPath p path) where
-  factors-agree : (i j : ℕ) → leastOrder ≤ i → leastOrder ≤ j
+  pub factors-agree : (i j : ℕ) → leastOrder ≤ i → leastOrder ≤ j
       → Forall₂ NotAbove (orderFactors p path i) (orderFactors p path j)
   unfolding orderFactors
   factors-agree i j k l = each-places _ _ (λ c h. cell.survival-agrees (h .cell) (c .part) i j k l) a

@@ -144,6 +144,11 @@ limits-part cohort x n k h =
     ∙ listed-same _ _ 0 k (λ s l. ap ageLimit (place-age cohort x n s (omega arith))) ∙ listed-shift ageLimit x 0 k
     ∙ ap (λ (y : ℕ). listed ageLimit y k) (add-zero x ∙ sym (zero-add x)) ∙ sym (listed-part ageLimit 0 (suc lastClosed) x k h)
 
+-- and so are those of a survival to age 121
+pub path-spread : (cohort : Bool) (x n k : ℕ) → x + k ≤ suc lastClosed → spread (pathLimits (pathOf cohort x n k)) ≤ 27342
+path-spread cohort x n k h =
+    omega (arith, ap spread (limits-part cohort x n k h), spread-part x k ageLimits, widest-survival)
+
 pub survival-limit : {p : Params} (cohort : Bool) (x n k : ℕ) → x + k ≤ suc lastClosed → AnsweredPath p (pathOf cohort x n k)
     → gridValue Survival billionths p (pathOf cohort x n k) .upper
     ≤ gridValue Survival billionths p (pathOf cohort x n k) .lower + survivalLimit
@@ -152,9 +157,7 @@ survival-limit cohort x n k h a =
     omega (
       arith,
       survival-chance billionths (billionths .positive) (path-chances a) .width,
-      ap spread (limits-part cohort x n k h),
-      spread-part x k ageLimits,
-      widest-survival,
+      path-spread cohort x n k h,
     )
 
 -- with a part of the year after it

@@ -8,7 +8,8 @@ use native.Mathlib.Omega.{arith}
 use borrow.Author.Needs.{needs}
 use Rattle.number_whole.specs.laws.Bound.{back}
 use Rattle.set_limits.specs.laws.LimitsLaws.{in-limits-series}
-use Rattle.set_params.specs.Set.{ageOf, four-age}
+use Rattle.set_params.specs.Set.{ageOf}
+use Rattle.set_params.specs.laws.SetLaws.{four-age}
 use Rattle.model_closure.specs.Weights.{firstClosed}
 use Rattle.number_folds.specs.code.Code.{mostFactors}
 use Rattle.model_log_force.specs.laws.YearLaws.{cell-within, year-force}

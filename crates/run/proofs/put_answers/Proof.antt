@@ -5,8 +5,8 @@ use Prim.Native.Nat.{ℕ, _+_, _-_, _<_}
 use native.Mathlib.Omega.{arith}
 use lib.ListN.{length}
 use Rattle.text_lines.specs.laws.LineLaws.{place-within}
+use Rattle.run_answer_text.specs.laws.LineLaws.{Bounded}
 use Rattle.run_line.specs.Line.{lineAnswer, longestLine}
-use Rattle.run_line.specs.laws.LineLaws.{Bounded}
 use Rattle.run_line.specs.laws.ReplyLaws.{line-bounded}
 use Rattle.run.specs.laws.AnswerLaws.{Going, lineAt, line-here, going-none, going-room, going-more, going-all}
 use Rattle.run.proofs.put_answers.Statement.{statement}

@@ -21,7 +21,7 @@ use Rattle.run_line.specs.laws.ReplyLaws.{longest-between}
 use Rattle.run.specs.declared.Program.{Program}
 use Rattle.run.specs.declared.Program.the-variants.{Lines, Verdict}
 use Rattle.run.specs.Answers.{answersFrom}
-use Rattle.run.specs.Run.{takesTwo, refusedRun, outputOf, linesRun, runRoom}
+use Rattle.run.specs.Run.{sheetsBy, refusedRun, outputOf, linesRun, runRoom}
 
 -- ---- a refused front
 
@@ -45,7 +45,7 @@ line-length named r h =
 
 -- ---- a program of lines
 
-module _ (mode : Mode) (input : List ℕ) {f : Front} (e : f ≡ frontOf (takesTwo mode) input) where
+module _ (mode : Mode) (input : List ℕ) {f : Front} (e : f ≡ frontOf (sheetsBy mode) input) where
   lines-by : linesRun mode input ≡ outputOf mode f input
   unfolding linesRun
   lines-by = rw e

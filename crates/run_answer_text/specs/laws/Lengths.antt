@@ -11,6 +11,9 @@ use Rattle.set_refusal.specs.declared.Refusal.{Refusal}
 use Rattle.set_refusal.specs.declared.Refusal.the-variants.{Malformed}
 use Rattle.set_refusal.specs.Refusals.{refusalNumber}
 use Rattle.set_refusal.specs.laws.RefusalLaws.{number-small}
+use Rattle.quote_paths.specs.declared.Fold.{Fold}
+use Rattle.quote_paths.specs.declared.Fold.the-variants.{Death, Survival, Expectancy, Annuity}
+use Rattle.quote_kinds.specs.Kinds.{decimalsOf}
 use Rattle.run_figure_text.specs.laws.FigureTextLaws.{shown-length}
 use Rattle.quote_along.specs.declared.Quote.{Quote}
 use Rattle.quote_along.specs.declared.Answer.{Answer}
@@ -60,6 +63,13 @@ quote-length ends d a =
     simp length-append (omega (arith, ends-length ends (a .lower) (a .upper), shown-length d (a .figure)))
 
 -- ---- any answer
+
+pub decimals-most : (f : Fold) → decimalsOf f ≤ 5
+unfolding decimalsOf
+decimals-most Death = omega arith
+decimals-most Survival = omega arith
+decimals-most Expectancy = omega arith
+decimals-most (Annuity rate) = omega arith
 
 pub answer-length : (ends : Bool) (d : ℕ) (a : Answer) → length (answerText ends d a) ≤ answerBytes + d
 unfolding answerText

@@ -36,7 +36,7 @@ use Rattle.run_answer_text.specs.code.Sizes.{Sized, SizedAnswer}
 
 -- ---- the figure of small ends
 
-abbrev small : ℕ
+abbrev pub small : ℕ
 small = 10 ^ 12
 
 half-small : (f : Fold) (e : ℕ) → e ≤ small → halfUp (stepOf f) e < 10 ^ mostDigits
@@ -100,6 +100,16 @@ module _ (k : Kind) {start age year term : ℤ} (c : Counted start k age year te
             c .year-in .from,
           )
 
+-- a quote whose ends are small and whose figure is theirs
+pub small-sized : (f : Fold) (a : Quote) → a .lower ≤ small → a .upper ≤ small
+    → a .figure ≡ figureOf (stepOf f) (record { lower = a .lower; upper = a .upper }) → Sized a
+small-sized f a l u e =
+    record {
+      lower = omega arith;
+      upper = omega arith;
+      figure = rw e (figure-small f (record { lower = a .lower; upper = a .upper }) l);
+    }
+
 quote-sized : (p : Params) (k : Kind) (age year term : ℤ) → refusalOf p k age year term ≡ Accepted
     → Sized (quoteOf p k age year term)
 unfolding quoteOf queryEnds
@@ -107,11 +117,7 @@ quote-sized p k age year term e =
     let f = ruleOf k .fold in
     let c = counted k (all-passed p k age year term e .table) in
     let v = value-small billionths billionths-sound p (queryPath (p .start) k age year term) (path-small k c) f in
-    record {
-      lower = omega (arith, v .lower);
-      upper = omega (arith, v .upper);
-      figure = figure-small f (queryEnds p k age year term) (omega (arith, v .lower));
-    }
+    small-sized f (quoteOf p k age year term) (omega (arith, v .lower)) (omega (arith, v .upper)) refl
 
 sized-by : (r : Refusal) (a : Quote) → (r ≡ Accepted → Sized a) → SizedAnswer (answerBy r a)
 unfolding SizedAnswer

@@ -12,5 +12,9 @@ returns-2 : tie.Need-returns-2
 unfolding longestLine
 returns-2 c = search needs
 
+returns-3 : tie.Need-returns-3
+unfolding longestLine
+returns-3 c = search needs
+
 pub longest-line-spec : {M : Type 1} → statement M
-longest-line-spec = tie.close (tie.spec (λ c. search needs) (λ c. search needs) returns returns-2)
+longest-line-spec = tie.close (tie.spec (λ c. search needs) (λ c. search needs) (λ c. search needs) returns returns-2 returns-3)

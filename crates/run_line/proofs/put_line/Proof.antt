@@ -1,101 +1,78 @@
--- `put_line` meets its contract: a malformed line's refusal, or the line without its line feed and what follows.
+-- `put_line` meets its contract: the answer by the mode.
 use borrow.Author.Needs.{needs}
-use mathlib.Core.Path.{_≡_, sym, ap, _∙_}
-use mathlib.Core.List.{List, [], _++_}
-use Prim.Native.Nat.{ℕ, _-_, _<_}
-use native.Mathlib.Omega.{arith}
+use mathlib.Core.Path.{_≡_, sym, ap, subst}
+use mathlib.Core.List.{List}
+use Prim.Native.Nat.{ℕ, _+_, _≤_}
 use lib.ListN.{length}
-use lib.Seq.{length-take-le}
-use Rattle.text_tokens.specs.Text.{malformed, taken}
-use Rattle.text_printing.specs.code.Put.{Room, Put}
-use Rattle.text_printing.specs.laws.PutLaws.{put-of, put-as, room-as, room-first, room-rest, put-join}
-use Rattle.set_refusal.specs.declared.Refusal.the-variants.{Malformed}
-use Rattle.run_query.specs.declared.Query.{Query}
-use Rattle.run_query.specs.Query.{readQuery}
-use Rattle.run_query.specs.code.Code.{queryRead}
-use Rattle.run_answer_text.specs.AnswerText.{refusalLine}
-use Rattle.run_line.specs.Line.{withoutFeed, reply, lineAnswer}
-use Rattle.run_line.specs.laws.LineLaws.{answered-malformed, answered-taken}
-use Rattle.run_line.specs.laws.ReplyLaws.{query-lengths, line-bounded}
+use Rattle.text_printing.specs.laws.PutLaws.{put-as}
+use Rattle.run_line.specs.declared.Mode.{Mode}
+use Rattle.run_line.specs.Line.{lineAnswer, longestLine}
 use Rattle.run_line.proofs.put_line.Statement.{statement}
 use Rattle.run_line.proofs.put_line.Tie as tie
 
-abbrev start : tie.After-query-of → tie.Start
-start c = c .before .before .before
+-- ---- of the mode that was matched
 
-abbrev line : tie.Start → List ℕ
-line s = s .args .line .now
+room : (s : tie.Start) {m : Mode} → s .args .mode ≡ m → s .args .at + longestLine m ≤ length (s .args .buffer .now)
+room s e = subst (λ (m : Mode). s .args .at + longestLine m ≤ length (s .args .buffer .now)) e (s .pre .2)
 
-abbrev answer : tie.Start → List ℕ
-answer s = lineAnswer (s .args .mode) (s .args .first) (s .args .second) (line s)
+abbrev answer : tie.Start → Mode → List ℕ
+answer s m = lineAnswer m (s .args .first) (s .args .second) (s .args .line .now)
 
-room : (s : tie.Start) → Room (s .args .buffer .now) (s .args .at) (answer s)
-room s =
-    let b = line-bounded (s .args .mode) (s .args .first) (s .args .second) in
-    record { fits = omega (arith, s .pre .2, b .most (line s)) }
-
--- ---- a malformed line
-
-refused : (c : tie.After-enum-told) → answer (start (c .before .before)) ≡ refusalLine Malformed
-refused c =
-    answered-malformed readQuery _ _ (sym (c .before .before .query-of .ensures) ∙ ap queryRead (c .enum-told .given .1))
-
--- ---- a query
-
-abbrev known : tie.After-known-told → tie.After-query-of
-known c = c .before .before .before
-
-abbrev asked : tie.After-known-told → Query
-asked c = c .before .query .given .0 .0
-
-query-line : (c : tie.After-known-told) → readQuery (line (start (known c))) ≡ taken (asked c) []
-query-line c = sym (known c .query-of .ensures) ∙ ap queryRead (c .before .query .given .1)
-
-some : (c : tie.After-known-told) → 0 < length (line (start (known c)))
-some c = omega (arith, query-lengths .least (line (start (known c))) (query-line c))
-
-whole : (c : tie.After-known-told) → let s = start (known c) in
-    answer s ≡ withoutFeed (line s) ++ reply (s .args .mode) (s .args .first) (s .args .second) (asked c)
-whole c = answered-taken readQuery _ _ (query-line c)
-
-echoed : (c : tie.After-put-text) → let s = start (known (c .before .before .before)) in
-    Put (s .args .buffer .now) (s .args .at) (withoutFeed (line s)) (c .put-text .last .0) (c .put-text .result)
-echoed c = put-of (c .put-text .ensures)
+matched : (s : tie.Start) {m : Mode} → s .args .mode ≡ m → answer s m ≡ answer s (s .args .mode)
+matched s e = sym (ap (answer s) e)
 
 -- ---- the needs
 
-put-refusal-requires : tie.Need-put-refusal-requires
-put-refusal-requires c κs = let w = c .before in room-as (refused w) (room (start (w .before .before)))
+abbrev start₁ : tie.After-mode → tie.Start
+start₁ c = c .before .before .before .before
+
+abbrev start₂ : tie.After-enum-told → tie.Start
+start₂ c = c .before .before .before .before
+
+abbrev start₃ : tie.After-enum-told2 → tie.Start
+start₃ c = c .before .before .before .before
+
+put-query-requires : tie.Need-put-query-requires
+unfolding longestLine
+put-query-requires c κs =
+    let m = c .before .before in
+    let s = start₁ m in
+    (s .pre .0, s .pre .1, room s (m .mode .given .1))
+
+put-query-requires-2 : tie.Need-put-query-requires-2
+unfolding longestLine
+put-query-requires-2 c κs =
+    let t = c .before in
+    let s = start₂ t in
+    (s .pre .0, s .pre .1, room s (t .enum-told .given .1))
+
+put-couple-requires : tie.Need-put-couple-requires
+unfolding longestLine
+put-couple-requires c κs =
+    let t = c .before in
+    let s = start₃ t in
+    (s .pre .0, s .pre .1, room s (t .enum-told2 .given .1))
 
 returns : tie.Need-returns
-returns c = put-as (sym (refused (c .before .before .before .before))) (c .before .before .put-refusal .ensures)
-
-slice-aggregate-put-text : tie.Need-slice-aggregate-put-text
-slice-aggregate-put-text c =
-    let l = line (start (known (c .before .before))) in
-    sym (length-take-le (length l - 1) l (omega arith))
-
-put-text-requires : tie.Need-put-text-requires
-put-text-requires c κs =
-    let k = c .before .before in
-    room-first {t = withoutFeed (line (start (known k)))} _ (room-as (whole k) (room (start (known k)))) .fits
-
-put-reply-requires : tie.Need-put-reply-requires
-put-reply-requires c κs =
-    let p = c .before .before .before in
-    let k = p .before .before .before in
-    let s = start (known k) in
-    (s .pre .0, s .pre .1, room-rest (echoed p) (room-as (whole k) (room s)))
+unfolding lineAnswer
+returns c =
+    let m = c .before .before .before .before .before in
+    put-as (matched (start₁ m) (m .mode .given .1)) (c .before .before .put-query .ensures)
 
 returns-2 : tie.Need-returns-2
+unfolding lineAnswer
 returns-2 c =
-    let p = c .before .before .before .before .before .before in
-    let k = p .before .before .before in
-    put-as (sym (whole k))
-    (put-join (echoed p) (c .before .before .put-reply .ensures) (room-as (whole k) (room (start (known k)))))
+    let t = c .before .before .before .before in
+    put-as (matched (start₂ t) (t .enum-told .given .1)) (c .before .before .put-query2 .ensures)
+
+returns-3 : tie.Need-returns-3
+unfolding lineAnswer
+returns-3 c =
+    let t = c .before .before .before .before in
+    put-as (matched (start₃ t) (t .enum-told2 .given .1)) (c .before .before .put-couple .ensures)
 
 pub put-line-spec : {M : Type 1} → statement M
 put-line-spec =
     tie.close
-    (tie.spec (λ c κs. search needs) (λ c. search needs) (λ c. search needs) put-refusal-requires (λ c. search needs)
-    returns some slice-aggregate-put-text put-text-requires put-reply-requires (λ c. search needs) returns-2)
+    (tie.spec (λ c. search needs) put-query-requires (λ c. search needs) put-query-requires-2 (λ c. search needs)
+    put-couple-requires (λ c. search needs) returns (λ c. search needs) returns-2 (λ c. search needs) returns-3)

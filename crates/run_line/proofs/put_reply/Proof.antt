@@ -1,4 +1,4 @@
--- `put_reply` meets its contract: the text of the mode.
+-- `put_reply` meets its contract: the text of the answer, or of two compared.
 use borrow.Author.Needs.{needs}
 use mathlib.Core.Path.{_≡_, sym}
 use Rattle.text_printing.specs.laws.PutLaws.{put-as, room-as}
@@ -16,13 +16,13 @@ start c = c .before .before .before
 
 -- ---- an answer
 
-abbrev one : tie.After-mode → tie.After-answer-to
+abbrev one : tie.After-follows → tie.After-answer-to
 one c = c .before .before
 
-quoted : (c : tie.After-mode) → let w = one c in let s = start w .args in
-    reply (s .mode) (s .first) (s .second) (s .query)
-    ≡ answerText (c .mode .given .0 .0) (w .before .decimals-for .result) (w .answer-to .result)
-quoted c = reply-quotes _ _ _ _ (one c .before .decimals-for .ensures) (one c .answer-to .ensures) (c .mode .given .1)
+quoted : (c : tie.After-follows) → let w = one c in let s = start w .args in
+    reply (s .follows) (s .first) (s .second) (s .query)
+    ≡ answerText (c .follows .given .0 .0) (w .before .decimals-for .result) (w .answer-to .result)
+quoted c = reply-quotes _ _ _ _ (one c .before .decimals-for .ensures) (one c .answer-to .ensures) (c .follows .given .1)
 
 sized : (c : tie.After-answer-to) → SizedAnswer (c .answer-to .result)
 sized c = let s = start c .args in rw (c .answer-to .ensures) (query-sized (s .first) (s .query))
@@ -33,7 +33,7 @@ abbrev both : tie.After-compare → tie.After-answer-to
 both c = c .before .before .before .before
 
 compared : (c : tie.After-compare) → let w = both c in let s = start w .args in
-    (reply (s .mode) (s .first) (s .second) (s .query) ≡ comparisonText (w .before .decimals-for .result) (c .compare .result))
+    (reply (s .follows) (s .first) (s .second) (s .query) ≡ comparisonText (w .before .decimals-for .result) (c .compare .result))
     × SizedComparison (c .compare .result)
 compared c =
     let w = both c in

@@ -45,53 +45,53 @@ start₈ c = start₇ (c .before .before .before)
 
 abbrev Left : ℕ → tie.Start → Type 0
 Left n s =
-    let here = drop (s .args .at) (s .args .bytes .now) in readWord onOffer here ≡ readWord (drop n onOffer) here
+    let here = drop (s .args .at) (s .args .bytes .now) in readWord wordOf onOffer here ≡ readWord wordOf (drop n onOffer) here
 
 left₁ : (c : tie.Else1) → Left 1 (start₁ (c .before))
 unfolding onOffer wordOf bytesOf
-left₁ c = word-missing _ _ Death _ (c .before .text-at .ensures) (c .if1 .left)
+left₁ c = word-missing _ _ wordOf Death _ (c .before .text-at .ensures) (c .if1 .left)
 
 left₂ : (c : tie.Else2) → Left 2 (start₂ (c .before))
 unfolding onOffer wordOf bytesOf
 left₂ c =
     left₁ (c .before .before .before)
-    ∙ word-missing _ _ CohortSurvival _ (c .before .text-at2 .ensures) (c .if2 .left)
+    ∙ word-missing _ _ wordOf CohortSurvival _ (c .before .text-at2 .ensures) (c .if2 .left)
 
 left₃ : (c : tie.Else3) → Left 3 (start₃ (c .before))
 unfolding onOffer wordOf bytesOf
 left₃ c =
     left₂ (c .before .before .before)
-    ∙ word-missing _ _ PeriodSurvival _ (c .before .text-at3 .ensures) (c .if3 .left)
+    ∙ word-missing _ _ wordOf PeriodSurvival _ (c .before .text-at3 .ensures) (c .if3 .left)
 
 left₄ : (c : tie.Else4) → Left 4 (start₄ (c .before))
 unfolding onOffer wordOf bytesOf
 left₄ c =
     left₃ (c .before .before .before)
-    ∙ word-missing _ _ CohortExpectancy _ (c .before .text-at4 .ensures) (c .if4 .left)
+    ∙ word-missing _ _ wordOf CohortExpectancy _ (c .before .text-at4 .ensures) (c .if4 .left)
 
 left₅ : (c : tie.Else5) → Left 5 (start₅ (c .before))
 unfolding onOffer wordOf bytesOf
 left₅ c =
     left₄ (c .before .before .before)
-    ∙ word-missing _ _ PeriodExpectancy _ (c .before .text-at5 .ensures) (c .if5 .left)
+    ∙ word-missing _ _ wordOf PeriodExpectancy _ (c .before .text-at5 .ensures) (c .if5 .left)
 
 left₆ : (c : tie.Else6) → Left 6 (start₆ (c .before))
 unfolding onOffer wordOf bytesOf
 left₆ c =
     left₅ (c .before .before .before)
-    ∙ word-missing _ _ (CohortAnnuity (pos 0)) _ (c .before .text-at6 .ensures) (c .if6 .left)
+    ∙ word-missing _ _ wordOf (CohortAnnuity (pos 0)) _ (c .before .text-at6 .ensures) (c .if6 .left)
 
 left₇ : (c : tie.Else7) → Left 7 (start₇ (c .before))
 unfolding onOffer wordOf bytesOf
 left₇ c =
     left₆ (c .before .before .before)
-    ∙ word-missing _ _ (PeriodAnnuity (pos 0)) _ (c .before .text-at7 .ensures) (c .if7 .left)
+    ∙ word-missing _ _ wordOf (PeriodAnnuity (pos 0)) _ (c .before .text-at7 .ensures) (c .if7 .left)
 
 left₈ : (c : tie.Else8) → Left 8 (start₈ (c .before))
 unfolding onOffer wordOf bytesOf
 left₈ c =
     left₇ (c .before .before .before)
-    ∙ word-missing _ _ Day _ (c .before .text-at8 .ensures) (c .if8 .left)
+    ∙ word-missing _ _ wordOf Day _ (c .before .text-at8 .ensures) (c .if8 .left)
 
 -- ---- the needs
 
@@ -100,7 +100,7 @@ add-t15 c = omega (arith, text-room _ _ _ (sym (c .before .text-at .ensures) ∙
 
 returns : tie.Need-returns
 unfolding onOffer wordOf bytesOf
-returns c = sym (word-found _ _ Death _ (c .before .text-at .ensures) (c .if1 .taken))
+returns c = sym (word-found _ _ wordOf Death _ (c .before .text-at .ensures) (c .if1 .taken))
 
 add-t20 : tie.Need-add-t20
 add-t20 c = omega (arith, text-room _ _ _ (sym (c .before .text-at2 .ensures) ∙ c .if2 .taken))
@@ -110,7 +110,7 @@ unfolding onOffer wordOf bytesOf
 returns-2 c =
     sym
     (left₁ (c .before .before .before)
-    ∙ word-found _ _ CohortSurvival _ (c .before .text-at2 .ensures) (c .if2 .taken))
+    ∙ word-found _ _ wordOf CohortSurvival _ (c .before .text-at2 .ensures) (c .if2 .taken))
 
 add-t25 : tie.Need-add-t25
 add-t25 c = omega (arith, text-room _ _ _ (sym (c .before .text-at3 .ensures) ∙ c .if3 .taken))
@@ -120,7 +120,7 @@ unfolding onOffer wordOf bytesOf
 returns-3 c =
     sym
     (left₂ (c .before .before .before)
-    ∙ word-found _ _ PeriodSurvival _ (c .before .text-at3 .ensures) (c .if3 .taken))
+    ∙ word-found _ _ wordOf PeriodSurvival _ (c .before .text-at3 .ensures) (c .if3 .taken))
 
 add-t30 : tie.Need-add-t30
 add-t30 c = omega (arith, text-room _ _ _ (sym (c .before .text-at4 .ensures) ∙ c .if4 .taken))
@@ -130,7 +130,7 @@ unfolding onOffer wordOf bytesOf
 returns-4 c =
     sym
     (left₃ (c .before .before .before)
-    ∙ word-found _ _ CohortExpectancy _ (c .before .text-at4 .ensures) (c .if4 .taken))
+    ∙ word-found _ _ wordOf CohortExpectancy _ (c .before .text-at4 .ensures) (c .if4 .taken))
 
 add-t35 : tie.Need-add-t35
 add-t35 c = omega (arith, text-room _ _ _ (sym (c .before .text-at5 .ensures) ∙ c .if5 .taken))
@@ -140,7 +140,7 @@ unfolding onOffer wordOf bytesOf
 returns-5 c =
     sym
     (left₄ (c .before .before .before)
-    ∙ word-found _ _ PeriodExpectancy _ (c .before .text-at5 .ensures) (c .if5 .taken))
+    ∙ word-found _ _ wordOf PeriodExpectancy _ (c .before .text-at5 .ensures) (c .if5 .taken))
 
 add-t40 : tie.Need-add-t40
 add-t40 c = omega (arith, text-room _ _ _ (sym (c .before .text-at6 .ensures) ∙ c .if6 .taken))
@@ -150,7 +150,7 @@ unfolding onOffer wordOf bytesOf
 returns-6 c =
     sym
     (left₅ (c .before .before .before)
-    ∙ word-found _ _ (CohortAnnuity (pos 0)) _ (c .before .text-at6 .ensures) (c .if6 .taken))
+    ∙ word-found _ _ wordOf (CohortAnnuity (pos 0)) _ (c .before .text-at6 .ensures) (c .if6 .taken))
 
 add-t45 : tie.Need-add-t45
 add-t45 c = omega (arith, text-room _ _ _ (sym (c .before .text-at7 .ensures) ∙ c .if7 .taken))
@@ -160,7 +160,7 @@ unfolding onOffer wordOf bytesOf
 returns-7 c =
     sym
     (left₆ (c .before .before .before)
-    ∙ word-found _ _ (PeriodAnnuity (pos 0)) _ (c .before .text-at7 .ensures) (c .if7 .taken))
+    ∙ word-found _ _ wordOf (PeriodAnnuity (pos 0)) _ (c .before .text-at7 .ensures) (c .if7 .taken))
 
 add-t50 : tie.Need-add-t50
 add-t50 c =
@@ -169,7 +169,7 @@ add-t50 c =
 returns-8 : tie.Need-returns-8
 unfolding onOffer wordOf bytesOf
 returns-8 c =
-    sym (left₇ (c .before .before .before) ∙ word-found _ _ Day _ (c .before .text-at8 .ensures) (c .if8 .taken))
+    sym (left₇ (c .before .before .before) ∙ word-found _ _ wordOf Day _ (c .before .text-at8 .ensures) (c .if8 .taken))
 
 returns-9 : tie.Need-returns-9
 unfolding onOffer readWord

@@ -26,7 +26,7 @@ use Rattle.run_query.specs.Query.{readWord, readField, readRate, alone, 
 
 -- ---- a word
 
-word-reads : (k : Kind) (rest : List ℕ) → readWord onOffer (wordOf k ++ rest) ≡ taken (rateAside k) rest
+word-reads : (k : Kind) (rest : List ℕ) → readWord wordOf onOffer (wordOf k ++ rest) ≡ taken (rateAside k) rest
 unfolding readWord onOffer wordOf bytesOf takeText withRate rateAside
 word-reads Death rest = refl
 word-reads CohortSurvival rest = refl
@@ -37,19 +37,20 @@ word-reads (CohortAnnuity rate) rest = refl
 word-reads (PeriodAnnuity rate) rest = refl
 word-reads Day rest = refl
 
-word-read : (ks : List Kind) (bs : List ℕ) {k : Kind} {rest : List ℕ} → readWord ks bs ≡ taken k rest → bs ≡ wordOf k ++ rest
+pub word-read : {X : Type 0} (word : X → List ℕ) (xs : List X) (bs : List ℕ) {x : X} {rest : List ℕ}
+    → readWord word xs bs ≡ taken x rest → bs ≡ word x ++ rest
 unfolding readWord
-word-read [] bs e = malformed-not-taken e
-word-read (k′ ∷ ks) bs {k} {rest} e = go (λ q. word-read ks bs q) (takeText (wordOf k′) bs) refl e
+word-read word [] bs e = malformed-not-taken e
+word-read {X} word (x′ ∷ xs) bs {x} {rest} e = go (λ q. word-read word xs bs q) (takeText (word x′) bs) refl e
   where
-    go : (readWord ks bs ≡ taken k rest → bs ≡ wordOf k ++ rest) → (p : Parse Unit) → takeText (wordOf k′) bs ≡ p
-        → _≡_ {A = Parse Kind} (elim p [ malformed ↦ readWord ks bs | taken u after ↦ taken k′ after ]) (taken k rest)
-        → bs ≡ wordOf k ++ rest
+    go : (readWord word xs bs ≡ taken x rest → bs ≡ word x ++ rest) → (p : Parse Unit) → takeText (word x′) bs ≡ p
+        → _≡_ {A = Parse X} (elim p [ malformed ↦ readWord word xs bs | taken u after ↦ taken x′ after ]) (taken x rest)
+        → bs ≡ word x ++ rest
     go ih malformed t q = ih q
     go ih (taken u after) t q =
-        let x : k′ ≡ k = cc in
-        let y : after ≡ rest = cc in
-        rw (← x, ← y) (takeText-whole (wordOf k′) bs t)
+        let y : x′ ≡ x = cc in
+        let z : after ≡ rest = cc in
+        rw (← y, ← z) (takeText-whole (word x′) bs t)
 
 word-length : (k : Kind) → (1 ≤ length (wordOf k)) × (length (wordOf k) ≤ 4)
 unfolding wordOf bytesOf
@@ -70,7 +71,7 @@ unfolding readField
 field-reads name v rest h t = goes _ (takeText-split name (numberText v ++ rest)) ∙ number-reads v rest h t
 
 -- the bytes are the name, the number's text and the rest
-field-read : (name bs : List ℕ) {v : ℤ} {rest : List ℕ} → readField name bs ≡ taken v rest
+pub field-read : (name bs : List ℕ) {v : ℤ} {rest : List ℕ} → readField name bs ≡ taken v rest
     → bs ≡ name ++ (numberText v ++ rest)
 unfolding readField
 field-read name bs {v} {rest} e =
@@ -226,7 +227,7 @@ pub query-text : (line : List ℕ) {q : Query} {rest : List ℕ} → readQuery l
 unfolding readQuery
 query-text line {q} e =
     then-taken (takeText (bytesOf "kind=") line) _ e λ u b₀ e₀ f₀.
-    then-taken (readWord onOffer b₀) _ f₀ λ word b₁ e₁ f₁.
+    then-taken (readWord wordOf onOffer b₀) _ f₀ λ word b₁ e₁ f₁.
     then-taken (readField (bytesOf " age=") b₁) _ f₁ λ age b₂ e₂ f₂.
     then-taken (readField (bytesOf " year=") b₂) _ f₂ λ year b₃ e₃ f₃.
     then-taken (readField (termName word) b₃) _ f₃ λ term b₄ e₄ f₄.
@@ -241,7 +242,7 @@ query-text line {q} e =
     let l : b₅ ≡ bytesOf "\n" = takeText-whole (bytesOf "\n") b₅ e₆ ∙ rw (none, append-nil) in
     rw (← same)
     (takeText-whole (bytesOf "kind=") line e₀
-    ∙ rw (word-read onOffer b₀ e₁, k .same, a, y, s, k .term, k .is, l, query-apart r (bytesOf "\n")))
+    ∙ rw (word-read wordOf onOffer b₀ e₁, k .same, a, y, s, k .term, k .is, l, query-apart r (bytesOf "\n")))
 
 -- the line of a query whose numbers have so few digits reads as the query
 pub query-reads : (q : Query) → Small q → readQuery (queryText q ++ bytesOf "\n") ≡ taken q []

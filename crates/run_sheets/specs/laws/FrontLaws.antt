@@ -1,15 +1,15 @@
 -- Laws of the front of an input: what it is, by the input's length and its sheets; it ends within the input, and where it is not
 -- refused its sets are within the limits.
-use mathlib.Core.Path.{_≡_, refl, sym, ap, _∙_}
-use mathlib.Core.Bool.{Bool, true, false, cond}
+use mathlib.Core.Path.{_≡_, refl, sym, _∙_}
+use mathlib.Core.Bool.{Bool, true, false, cond, _&&_}
 use mathlib.Core.List.{List}
 use Prim.Native.Nat.{ℕ, _+_, _-_, _≤_, _<_}
-use native.Mathlib.Decide.{decLt}
 use native.Mathlib.Omega.{arith}
-use borrow.Author.Tests.{eq-eqb, ne-eqb, le-leb, lt-leb}
-use lib.Dec.{T, eqb, leb}
+use borrow.Author.Tests.{le-leb, lt-leb, eqb-true, eqb-false}
+use lib.Dec.{T, eqb, ltb, leb}
 use lib.ListN.{length, take, drop, length-drop}
 use lib.Seq.{take-all}
+use Rattle.number_whole.specs.laws.Clash.{clash}
 use Rattle.text_tokens.specs.Text.{Parse, malformed, taken}
 use Rattle.set_params.specs.declared.Params.{Params}
 use Rattle.set_refusal.specs.declared.Refusal.{Refusal}
@@ -21,7 +21,10 @@ use Rattle.sheet.specs.Sheet.{mostBytes, refused, readSet, readingOf, readSheet
 use Rattle.run_sheets.specs.declared.Front.{Front}
 use Rattle.sheet_reader.specs.Front.{frontLines, sheetOf, sheetEnd}
 use Rattle.sheet_reader.specs.laws.FirstLaws.{sheet-within}
-use Rattle.run_sheets.specs.Front.{stopped, oneSheet, bothSheets, twoSheets, frontOf}
+use Rattle.run_sheets.specs.declared.Sheets.{Sheets}
+use Rattle.run_sheets.specs.declared.Sheets.the-variants.{One, InTurn, ByNumber}
+use Rattle.run_sheets.specs.Front.{inTurn, byNumber, stopped, oneSheet, bothSheets, twoSheets, sheetsOf, frontOf}
+use Rattle.run_sheets.specs.code.Two.{twoBy}
 
 -- ---- an accepted sheet's set is within the limits
 
@@ -54,49 +57,50 @@ sheet-well input e =
 pub rest-from : (input : List ℕ) (at : ℕ) → take (length input - at) (drop at input) ≡ drop at input
 rest-from input at = take-all (length input - at) (drop at input) (omega (arith, length-drop at input))
 
--- ---- two sheets, by whether the first is accepted
+-- ---- two sheets, as they are read
 
-module _ (input rest : List ℕ) where
-  two-accepted : refusalNumber (sheetOf input .refusal) ≡ 0 → twoSheets input rest ≡ bothSheets input rest
-  unfolding twoSheets
-  two-accepted n = rw (eq-eqb (refusalNumber (sheetOf input .refusal)) 0 n)
+module _ (input : List ℕ) {one : Reading} {end : ℕ} (e : one ≡ sheetOf input) (f : end ≡ sheetEnd input) (numbered : Bool)
+    {other : Reading} (g : other ≡ sheetOf (drop end input)) {given : Bool}
+    (h : given ≡ cond numbered (byNumber (refusalNumber (one .refusal)) (refusalNumber (other .refusal)))
+    (inTurn (refusalNumber (one .refusal)) (refusalNumber (other .refusal)))) where
+  -- the first is named
+  pub two-first : given ≡ false → stopped 1 (one .refusal) end ≡ twoBy numbered input
+  unfolding twoBy twoSheets
+  two-first n = let t = sym h ∙ n in rw (e, f) (sym (rw (← f, ← g, ← e, t)))
 
-  two-refused : (refusalNumber (sheetOf input .refusal) ≡ 0 → ⊥)
-      → twoSheets input rest ≡ stopped 1 (sheetOf input .refusal) (sheetEnd input)
-  unfolding twoSheets
-  two-refused n = rw (ne-eqb (refusalNumber (sheetOf input .refusal)) 0 n)
+  -- the second's answer is given
+  pub two-second : given ≡ true → {len : ℕ} → len ≡ sheetEnd (drop end input)
+      → _≡_ {A = Front}
+      (record { refusal = other .refusal; named = 2; first = one .set; second = other .set; next = end + len })
+      (twoBy numbered input)
+  unfolding twoBy twoSheets bothSheets
+  two-second n k = let t = sym h ∙ n in rw (k, g, e, f) (sym (rw (← f, ← g, ← e, t)))
 
 -- ---- as it is read
 
-module _ (input : List ℕ) {one : Reading} {end : ℕ} (e : one ≡ sheetOf input) (f : end ≡ sheetEnd input) where
-  pub front-long : (two : Bool) → mostBytes < length input → stopped 0 Malformed end ≡ frontOf two input
+module _ (input : List ℕ) {end : ℕ} (f : end ≡ sheetEnd input) where
+  pub front-long : (sheets : Sheets) → mostBytes < length input → stopped 0 Malformed end ≡ frontOf sheets input
   unfolding frontOf
-  front-long two h = rw (lt-leb (length input) mostBytes h, f)
+  front-long sheets h = rw (lt-leb (length input) mostBytes h, f)
 
-  module _ (h : length input ≤ mostBytes) where
-    pub front-one : {two : Bool} → two ≡ false
-        → _≡_ {A = Front} (record { refusal = one .refusal; named = 0; first = one .set; second = one .set; next = end })
-        (frontOf two input)
-    unfolding frontOf oneSheet
-    front-one t = rw (t, le-leb (length input) mostBytes h, e, f)
+module _ (input : List ℕ) (h : length input ≤ mostBytes) {sheets : Sheets} where
+  front-by : {form : Sheets} → sheets ≡ form → frontOf sheets input ≡ sheetsOf form input
+  unfolding frontOf
+  front-by t = rw (t, le-leb (length input) mostBytes h)
 
-    front-two : {two : Bool} → two ≡ true → frontOf two input ≡ twoSheets input (drop (sheetEnd input) input)
-    unfolding frontOf
-    front-two t = rw (t, le-leb (length input) mostBytes h)
+  pub front-one : sheets ≡ One → {one : Reading} {end : ℕ} → one ≡ sheetOf input → end ≡ sheetEnd input
+      → _≡_ {A = Front} (record { refusal = one .refusal; named = 0; first = one .set; second = one .set; next = end })
+      (frontOf sheets input)
+  unfolding sheetsOf oneSheet
+  front-one t e f = rw (e, f) (sym (front-by t))
 
-    pub front-first : {two : Bool} → two ≡ true → (refusalNumber (one .refusal) ≡ 0 → ⊥)
-        → stopped 1 (one .refusal) end ≡ frontOf two input
-    front-first t n =
-        rw (e, f) (sym (front-two t ∙ two-refused input (drop (sheetEnd input) input) (rw e at n)))
+  pub front-turn : sheets ≡ InTurn → twoBy false input ≡ frontOf sheets input
+  unfolding sheetsOf twoBy
+  front-turn t = sym (front-by t)
 
-    pub front-both : {two : Bool} → two ≡ true → refusalNumber (one .refusal) ≡ 0 → {other : Reading} {len : ℕ}
-        → other ≡ sheetOf (drop end input) → len ≡ sheetEnd (drop end input)
-        → _≡_ {A = Front}
-        (record { refusal = other .refusal; named = 2; first = one .set; second = other .set; next = end + len })
-        (frontOf two input)
-    unfolding bothSheets
-    front-both t n {other} {len} g k =
-        rw (g, k, e, f) (sym (front-two t ∙ two-accepted input (drop (sheetEnd input) input) (rw e at n)))
+  pub front-number : sheets ≡ ByNumber → twoBy true input ≡ frontOf sheets input
+  unfolding sheetsOf twoBy
+  front-number t = sym (front-by t)
 
 -- ---- it may be used: it ends within the input, names a sheet by one digit, and its sets are within the limits
 
@@ -121,30 +125,66 @@ module _ (input : List ℕ) where
   unfolding oneSheet
   one-usable = record { within = sheet-within input; named = omega arith; first = sheet-well input; second = sheet-well input }
 
-  both-usable : refusalNumber (sheetOf input .refusal) ≡ 0 → Usable input (bothSheets input (drop (sheetEnd input) input))
+  -- the second's answer, where it is not accepted unless the first is
+  both-usable : let rest = drop (sheetEnd input) input in
+      (refusalNumber (sheetOf rest .refusal) ≡ 0 → refusalNumber (sheetOf input .refusal) ≡ 0)
+      → Usable input (bothSheets input rest)
   unfolding bothSheets
   both-usable n =
       let rest = drop (sheetEnd input) input in
       record {
         within = omega (arith, sheet-within input, sheet-within rest, length-drop (sheetEnd input) input);
         named = omega arith;
-        first = λ q. sheet-well input n;
+        first = λ q. sheet-well input (n q);
         second = sheet-well rest;
       }
 
-  two-usable : Usable input (twoSheets input (drop (sheetEnd input) input))
-  two-usable =
-      let r = sheetOf input .refusal in
-      let rest = drop (sheetEnd input) input in
-      elim (decLt 0 (refusalNumber r)) [
-        | yes l ↦
-            let n : refusalNumber r ≡ 0 → ⊥ = λ q. absurd (omega arith) in
-            rw (two-refused input rest n) (stopped-usable 1 (omega arith) r n)
-        | no l ↦ rw (two-accepted input rest (omega arith)) (both-usable (omega arith))
-      ]
+-- the second's answer is given: of an accepted second sheet only where the first is accepted; it is not: only where the first
+-- is refused
+record Gives (given : ℕ → ℕ → Bool) : Type 0 where
+  accepted : (a b : ℕ) → given a b ≡ true → b ≡ 0 → a ≡ 0
+  refused : (a b : ℕ) → given a b ≡ false → a ≡ 0 → ⊥
 
-pub front-usable : (two : Bool) (input : List ℕ) → Usable input (frontOf two input)
+gives-turn : Gives inTurn
+unfolding inTurn
+gives-turn = record { accepted = λ a b t e. eqb-true a 0 t; refused = λ a b t. eqb-false a 0 t }
+
+gives-number : Gives byNumber
+unfolding byNumber
+gives-number =
+    record { accepted = λ a b t e. go a b (eqb a 0) refl t e; refused = λ a b t e. let f = rw e at t in clash cc }
+  where
+    go : (a b : ℕ) (z : Bool) → eqb a 0 ≡ z → cond z true (ltb 0 b && ltb b a) ≡ true → b ≡ 0 → a ≡ 0
+    go a b true z t e = eqb-true a 0 z
+    go a b false z t e = let f = rw e at t in clash cc
+
+two-usable : (input : List ℕ) {given : ℕ → ℕ → Bool} → Gives given
+    → Usable input (twoSheets given input (drop (sheetEnd input) input))
+unfolding twoSheets
+two-usable input {given} g = go (given a b) refl
+  where
+    rest : List ℕ
+    rest = drop (sheetEnd input) input
+
+    a : ℕ
+    a = refusalNumber (sheetOf input .refusal)
+
+    b : ℕ
+    b = refusalNumber (sheetOf rest .refusal)
+
+    go : (t : Bool) → given a b ≡ t
+        → Usable input (cond t (bothSheets input rest) (stopped 1 (sheetOf input .refusal) (sheetEnd input)))
+    go true t = both-usable input (g .accepted a b t)
+    go false t = stopped-usable input 1 (omega arith) (sheetOf input .refusal) (g .refused a b t)
+
+sheets-usable : (sheets : Sheets) (input : List ℕ) → Usable input (sheetsOf sheets input)
+unfolding sheetsOf
+sheets-usable One input = one-usable input
+sheets-usable InTurn input = two-usable input gives-turn
+sheets-usable ByNumber input = two-usable input gives-number
+
+pub front-usable : (sheets : Sheets) (input : List ℕ) → Usable input (frontOf sheets input)
 unfolding frontOf refusalNumber
-front-usable two input =
-    either (leb (length input) mostBytes) (either two (two-usable input) (one-usable input))
+front-usable sheets input =
+    either (leb (length input) mostBytes) (sheets-usable sheets input)
     (stopped-usable input 0 (omega arith) Malformed (λ q. absurd (omega arith)))

@@ -14,6 +14,7 @@ use Rattle.set_refusal.specs.Refusals.{refusalNumber}
 use Rattle.run_answer_text.specs.AnswerText.{refusalLine}
 use Rattle.run_answer_text.specs.laws.Lengths.{refusal-length}
 use Rattle.run_sheets.specs.declared.Front.{Front}
+use Rattle.run_sheets.specs.declared.Sheets.the-variants.{One}
 use Rattle.run_sheets.specs.Front.{frontOf}
 use Rattle.run_column_verdict.specs.ColumnVerdict.{columnVerdict}
 use Rattle.run_verdict_text.specs.VerdictText.{verdictLine, mostVerdict}
@@ -32,7 +33,7 @@ module _ (f : Front) (input : List ℕ) where
   unfolding verdictBy
   by-year e = rw (e, verdictBy)
 
-module _ (input : List ℕ) {f : Front} (s : f ≡ frontOf false input) where
+module _ (input : List ℕ) {f : Front} (s : f ≡ frontOf One input) where
   run-by : verdictRun input ≡ verdictBy f input
   unfolding verdictRun
   run-by = rw s
@@ -70,4 +71,4 @@ by-most f input = go (readYear (drop (f .next) input)) refl
 
 pub run-most : (input : List ℕ) → length (verdictRun input) ≤ mostVerdict
 unfolding verdictRun
-run-most input = by-most (frontOf false input) input
+run-most input = by-most (frontOf One input) input

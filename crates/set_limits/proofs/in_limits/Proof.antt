@@ -12,7 +12,8 @@ use mir.Syntax.{w64}
 use mir.Val.{SFits}
 use mir.Facts.{toZ-ofZ}
 use Rattle.set_params.specs.declared.Params.{Params}
-use Rattle.set_params.specs.Set.{ages, ageOf, dynamicsOf, four-age}
+use Rattle.set_params.specs.Set.{ages, ageOf, dynamicsOf}
+use Rattle.set_params.specs.laws.SetLaws.{four-age}
 use Rattle.set_limits.specs.InLimits.{allBelow, tableInLimits, seriesInLimits, ageInLimits, kappaInLimits, inLimits}
 use Rattle.set_limits.specs.laws.LimitsLaws.{ageTest, all-out, dynamics-within, steady-kappa}
 use Rattle.set_limits.proofs.Sizes.{fails, passes}

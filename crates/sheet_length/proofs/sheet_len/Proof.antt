@@ -9,7 +9,8 @@ use lib.IntN.{ℤ}
 use lib.ListN.{length}
 use Rattle.set_params.specs.declared.Params.{Params}
 use Rattle.set_params.specs.declared.Age.{Age}
-use Rattle.set_params.specs.Set.{ages, ageOf, four-age}
+use Rattle.set_params.specs.Set.{ages, ageOf}
+use Rattle.set_params.specs.laws.SetLaws.{four-age}
 use Rattle.set_params.specs.code.Within.{AgeWithin}
 use Rattle.set_limits.specs.laws.LimitsLaws.{in-limits-age}
 use Rattle.sheet.specs.laws.SheetTrip.{sheet-length}

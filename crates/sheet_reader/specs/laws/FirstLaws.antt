@@ -16,7 +16,8 @@ use Rattle.text_tokens.specs.code.Places.{textAt}
 use Rattle.text_tokens.specs.laws.DecimalLaws.{decimal-last, decimal-more, by-size}
 use Rattle.text_tokens.specs.laws.NumberTrip.{malformed-not-taken}
 use Rattle.text_tokens.specs.laws.TextLaws.{text-found, text-missing}
-use Rattle.text_lines.specs.Lines.{lineFeed, firstLines, afterLines}
+use Rattle.text_lines.specs.Lines.{lineFeed, firstLines}
+use Rattle.text_lines.specs.laws.AfterLines.{afterLines}
 use Rattle.text_lines.specs.laws.LineLaws.{lines-split, lines-within}
 use Rattle.text_lines.specs.laws.CutLaws.{above, Cuts, above-append, cuts-none, cuts-line}
 use Rattle.set_params.specs.declared.Params.{Params}

@@ -7,7 +7,8 @@ use Prim.Native.Nat.{ℕ, suc, _-_, _≤_, _<_}
 use native.Mathlib.Numerals.{add-one}
 use native.Mathlib.Omega.{arith}
 use Rattle.set_params.specs.declared.Age.{Age}
-use Rattle.set_params.specs.Set.{ages, ageOf, four-age}
+use Rattle.set_params.specs.Set.{ages, ageOf}
+use Rattle.set_params.specs.laws.SetLaws.{four-age}
 use Rattle.set_params.specs.code.Within.{AgeWithin}
 use Rattle.set_limits.specs.laws.LimitsLaws.{in-limits-age}
 use Rattle.text_printing.specs.code.Put.{Room, Put}

@@ -8,7 +8,8 @@ use native.Mathlib.Omega.{arith}
 use borrow.Author.Tests.{ne-eqb}
 use lib.Dec.{T, eqb, ltb, ltb→lt}
 use lib.Ieee.Fits.{and-i, and-l, and-r}
-use Rattle.text_lines.specs.Lines.{lineFeed, firstLine, afterLine, firstLines, afterLines}
+use Rattle.text_lines.specs.Lines.{lineFeed, firstLine, afterLine, firstLines}
+use Rattle.text_lines.specs.laws.AfterLines.{afterLines}
 use Rattle.text_lines.specs.laws.LineLaws.{first-feed, first-more, after-feed, after-more}
 
 -- ---- definitions

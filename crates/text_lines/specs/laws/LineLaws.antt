@@ -8,7 +8,8 @@ use borrow.Author.Tests.{eq-eqb, ne-eqb}
 use lib.Dec.{eqb}
 use lib.ListN.{length, getD, take, drop, length-append, length-drop, drop-of-length-le}
 use lib.Seq.{take-append-seam, drop-append-seam, drop-cons}
-use Rattle.text_lines.specs.Lines.{lineFeed, firstLine, afterLine, firstLines, afterLines, ahead, lines}
+use Rattle.text_lines.specs.Lines.{lineFeed, firstLine, afterLine, firstLines, ahead, lines}
+use Rattle.text_lines.specs.laws.AfterLines.{afterLines}
 
 -- ---- one byte
 

@@ -3,8 +3,8 @@ use borrow.Author.Needs.{needs}
 use mathlib.Core.Path.{ap, _∙_}
 use Rattle.quote_kinds.specs.declared.Rule.{Rule}
 use Rattle.quote_kinds.specs.Kinds.{decimalsOf}
-use Rattle.run_line.proofs.decimals_for.Statement.{statement}
-use Rattle.run_line.proofs.decimals_for.Tie as tie
+use Rattle.run_answer_text.proofs.decimals_for.Statement.{statement}
+use Rattle.run_answer_text.proofs.decimals_for.Tie as tie
 
 returns : tie.Need-returns
 returns c = c .decimals-of .ensures ∙ ap (λ (r : Rule). decimalsOf (r .fold)) (c .before .rule-of .ensures)

@@ -1,14 +1,15 @@
 -- Laws of the answer to a line, whatever reads it and whatever follows it: by what the line reads as, and how long it is.
-use mathlib.Core.Path.{_≡_, refl}
+use mathlib.Core.Path.{_≡_, refl, ap}
 use mathlib.Core.List.{List, _++_}
 use Prim.Native.Nat.{ℕ, suc, _+_, _-_, _*_, _≤_, _<_}
 use native.Mathlib.Omega.{arith}
 use lib.ListN.{length, length-append, length-take}
-use Rattle.text_tokens.specs.Text.{Parse, malformed, taken}
+use lib.Seq.{take-append-seam}
+use Rattle.text_tokens.specs.Text.{bytesOf, Parse, malformed, taken}
 use Rattle.set_refusal.specs.declared.Refusal.the-variants.{Malformed}
 use Rattle.run_answer_text.specs.AnswerText.{refusalLine}
 use Rattle.run_answer_text.specs.laws.Lengths.{malformed-length}
-use Rattle.run_line.specs.Line.{withoutFeed, answered}
+use Rattle.run_answer_text.specs.Line.{withoutFeed, answered}
 
 -- ---- definitions
 
@@ -22,6 +23,10 @@ pub record Lengths {A : Type 0} (read : List ℕ → Parse A) (few many : ℕ) :
   pub least : (line : List ℕ) {q : A} {rest : List ℕ} → read line ≡ taken q rest → few < length line
   pub most : (line : List ℕ) {q : A} {rest : List ℕ} → read line ≡ taken q rest → length line ≤ suc many
 
+-- what is read is a text and a line feed
+pub record ReadsText {A : Type 0} (read : List ℕ → Parse A) (text : A → List ℕ) : Type 0 where
+  pub is : (line : List ℕ) {q : A} {rest : List ℕ} → read line ≡ taken q rest → line ≡ text q ++ bytesOf "\n"
+
 -- ---- laws
 
 module _ {A : Type 0} (read : List ℕ → Parse A) (follows : A → List ℕ) (line : List ℕ) where
@@ -34,6 +39,27 @@ module _ {A : Type 0} (read : List ℕ → Parse A) (follows : A → List ℕ) (
       → answered read follows line ≡ withoutFeed line ++ follows q
   unfolding answered
   answered-taken e = rw (e, answered)
+
+-- of lines that are read where they are a text and a line feed
+module _ {A : Type 0} {read : List ℕ → Parse A} {text : A → List ℕ} (t : ReadsText read text) where
+  text-length : (line : List ℕ) {q : A} {rest : List ℕ} → read line ≡ taken q rest → length line ≡ suc (length (text q))
+  unfolding bytesOf
+  text-length line {q} e = omega (arith, ap length (t .is line e), length-append (text q) (bytesOf "\n"))
+
+  -- without its line feed it is the text
+  pub echoed : (line : List ℕ) {q : A} {rest : List ℕ} → read line ≡ taken q rest → withoutFeed line ≡ text q
+  echoed line {q} e =
+      let l : length line - 1 ≡ length (text q) = omega (arith, text-length line e) in
+      rw (l, t .is line e) (take-append-seam (text q) (bytesOf "\n"))
+
+  -- by how long the texts are
+  pub text-lengths : {few many : ℕ} → ((q : A) → few ≤ length (text q)) → ((q : A) → length (text q) ≤ many)
+      → Lengths read few many
+  text-lengths least most =
+      record {
+        least = λ line {q} e. omega (arith, text-length line e, least q);
+        most = λ line {q} e. omega (arith, text-length line e, most q);
+      }
 
 -- by how long the lines are and how many bytes follow
 module _ {A : Type 0} {read : List ℕ → Parse A} {few many : ℕ} (l : Lengths read few many) (follows : A → List ℕ) {n : ℕ}

@@ -1,0 +1,3 @@
+pub mod SheetsCouple
+pub mod laws
+pub mod examples

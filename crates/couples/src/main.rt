@@ -1,0 +1,8 @@
+// The couples' program: two sheets and couples' query lines on standard input, each query with its ends and its figure, or its
+// refusal, on standard output.
+use run::Program;
+use run_line::Mode;
+
+fn main() {
+    run_console::answer(Program::Lines(Mode::Couples));
+}

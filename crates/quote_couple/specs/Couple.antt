@@ -1,0 +1,77 @@
+-- The quote of a couple (paper 02, E8): "two lives, each with its own sheet, age and one common quote year". Its refusal, and else
+-- its ends and figure.
+use mathlib.Core.Bool.{Bool, _&&_}
+use mathlib.Core.List.{List, [], _∷_, _++_}
+use Prim.Native.Nat.{ℕ}
+use lib.IntN.{ℤ}
+use lib.Signed.{leZ}
+use Rattle.number_exponential.specs.declared.Ends.{Ends}
+use Rattle.number_exponential.specs.Billionths.{billionths}
+use Rattle.number_exact.specs.Value.{Exact}
+use Rattle.set_params.specs.declared.Params.{Params}
+use Rattle.set_refusal.specs.declared.Refusal.{Refusal}
+use Rattle.set_refusal.specs.declared.Refusal.the-variants.{OutOfLimits, NoSuchAge, NoSuchYear, NoSuchSpan, LogForceOutOfRange, StartsDiffer}
+use Rattle.set_limits.specs.InLimits.{inLimits}
+use Rattle.quote_paths.specs.Path.{Place, factors, orderFactors, pathInRange}
+use Rattle.quote_kinds.specs.declared.Rule.{Rule}
+use Rattle.quote_kinds.specs.Kinds.{ruleOf, stepOf}
+use Rattle.quote_couple_kinds.specs.declared.CoupleKind.{CoupleKind}
+use Rattle.quote_couple_kinds.specs.CoupleKinds.{singleOf}
+use Rattle.quote_two_lives.specs.TwoLives.{coupleOver}
+use Rattle.quote_two_lives.specs.Exact.{orderCoupleOver}
+use Rattle.quote_table_tests.specs.TableTests.{Test, ageInTable, yearInTable, spanInTable, firstFailed}
+use Rattle.quote_along.specs.declared.Answer.{Answer}
+use Rattle.quote.specs.Quote.{queryPath, quoteBy, answerBy}
+
+-- ---- the paths, the ends and the exact value
+
+-- a life's path, "along the cohort": that of the single life's kind
+abbrev pub lifePath : Params → CoupleKind → ℤ → ℤ → ℤ → List Place
+lifePath p k age year span = queryPath (p .start) (singleOf k) age year span
+
+unfoldable pub coupleEnds : Params → Params → CoupleKind → ℤ → ℤ → ℤ → ℤ → Ends
+coupleEnds p p′ k age age′ year span =
+    coupleOver k billionths (factors billionths p (lifePath p k age year span)) (factors billionths p′ (lifePath p′ k age′ year span))
+
+-- "the same formula over the two lives' exact survivals"
+unfoldable pub exactCouple : Params → Params → CoupleKind → ℤ → ℤ → ℤ → ℤ → Exact
+exactCouple p p′ k age age′ year span =
+    λ (j : ℕ). orderCoupleOver k (orderFactors p (lifePath p k age year span) j) (orderFactors p′ (lifePath p′ k age′ year span) j)
+
+-- ---- the refusal
+
+-- "starts differ"
+unfoldable pub sameStart : Params → Params → Bool
+sameStart p p′ = leZ (p .start) (p′ .start) && leZ (p′ .start) (p .start)
+
+-- a test, and the refusal where it fails
+abbrev pub test : Bool → Refusal → Test
+test b r = record { passed = b; refusal = r }
+
+-- the table's tests of two ages in one year, which is both lives' where the starts are the same: "Spans run to the smaller limit of
+-- the two", so that each life's limit is tried
+unfoldable pub coupleTable : ℤ → Rule → ℤ → ℤ → ℤ → ℤ → List Test
+coupleTable start rule age age′ year span =
+    test (ageInTable age) NoSuchAge ∷ test (ageInTable age′) NoSuchAge ∷ test (yearInTable start rule year) NoSuchYear
+    ∷ test (spanInTable rule age year span) NoSuchSpan ∷ test (spanInTable rule age′ year span) NoSuchSpan ∷ []
+
+-- "Each number is tried on the first life, then the second, before the next number. Answers: 11 starts differ, after 2 and ahead
+-- of any age."
+unfoldable pub coupleRefusal : Params → Params → CoupleKind → ℤ → ℤ → ℤ → ℤ → Refusal
+coupleRefusal p p′ k age age′ year span =
+    firstFailed
+    (test (inLimits p) OutOfLimits ∷ test (inLimits p′) OutOfLimits ∷ test (sameStart p p′) StartsDiffer
+    ∷ coupleTable (p .start) (ruleOf (singleOf k)) age age′ year span
+    ++ (test (pathInRange p (lifePath p k age year span)) LogForceOutOfRange
+    ∷ test (pathInRange p′ (lifePath p′ k age′ year span)) LogForceOutOfRange ∷ []))
+
+-- ---- the answer
+
+-- units in a step of a kind's figures: "Steps are those of the single life."
+abbrev pub coupleStep : CoupleKind → ℕ
+coupleStep k = stepOf (ruleOf (singleOf k) .fold)
+
+-- the answer to a query of two lives: the two sets, the kind, the two ages, the year and the span
+unfoldable pub coupleAnswer : Params → Params → CoupleKind → ℤ → ℤ → ℤ → ℤ → Answer
+coupleAnswer p p′ k age age′ year span =
+    answerBy (coupleRefusal p p′ k age age′ year span) (quoteBy (coupleStep k) (coupleEnds p p′ k age age′ year span))

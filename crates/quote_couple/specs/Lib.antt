@@ -1,0 +1,4 @@
+pub mod Couple
+pub mod CoupleDemand
+pub mod code
+pub mod laws

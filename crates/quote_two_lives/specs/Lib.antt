@@ -1,0 +1,3 @@
+pub mod TwoLives
+pub mod Exact
+pub mod laws

@@ -1,0 +1,2 @@
+pub mod CoupleLine
+pub mod laws

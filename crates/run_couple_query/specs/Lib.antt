@@ -1,0 +1,4 @@
+pub mod CoupleQuery
+pub mod code
+pub mod laws
+pub mod examples
