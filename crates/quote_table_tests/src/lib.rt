@@ -11,7 +11,7 @@ use set_params::FIRST_YEARS;
 use set_refusal::Refusal;
 
 // Whether v is at least low and at most high.
-fn between(low: i64, high: i64, v: i64) -> bool
+pub fn between(low: i64, high: i64, v: i64) -> bool
     ensures { λ r. ⌜ r ≡ between low high v ⌝ }
 {
     if v < low {

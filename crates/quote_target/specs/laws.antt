@@ -1,0 +1,3 @@
+pub mod PeriodLaws
+pub mod SoughtLaws
+pub mod Theorem
