@@ -1,6 +1,7 @@
 /* Kulfizan for C: the AG2014 table, or a later fit of the same model, with the parameters of a sheet. A sheet read and written, a
-   query of it answered, an annuity of it priced, survival to a day by it, a query of a couple's two sheets answered, a published
-   column checked by a sheet, and the whole run of an input. `make lib` writes libkulfizan.a and libkulfizan.so into target/lib.
+   query of it answered, an annuity of it priced, survival to a day by it, a query of a couple's two sheets answered, the year found
+   in which an expectancy reaches a target, a published column checked by a sheet, and the whole run of an input. `make lib` writes
+   libkulfizan.a and libkulfizan.so into target/lib.
 
    A set is 372 numbers: the table (0 for AG2014, 1 for LILEE), the sex (0 for M, 1 for F), a, theta, K, k, the start year, the
    constant c, and then for ages 0 to 90 A, B, alpha, beta, in the sheet's units. A set of AG2014 has the start year 2013 and c 0;
@@ -66,6 +67,13 @@ enum kulfizan_column_verdict {
     KULFIZAN_OPEN = 2   /* some figure is open here, and no other differs */
 };
 
+/* What is found of a target. */
+enum kulfizan_target_found {
+    KULFIZAN_YEAR_NAMED = 0, /* the earliest year whose exact expectancy is at least the target */
+    KULFIZAN_YEAR_OPEN = 1,  /* the target is above the lower end of the first year whose upper end is at or above it */
+    KULFIZAN_YEAR_NONE = 2   /* no year's exact expectancy is at least the target */
+};
+
 #ifdef __cplusplus
 extern "C" {
 #endif
@@ -114,6 +122,14 @@ uint8_t kulfizan_day(const uint8_t *sheet, size_t sheet_length, int64_t age, int
 uint8_t kulfizan_couple(const uint8_t *sheet, size_t sheet_length, const uint8_t *other_sheet, size_t other_sheet_length,
                         const uint8_t *kind, size_t kind_length, int64_t age, int64_t other_age, int64_t year, int64_t span,
                         uint64_t *quote, size_t quote_length);
+
+/* Finds the year in which the period expectancy at an age reaches a target, any number, in units of 10^-9: of the 51 quote years,
+   start + 1 to start + 51, the first whose upper end is at or above the target. Where its lower end is too, `found` is then 0 and
+   the year is named: it is the earliest whose exact expectancy is at least the target. Else `found` is 1, for open, also where a
+   later year is certain. Where no upper end is, `found` is 2, for none: no year's exact expectancy is at least the target. The year
+   is 0 where none is named. Torn where the sheet is, off scale, no such age, and steep where a cell that any of the 51 years needs
+   leaves its range, also where an earlier year would answer. */
+uint8_t kulfizan_target(const uint8_t *sheet, size_t sheet_length, int64_t age, int64_t target, uint64_t *found, int64_t *year);
 
 /* Checks a column of q for one year that somebody published: 121 lines `age=0 q=0.00312`, each ended by a line feed, in any order,
    each age from 0 to 120 once. The verdict is wrong where some age with a printed figure here has another entry; else open, where

@@ -13,8 +13,11 @@ had 369 numbers, with neither table, start nor c.
 A couple is two lives, each with its own sheet and age; both sheets have one start year. Of a couple each refusal is tried on the
 first life, then on the second, before the next number: 1, 2, 11, 3, 4, 5, 6.
 
+The year in which the period expectancy at an age reaches a target is `target_year`: the earliest of the 51 quote years, start + 1
+to start + 51, whose exact expectancy is at least the target, in units of 10^-9.
+
 A refused call raises `Refused`, which has the refusal's number: also where a number is past 64 bits, since out of the table is out
-of the table, however far.
+of the table, however far. A target may be any number.
 """
 import array
 import collections
@@ -83,9 +86,10 @@ def load(where):
     library.kulfizan_annuity.argtypes = [data, size, data, size, *[signed] * 4, counts, size]
     library.kulfizan_day.argtypes = [data, size, *[signed] * 3, counts, size]
     library.kulfizan_couple.argtypes = [*[data, size] * 3, *[signed] * 4, counts, size]
+    library.kulfizan_target.argtypes = [data, size, *[signed] * 2, counts, numbers]
     library.kulfizan_verdict.argtypes = [data, size, signed, data, size, counts]
     library.kulfizan_run.argtypes = [data, size, ctypes.c_uint8, data, size, counts]
-    for name in ("read", "write", "quote", "annuity", "day", "couple", "verdict", "run"):
+    for name in ("read", "write", "quote", "annuity", "day", "couple", "target", "verdict", "run"):
         getattr(library, f"kulfizan_{name}").restype = ctypes.c_uint8
     return library
 
@@ -102,7 +106,8 @@ def accepted(number):
 def signed(values):
     """Numbers of 64 bits for a call, of at least one place, so that the pointer is never one to nothing. A number past 64 bits
     goes in as the nearest that fits: both ends of 64 bits are outside every age, year, span and rate of the table, no table, sex,
-    start year or date and past every parameter's size, so that the refusal is the same."""
+    start year or date and past every parameter's size, so that the refusal is the same; and no expectancy is there, so that a
+    target's answer is the same."""
     checked = array.array("q", (max(LEAST, min(GREATEST, operator.index(value))) for value in values))
     return (ctypes.c_int64 * max(1, len(checked)))(*checked), len(checked)
 
@@ -160,6 +165,18 @@ def couple(sheet, other_sheet, kind, age, other_age, year, span=0):
     sheet, other_sheet, word = bytes(sheet), bytes(other_sheet), kind.encode()
     given, _ = signed((age, other_age, year, span))
     return quoted(LIBRARY.kulfizan_couple, sheet, len(sheet), other_sheet, len(other_sheet), word, len(word), *given)
+
+
+def target_year(sheet, age, target):
+    """The year in which the period expectancy at an age reaches a target, any number, in units of 10^-9. Of the 51 quote years the
+    first counts whose upper end is at or above the target: it is the answer where its lower end is too, and else "open"; "none"
+    where there is no such year. A year is the earliest whose exact expectancy is at least the target, and "none" means that no
+    year has one."""
+    sheet = bytes(sheet)
+    given, _ = signed((age, target))
+    found, year = ctypes.c_uint64(), ctypes.c_int64()
+    accepted(LIBRARY.kulfizan_target(sheet, len(sheet), *given, ctypes.byref(found), ctypes.byref(year)))
+    return (year.value, "open", "none")[found.value]
 
 
 def verdict(sheet, year, column):

@@ -109,6 +109,14 @@ def couple(library, sheet, other_sheet, word, *numbers, before):
     return number, kept(values, before)
 
 
+def target(library, sheet, age, asked, found, year):
+    """The number that a target gives, and the two numbers after it, which are lent between guards."""
+    memory = (ctypes.c_uint64 * 5)(GUARD, found, GUARD, year % 2**64, GUARD)
+    places = ctypes.c_uint64.from_buffer(memory, 8), ctypes.c_int64.from_buffer(memory, 24)
+    number = library.kulfizan_target(sheet, len(sheet), age, asked, *map(ctypes.byref, places))
+    return (number, *(place.value for place in places)) if memory[::2] == [GUARD] * 3 else "written beside the places"
+
+
 def verdict(library, sheet, year, column, before):
     """The number that a verdict on a column gives, and the verdict's own number after it."""
     told = held("Q", [before])

@@ -1,7 +1,7 @@
 """The library's calls from other languages: every answer to a query of a sheet, with a rate, a date or neither, against a second
 implementation, the refusal, both ends and the figure, with every number that was lent; a couple's refusals that are decided by
-its sheets and its word; the whole run of an input, with every byte that was lent; the Python module's own functions; and the
-example in C.
+its sheets and its word; the year a target is reached against the library's own quotes of the 51 years; the whole run of an input,
+with every byte that was lent; the Python module's own functions; and the example in C.
 
 Sheets, sets and the two calls between them are tests/test_sheets.py, and which numbers are dates is tests/test_dates.py. An
 argument is taken as the seed.
@@ -208,6 +208,92 @@ def compare_couples(count, draw, module):
         count.take(got == "TypeError", f"a couple with the age {wrong}: {got}")
 
 
+# ---- the year a target is reached
+
+NAMED, NONE = "named", "none"
+TARGET_AGES = (LEAST, -(2**32) + 67, -1, 121, 2**32 + 67, GREATEST)
+FAR_TARGETS = (LEAST, LEAST + 1, -(2**32), -1, 0, 1, 2**32, 2**62, GREATEST - 1, GREATEST)
+
+
+def target_sheets(draw):
+    """Sheets of both tables whose expectancies rise, fall and stay, with a steep cell in one of the 51 years or just after them,
+    at the ends of the range, and torn and off scale."""
+    yield from (sheets.text(flat()), sheets.text(test_quotes.mild(draw)), sheets.text(test_quotes.mild(draw, 2033)))
+    for level, rise in test_quotes.EVEN[:7]:
+        yield sheets.text(dict(flat(), A=[level] * 91, B=[test_quotes.YEARLY] * 91, theta=10 * rise))
+    yield from (sheets.text(test_quotes.steep_once(draw, year)[0]) for year in (2014, draw.randint(2015, 2063), 2064, 2065))
+    yield sheets.text(sheets.realistic_lilee(draw, draw.randint(2013, 2033)))
+    yield sheets.text(sheets.at_edge(draw, 2014, 0))
+    good, off_scale = sheets.text(flat()), sheets.text(dict(flat(), a=SIZES["a"] + 1))
+    yield from (b"", good[:-1], good + b"\n", off_scale, off_scale[:-1], good.ljust(LONGEST + 1, b"\n"))
+
+
+def period_ends(module, sheet, age):
+    """The refusal that some of the 51 quotes has, and the ends of each year's."""
+    no, which = read(sheet)
+    first = 2014 if no else which.start + 1
+    quotes = {year: raised(module.quote, sheet, "eper", age, year) for year in range(first, first + 51)}
+    refused = next(filter(None, quotes.values()), 0)
+    return refused, {} if refused else {year: module.quote(sheet, "eper", age, year)[:2] for year in quotes}
+
+
+def reached(ends, target):
+    """The first year whose upper end is at or above the target, where its lower end is too; else open, or none."""
+    year = next((year for year, (_, upper) in ends.items() if target <= upper), None)
+    return NONE if year is None else year if target <= ends[year][0] else OPEN
+
+
+def targets_near(draw, ends):
+    """Targets at the ends of some years, of the first and of the last, a unit beside them and between them; and far ones."""
+    years = list(ends)
+    chosen = [ends[year] for year in {years[0], years[1], years[-1], *draw.sample(years, 3)}]
+    near = {end + by for pair in chosen for end in (*pair, sum(pair) // 2) for by in (-1, 0, 1)}
+    highest = max(upper for _, upper in ends.values())
+    return sorted(near | {highest, highest + 1}) + [*FAR_TARGETS, any_number(draw)]
+
+
+def two_numbers(said):
+    """What is found and the year, as two numbers."""
+    return ((NAMED, OPEN, NONE).index(said), 0) if said in (OPEN, NONE) else (0, said)
+
+
+def compare_targets(count, draw, module):
+    """The call in C, with both numbers that are lent, and the module's, each against the quotes of the 51 years."""
+    met = collections.Counter()
+    for sheet in target_sheets(draw):
+        for age in (0, 67, 90, 91, 120, draw.randint(0, 120), draw.choice(TARGET_AGES)):
+            no, ends = period_ends(module, sheet, age)
+            for target in draw.sample(FAR_TARGETS, 3) if no else targets_near(draw, ends):
+                said = no or reached(ends, target)
+                met[f"refused {said}" if no else said if said in (OPEN, NONE) else NAMED] += 1
+                met["open, and a later year certain"] += said == OPEN and any(target <= lower for lower, _ in ends.values())
+                met["a year after the first"] += not no and said in list(ends)[1:]
+                before = *lent(draw, 1), any_number(draw)
+                wanted = (no, *before) if no else (0, *two_numbers(said))
+                got = c_interface.target(module.LIBRARY, sheet, age, target, *before)
+                count.take(got == wanted, f"a target {target} at {age}: {got} and not {wanted}")
+                got = raised(module.target_year, sheet, age, target) or module.target_year(sheet, age, target)
+                count.take(got == said, f"target_year of {target} at {age}: {got} and not {said}")
+    wanted = [NAMED, OPEN, NONE, "open, and a later year certain", "a year after the first"]
+    for what in wanted + [f"refused {no}" for no in (TORN, OFF_SCALE, 3, 6)]:
+        count.take(met[what] > 0, f"no target of: {what}")
+    compare_target_module(count, module)
+
+
+def compare_target_module(count, module):
+    """What the module's call takes and raises beside that: any whole number, however far, is a target."""
+    sheet = sheets.text(flat())
+    for far in (2**63, 2**64, 2**64 + 10**9, 10**30):
+        for target, wanted in ((far, NONE), (-far - 1, 2014)):
+            got = module.target_year(bytearray(sheet), 67, target)
+            count.take(got == wanted, f"target_year of {target}: {got} and not {wanted}")
+        count.take(raised(module.target_year, sheet, far, 0) == 3, f"target_year at the age {far} is not refused")
+    for wrong in (20.5, 1e30, "20", None):
+        for given in ((67, wrong), (wrong, 20 * 10**9)):
+            got = raised(module.target_year, sheet, *given)
+            count.take(got == "TypeError", f"target_year of {given}: {got}")
+
+
 # ---- the whole run
 
 def inputs(draw):
@@ -402,6 +488,7 @@ def main():
         met(count, counts)
         compare_words(count, draw, module.LIBRARY)
         compare_couples(count, draw, module)
+        compare_targets(count, draw, module)
         compare_runs(count, draw, module)
         compare_module(count, draw, module)
         compare_places(count, module)

@@ -1,5 +1,5 @@
 """The whole run of `quotes` and `ends`, byte for byte, against the second implementation in whole_run.py; and what README.md shows
-of these programs, of `compare`, of `couples` and of `verdict`.
+of these programs, of `compare`, of `couples`, of `targets` and of `verdict`.
 
 It runs both programs on some thousand inputs each: sheets that are whole, torn and off scale, queries of every kind, torn at
 every field and byte, inputs up to, at and past the longest, and any bytes; whole, in pieces, and with a reader that closes

@@ -37,7 +37,10 @@ COUPLE_QUERIES = (
     b"kind=ejoint age=120 age2=119 year=2064 span=0\n", b"kind=elast age=119 age2=120 year=2064 span=0\n",
     b"kind=last age=119 age2=65 year=2020 span=3\n", b"kind=joint age=65 age2=121 year=2020 span=0\n",
 )
-WITH_QUERIES = ("quotes", "ends", "compare", "couples")
+TARGET_QUERIES = (
+    b"age=110 target=2000000000\n", b"age=120 target=3000000000\n", b"age=65 target=-1\n", b"age=121 target=0\n",
+)
+WITH_QUERIES = ("quotes", "ends", "compare", "couples", "targets")
 
 
 def head_of(name):
@@ -46,7 +49,7 @@ def head_of(name):
 
 
 def queries_of(name):
-    return COUPLE_QUERIES if name == "couples" else QUERIES
+    return {"couples": COUPLE_QUERIES, "targets": TARGET_QUERIES}.get(name, QUERIES)
 
 
 def short_run(name):

@@ -1,10 +1,10 @@
 """The whole run of the rate sheet's programs, from input bytes to output bytes, written from paper 01, "The quote program",
-and for annuities, survival to a day, sheets of the table LILEE, `verdict` and `couples` from paper 02.
+and for annuities, survival to a day, sheets of the table LILEE, `verdict`, `couples` and `targets` from paper 02.
 
 `quotes` echoes a query with its figure, `ends` with its two ends ahead of the figure. `compare` reads two sheets and echoes a
 query with the figure of each and what the two pairs of ends tell of the two values. `couples` reads two sheets, a life's each,
-and echoes a query of both lives as `ends` does. `verdict` reads a sheet, a year and a column, and prints the verdict on the
-column.
+and echoes a query of both lives as `ends` does. `targets` reads a sheet and echoes a line of an age and a target with the year in
+which it is reached. `verdict` reads a sheet, a year and a column, and prints the verdict on the column.
 """
 import functools
 import re
@@ -13,6 +13,7 @@ from columns import columns_of
 from couples import COUPLES, SINGLE, Couple
 from quotes import ANNUITIES, DAY, OPEN, TENTHS, UNRATED, Quotes, figure
 from reader import LONGEST, NUMBER, TORN, params_of, read
+from targets import Targets
 
 SHEET_LINES, LILEE_LINES, LILEE_FIRST = 370, 372, b"table=LILEE\n"
 
@@ -196,6 +197,35 @@ def couples(data):
     return text(of_couple(couple_of(first, second), line) for line in lines)
 
 
+# ---- the year a target is reached
+
+AIM = re.compile(b"age=(%b) target=(%b)\n" % (NUMBER.pattern, NUMBER.pattern))
+
+
+@functools.lru_cache(200)
+def targets_of(sheet):
+    """The answers over the bytes of a sheet that is read."""
+    return Targets(sheet_of(sheet).quotes)
+
+
+def of_target(given, line):
+    """The line that is printed for a line after the sheet."""
+    got = AIM.fullmatch(line)
+    if not got:
+        return refused(TORN)
+    no, found = given.answer(*map(int, got.groups()))
+    return f"{echo(line)} {refused(no) if no else f'year={found}'}"
+
+
+def targets(data):
+    """What `targets` prints for its whole input."""
+    if len(data) > LONGEST:
+        return text([refused(TORN)])
+    sheet, lines = parted(lines_in(data))
+    no = sheet_of(sheet).no
+    return text([refused(no)] if no else (of_target(targets_of(sheet), line) for line in lines))
+
+
 # ---- a published column
 
 YEAR = re.compile(b"year=(%b)\n" % NUMBER.pattern)
@@ -215,4 +245,4 @@ def verdict(data):
 
 
 ONE_SHEET = {"quotes": quotes, "ends": ends}
-PROGRAMS = ONE_SHEET | {"compare": compare, "couples": couples, "verdict": verdict}
+PROGRAMS = ONE_SHEET | {"compare": compare, "couples": couples, "targets": targets, "verdict": verdict}

@@ -1,6 +1,6 @@
 // The C interface, for programs in other languages: a sheet read into numbers, numbers written as a sheet, a query of a
-// sheet answered, with a rate, a date or neither, a query of a couple's two sheets, the verdict on a published column, and the
-// whole run of an input.
+// sheet answered, with a rate, a date or neither, a query of a couple's two sheets, the year a target is reached, the verdict on a
+// published column, and the whole run of an input.
 ghost use mathlib.Core.Path.{_≡_};
 ghost use mathlib.Core.List.{[]};
 ghost use lib.ListN.{length};
@@ -9,6 +9,7 @@ ghost use Rattle.quote_kinds.specs.declared.Kind.the-variants.{Day};
 ghost use Rattle.c_set_numbers.specs.SetNumbers.{readNo, numbersAfter, writeNo, bufferAfter, lengthAfter};
 ghost use Rattle.c_sheet_quote.specs.SheetQuote.{kindOf, ratedKindOf, sheetAnswer, quoteNo, quoteAfter};
 ghost use Rattle.c_couple_quote.specs.SheetsCouple.{coupleKindOf, sheetsAnswer};
+ghost use Rattle.c_target_year.specs.SheetTarget.{sheetTarget, targetNo, foundAfter, yearAfter};
 ghost use Rattle.run_column_verdict.specs.SheetVerdict.{sheetVerdict, verdictNo, verdictAfter};
 ghost use Rattle.kulfizan.specs.Run.{runNo, runBuffer, runLength};
 use run::Program;
@@ -116,6 +117,26 @@ pub extern "C" fn kulfizan_couple(
         (now (quote .entry)) ⌝ }
 {
     c_couple_quote::couple_into(first, second, kind, age, other, year, span, quote)
+}
+
+// Finds the first quote year whose period expectancy at an age reaches a target, in units of 10^-9: the first number is then 0 where
+// the year is named, 1 where it is open and 2 where there is none, and the second the year, or 0. The refusal's number, or 0;
+// refused, the call leaves both numbers as they were.
+#[no_mangle]
+pub extern "C" fn kulfizan_target(
+    sheet: &[u8],
+    age: i64,
+    target: i64,
+    found: &mut u64,
+    year: &mut i64,
+) -> u8
+    ensures { λ r. ⌜ r ≡ targetNo (sheetTarget (now (sheet .entry)) age target) ⌝ }
+    ensures { λ r. ⌜ now (found .exit)
+        ≡ foundAfter (sheetTarget (now (sheet .entry)) age target) (now (found .entry)) ⌝ }
+    ensures { λ r. ⌜ now (year .exit)
+        ≡ yearAfter (sheetTarget (now (sheet .entry)) age target) (now (year .entry)) ⌝ }
+{
+    c_target_year::target_into(sheet, age, target, found, year)
 }
 
 // Checks a published column of q for one year by a sheet: the number is then 0 for right, 1 for wrong and 2 for open. The refusal's

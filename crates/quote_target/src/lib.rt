@@ -3,8 +3,8 @@
 ghost use mathlib.Core.Path.{_≡_};
 ghost use lib.Dec.{T};
 ghost use Rattle.set_limits.specs.InLimits.{inLimits};
-ghost use Rattle.quote_target.specs.code.Target.{reaches, yearTells, targetAnswer};
-ghost use Rattle.quote_target.specs.code.Meaning.{Honest};
+ghost use Rattle.quote_target.specs.Target.{reaches, yearTells, targetAnswer};
+ghost use Rattle.quote_target.specs.Target.{Honest};
 use model_closure::LAST_CLOSED;
 use number_exponential::Ends;
 use quote_along::Answer;

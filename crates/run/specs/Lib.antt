@@ -1,4 +1,2 @@
-pub mod Answers
 pub mod Run
-pub mod Into
 pub mod laws

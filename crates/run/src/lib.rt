@@ -6,8 +6,8 @@ ghost use lib.ListN.{length};
 ghost use Rattle.set_limits.specs.InLimits.{inLimits};
 ghost use Rattle.text_printing.specs.code.Put.{Put};
 ghost use Rattle.run_line.specs.Line.{lineAnswer, longestLine};
-ghost use Rattle.run.specs.Answers.{answersFrom};
-ghost use Rattle.run.specs.Into.{textAnswer, textBuffer};
+ghost use Rattle.run.specs.Run.{answersFrom};
+ghost use Rattle.run.specs.Run.{textAnswer, textBuffer};
 ghost use Rattle.run.specs.Run.{sheetsBy, refusedRun, linesRun, runOf, runRoom};
 use run_line::Mode;
 use run_sheets::Sheets;
@@ -30,6 +30,7 @@ fn sheets_by(mode: Mode) -> Sheets
         Mode::Quotes(_) => Sheets::One,
         Mode::Compare => Sheets::InTurn,
         Mode::Couples => Sheets::ByNumber,
+        Mode::Targets => Sheets::One,
     }
 }
 

@@ -2,8 +2,9 @@
 ghost use mathlib.Core.Path.{_≡_};
 ghost use mathlib.Core.List.{_++_};
 ghost use Prim.Native.Nat.{_^_, _<_};
+ghost use lib.IntN.{natAbs};
 ghost use lib.ListN.{length};
-ghost use Rattle.text_tokens.specs.Number.{mostDigits, unsignedText};
+ghost use Rattle.text_tokens.specs.Number.{mostDigits, unsignedText, numberText};
 ghost use Rattle.text_printing.specs.code.Put.{Room, Put};
 ghost use Rattle.run_answer_text.specs.AnswerText.{refusalLine, refusedText, endsText, quoteText, kindDecimals, answerText};
 ghost use Rattle.run_answer_text.specs.Line.{withoutFeed};
@@ -31,13 +32,21 @@ pub fn put_echo(buffer: &mut [u8], at: usize, line: &[u8]) -> usize
     text_printing::put_text(buffer, at, &line[..end])
 }
 
+// Writes a name and a number, either side of 0; the place after them.
+pub fn put_signed(buffer: &mut [u8], at: usize, name: &[u8], v: i64) -> usize
+    requires { ⌜ (natAbs v < 10 ^ mostDigits) × Room (now buffer) at (now name ++ numberText v) ⌝ }
+    ensures { λ r. ⌜ Put (now (buffer .entry)) at (now (name .entry) ++ numberText v) (now (buffer .exit)) r ⌝ }
+{
+    let place = text_printing::put_text(buffer, at, name);
+    text_printing::put_number(buffer, place, v)
+}
+
 // Writes a name and a number; the place after them.
 pub fn put_field(buffer: &mut [u8], at: usize, name: &[u8], n: u64) -> usize
     requires { ⌜ (n < 10 ^ mostDigits) × Room (now buffer) at (now name ++ unsignedText n) ⌝ }
     ensures { λ r. ⌜ Put (now (buffer .entry)) at (now (name .entry) ++ unsignedText n) (now (buffer .exit)) r ⌝ }
 {
-    let place = text_printing::put_text(buffer, at, name);
-    text_printing::put_digits(buffer, place, n)
+    put_signed(buffer, at, name, n as i64)
 }
 
 // Writes `no=` and a refusal's number, as a line; the place after it.

@@ -7,7 +7,7 @@ use lib.ListN.{drop}
 use Rattle.text_tokens.specs.Text.{bytesOf, Parse, malformed, taken, takeText, andThen}
 use Rattle.text_tokens.specs.laws.Steps.{goes, stops}
 use Rattle.quote_couple_kinds.specs.declared.CoupleKind.{CoupleKind}
-use Rattle.run_query.specs.Query.{readWord, readField, alone}
+use Rattle.run_query.specs.Query.{readWord, readField, ended}
 use Rattle.run_couple_query.specs.declared.CoupleQuery.{CoupleQuery}
 use Rattle.run_couple_query.specs.declared.CoupleKindRead.{CoupleKindRead}
 use Rattle.run_couple_query.specs.declared.CoupleKindRead.the-variants.{Malformed, Of}
@@ -16,13 +16,10 @@ use Rattle.run_couple_query.specs.code.Code.{coupleKindRead}
 
 -- ---- what is still to be read
 
-abbrev pub lineEnd : CoupleQuery → List ℕ → Parse CoupleQuery
-lineEnd q bs = andThen (takeText (bytesOf "\n") bs) (λ v rest. alone q rest)
-
 abbrev pub fromSpan : CoupleKind → ℤ → ℤ → ℤ → List ℕ → Parse CoupleQuery
 fromSpan kind age other year bs =
     andThen (readField (bytesOf " span=") bs)
-    (λ span rest. lineEnd (record { kind = kind; age = age; other = other; year = year; span = span }) rest)
+    (λ span rest. ended (record { kind = kind; age = age; other = other; year = year; span = span }) rest)
 
 abbrev pub fromYear : CoupleKind → ℤ → ℤ → List ℕ → Parse CoupleQuery
 fromYear kind age other bs = andThen (readField (bytesOf " year=") bs) (λ year rest. fromSpan kind age other year rest)

@@ -1,16 +1,12 @@
 -- A couple's query line (paper 02, E8), "two lives, each with its own sheet, age and one common quote year", in the form of a
--- single life's with the second life's age behind the first's: `kind=joint age=65 age2=62 year=2020 span=20`. What a line asks,
--- and the text of what is asked.
+-- single life's with the second life's age behind the first's: `kind=joint age=65 age2=62 year=2020 span=20`.
 use Prim.Native.Nat.{ℕ}
-use mathlib.Core.List.{List, [], _∷_, _++_}
+use mathlib.Core.List.{List, [], _∷_}
 use Rattle.text_tokens.specs.Text.{bytesOf, Parse, takeText, andThen}
-use Rattle.text_tokens.specs.Number.{numberText}
 use Rattle.quote_couple_kinds.specs.declared.CoupleKind.{CoupleKind}
 use Rattle.quote_couple_kinds.specs.declared.CoupleKind.the-variants.{JointLife, LastSurvivor, JointExpectancy, LastExpectancy}
-use Rattle.run_query.specs.Query.{readWord, readField, alone}
+use Rattle.run_query.specs.Query.{readWord, readField, ended}
 use Rattle.run_couple_query.specs.declared.CoupleQuery.{CoupleQuery}
-
--- ---- the kinds' words
 
 unfoldable pub coupleWord : CoupleKind → List ℕ
 coupleWord JointLife = bytesOf "joint"
@@ -22,16 +18,6 @@ coupleWord LastExpectancy = bytesOf "elast"
 unfoldable pub couplesOnOffer : List CoupleKind
 couplesOnOffer = JointLife ∷ LastSurvivor ∷ JointExpectancy ∷ LastExpectancy ∷ []
 
--- ---- a query's text
-
-unfoldable pub coupleText : CoupleQuery → List ℕ
-coupleText q =
-    bytesOf "kind=" ++ (coupleWord (q .kind) ++ (bytesOf " age=" ++ (numberText (q .age)
-    ++ (bytesOf " age2=" ++ (numberText (q .other) ++ (bytesOf " year=" ++ (numberText (q .year)
-    ++ (bytesOf " span=" ++ numberText (q .span)))))))))
-
--- ---- reading
-
 -- the query of a whole line
 unfoldable pub readCouple : List ℕ → Parse CoupleQuery
 readCouple line =
@@ -41,5 +27,4 @@ readCouple line =
     andThen (readField (bytesOf " age2=") after₂) (λ other after₃.
     andThen (readField (bytesOf " year=") after₃) (λ year after₄.
     andThen (readField (bytesOf " span=") after₄) (λ span after₅.
-    andThen (takeText (bytesOf "\n") after₅) (λ v after₆.
-    alone (record { kind = kind; age = age; other = other; year = year; span = span }) after₆)))))))
+    ended (record { kind = kind; age = age; other = other; year = year; span = span }) after₅))))))

@@ -73,10 +73,7 @@ pub fn couple_query_of(line: &[u8]) -> CoupleQueryRead
     else {
         return CoupleQueryRead::Malformed;
     };
-    if !text_tokens::text_at(line, after_span, b"\n") {
-        return CoupleQueryRead::Malformed;
-    }
-    if after_span + 1 < line.len() {
+    if !run_query::ends_at(line, after_span) {
         return CoupleQueryRead::Malformed;
     }
     CoupleQueryRead::Of(CoupleQuery {

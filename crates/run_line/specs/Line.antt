@@ -11,8 +11,9 @@ use Rattle.run_answer_text.specs.Line.{answered}
 use Rattle.quote_compare.specs.Compare.{comparisonOf}
 use Rattle.run_compare_text.specs.CompareText.{comparisonText}
 use Rattle.run_couple_line.specs.CoupleLine.{coupleLine, mostCouple}
+use Rattle.run_target_line.specs.TargetLine.{targetLine, mostTarget}
 use Rattle.run_line.specs.declared.Mode.{Mode}
-use Rattle.run_line.specs.declared.Mode.the-variants.{Quotes, Compare, Couples}
+use Rattle.run_line.specs.declared.Mode.the-variants.{Quotes, Compare, Couples, Targets}
 use Rattle.run_line.specs.declared.Reply.{Reply}
 use Rattle.run_line.specs.declared.Reply.the-variants.{Quote, Compared}
 
@@ -37,6 +38,7 @@ unfoldable pub lineAnswer : Mode → Params → Params → List ℕ → List ℕ
 lineAnswer (Quotes ends) p p′ line = queryLine (Quote ends) p p′ line
 lineAnswer Compare p p′ line = queryLine Compared p p′ line
 lineAnswer Couples p p′ line = coupleLine p p′ line
+lineAnswer Targets p p′ line = targetLine p line
 
 -- no answer to a query's line is longer
 abbrev pub longestReply : Reply → ℕ
@@ -48,6 +50,7 @@ unfoldable pub longestLine : Mode → ℕ
 longestLine (Quotes ends) = longestReply (Quote ends)
 longestLine Compare = longestReply Compared
 longestLine Couples = mostCouple
+longestLine Targets = mostTarget
 
 -- no answer is longer, whichever the mode
 abbrev pub mostLine : ℕ

@@ -10,15 +10,17 @@ use quote_along::Answer;
 use run_couple_line::MOST_COUPLE;
 use run_query::Query;
 use run_query::QueryRead;
+use run_target_line::MOST_TARGET;
 use set_params::Params;
 use set_refusal::Refusal;
 
-// What a program answers a line with: a query's figure, with the ends where they are asked for, its figures by two sheets, or a
-// couple's figure with the ends.
+// What a program answers a line with: a query's figure, with the ends where they are asked for, its figures by two sheets, a
+// couple's figure with the ends, or the year in which a target is reached.
 pub enum Mode {
     Quotes(bool),
     Compare,
     Couples,
+    Targets,
 }
 
 // What follows a query: its answer, with the ends where they are asked for, or its answers by two sets, compared.
@@ -38,6 +40,7 @@ pub fn longest_line(mode: Mode) -> usize
         Mode::Quotes(_) => 161,
         Mode::Compare => 205,
         Mode::Couples => MOST_COUPLE,
+        Mode::Targets => MOST_TARGET,
     }
 }
 
@@ -110,5 +113,6 @@ pub fn put_line(
         Mode::Quotes(ends) => put_query(buffer, at, Reply::Quote(ends), first, second, line),
         Mode::Compare => put_query(buffer, at, Reply::Compared, first, second, line),
         Mode::Couples => run_couple_line::put_couple(buffer, at, first, second, line),
+        Mode::Targets => run_target_line::put_target(buffer, at, first, line),
     }
 }

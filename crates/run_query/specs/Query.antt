@@ -1,20 +1,18 @@
 -- "A query line has the form shown below without its `fig=` part, numbers formed as in a sheet, and ends in a line feed":
 -- `kind=q age=65 year=2020 span=0`; the line of an annuity (paper 02, E1) "for these two kinds only, ends with `rate=`":
 -- `kind=acoh age=65 year=2020 span=0 rate=30000`; "Kind `day` carries age, year (2014 to 2064) and, in place of a span,
--- `date=` as YYYYMMDD" (E6): `kind=day age=65 year=2020 date=20410315`. What a line asks, and the text of what is asked.
+-- `date=` as YYYYMMDD" (E6): `kind=day age=65 year=2020 date=20410315`. What a line asks.
 use Prim.Native.Nat.{ℕ}
 use mathlib.Core.Bool.{cond}
-use mathlib.Core.List.{List, [], _∷_, _++_}
+use mathlib.Core.List.{List, [], _∷_}
 use lib.IntN.{ℤ, pos}
 use Rattle.text_tokens.specs.Text.{bytesOf, Parse, malformed, taken, takeText, andThen}
-use Rattle.text_tokens.specs.Number.{readNumber, numberText}
+use Rattle.text_tokens.specs.Number.{readNumber}
 use Rattle.quote_kinds.specs.declared.Kind.{Kind}
 use Rattle.quote_kinds.specs.declared.Kind.the-variants.{Death, CohortSurvival, PeriodSurvival, CohortExpectancy, PeriodExpectancy}
 use Rattle.quote_kinds.specs.declared.Kind.the-variants.{CohortAnnuity, PeriodAnnuity, Day}
-use Rattle.quote_kinds.specs.Kinds.{ruleOf, takesRate, withRate, rateOf}
+use Rattle.quote_kinds.specs.Kinds.{ruleOf, takesRate, withRate}
 use Rattle.run_query.specs.declared.Query.{Query}
-
--- ---- the kinds' words
 
 -- each kind's word, whatever the rate
 unfoldable pub wordOf : Kind → List ℕ
@@ -33,25 +31,9 @@ onOffer =
     Death ∷ CohortSurvival ∷ PeriodSurvival ∷ CohortExpectancy ∷ PeriodExpectancy
     ∷ CohortAnnuity (pos 0) ∷ PeriodAnnuity (pos 0) ∷ Day ∷ []
 
--- ---- a query's text
-
 -- "in place of a span, `date=` as YYYYMMDD": the name of a kind's last number
 unfoldable pub termName : Kind → List ℕ
 termName k = cond (ruleOf k .dated) (bytesOf " date=") (bytesOf " span=")
-
--- the rate of a kind that takes one
-abbrev pub kindRate : Kind → ℤ
-kindRate k = rateOf (ruleOf k .fold)
-
-unfoldable pub rateText : Kind → List ℕ
-rateText k = cond (takesRate k) (bytesOf " rate=" ++ numberText (kindRate k)) []
-
-unfoldable pub queryText : Query → List ℕ
-queryText q =
-    bytesOf "kind=" ++ (wordOf (q .kind) ++ (bytesOf " age=" ++ (numberText (q .age)
-    ++ (bytesOf " year=" ++ (numberText (q .year) ++ (termName (q .kind) ++ (numberText (q .term) ++ rateText (q .kind))))))))
-
--- ---- reading
 
 -- the first of those on offer whose word, by a table of words, stands at the front
 unfoldable pub readWord : {X : Type 0} → (X → List ℕ) → List X → List ℕ → Parse X
@@ -74,6 +56,10 @@ unfoldable pub alone : {A : Type 0} → A → List ℕ → Parse A
 alone a [] = taken a []
 alone a (b ∷ bs) = malformed
 
+-- a value whose line ends: a line feed, and nothing behind it
+unfoldable pub ended : {A : Type 0} → A → List ℕ → Parse A
+ended a bs = andThen (takeText (bytesOf "\n") bs) (λ u rest. alone a rest)
+
 -- such a word that nothing follows
 unfoldable pub wholeWord : {X : Type 0} → (X → List ℕ) → List X → List ℕ → Parse X
 wholeWord word xs bs = andThen (readWord word xs bs) (λ x rest. alone x rest)
@@ -87,5 +73,4 @@ readQuery line =
     andThen (readField (bytesOf " year=") after₂) (λ year after₃.
     andThen (readField (termName word) after₃) (λ term after₄.
     andThen (readRate word after₄) (λ kind after₅.
-    andThen (takeText (bytesOf "\n") after₅) (λ v after₆.
-    alone (record { kind = kind; age = age; year = year; term = term }) after₆)))))))
+    ended (record { kind = kind; age = age; year = year; term = term }) after₅))))))

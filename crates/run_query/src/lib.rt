@@ -5,7 +5,7 @@ ghost use lib.ListN.{drop};
 ghost use Rattle.text_tokens.specs.code.Places.{numberRead};
 ghost use Rattle.quote_kinds.specs.Kinds.{takesRate, withRate};
 ghost use Rattle.run_query.specs.Query.{wordOf, onOffer, termName, readWord, readField, readRate, readQuery};
-ghost use Rattle.run_query.specs.code.Code.{kindRead, queryRead};
+ghost use Rattle.run_query.specs.code.Code.{kindRead, queryRead, lineEnds};
 use quote_kinds::Kind;
 use text_tokens::NumberRead;
 
@@ -127,6 +127,16 @@ fn rate_at(bytes: &[u8], at: usize, kind: Kind) -> KindRead
     KindRead::Of(with_rate(kind, rate), next)
 }
 
+// Whether a line ends at a place: a line feed, and nothing behind it.
+pub fn ends_at(line: &[u8], at: usize) -> bool
+    ensures { λ r. ⌜ r ≡ lineEnds (drop at (now (line .entry))) ⌝ }
+{
+    if !text_tokens::text_at(line, at, b"\n") {
+        return false;
+    }
+    line.len() <= at + 1
+}
+
 // The query of a line.
 pub fn query_of(line: &[u8]) -> QueryRead
     ensures { λ r. ⌜ queryRead r ≡ readQuery (now (line .entry)) ⌝ }
@@ -149,10 +159,7 @@ pub fn query_of(line: &[u8]) -> QueryRead
     let KindRead::Of(kind, after_rate) = rate_at(line, after_term, word) else {
         return QueryRead::Malformed;
     };
-    if !text_tokens::text_at(line, after_rate, b"\n") {
-        return QueryRead::Malformed;
-    }
-    if after_rate + 1 < line.len() {
+    if !ends_at(line, after_rate) {
         return QueryRead::Malformed;
     }
     QueryRead::Of(Query {

@@ -21,7 +21,7 @@ judgedText (Of v) = wordText v
 judgedText (Refused r) = refusedText r
 
 unfoldable pub verdictLine : ℤ → Judged → List ℕ
-verdictLine year j = bytesOf "year=" ++ (numberText year ++ judgedText j)
+verdictLine year j = (bytesOf "year=" ++ numberText year) ++ judgedText j
 
 -- no line is longer than `year=`, a minus and 15 digits, ` verdict=wrong` and the line feed
 abbrev pub mostVerdict : ℕ

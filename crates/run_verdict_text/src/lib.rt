@@ -38,7 +38,6 @@ pub fn put_line(out: &mut [u8], year: i64, judged: Judged) -> usize
     requires { ⌜ (natAbs year < 10 ^ mostDigits) × Room (now out) 0 (verdictLine year judged) ⌝ }
     ensures { λ r. ⌜ Put (now (out .entry)) 0 (verdictLine year judged) (now (out .exit)) r ⌝ }
 {
-    let place = text_printing::put_text(out, 0, b"year=");
-    let end = text_printing::put_number(out, place, year);
+    let end = run_answer_text::put_signed(out, 0, b"year=", year);
     put_judged(out, end, judged)
 }

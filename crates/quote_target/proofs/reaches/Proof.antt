@@ -7,7 +7,7 @@ use lib.IntN.{ℤ, pos, natAbs}
 use mir.Facts.{toZ-ofZ}
 use Rattle.number_whole.specs.laws.Sign.{Sign, minus, plain, sign}
 use Rattle.quote_kinds.proofs.Casts.{cast-whole}
-use Rattle.quote_target.specs.code.Target.{reaches}
+use Rattle.quote_target.specs.Target.{reaches}
 use Rattle.quote_target.proofs.reaches.Statement.{statement}
 use Rattle.quote_target.proofs.reaches.Tie as tie
 

@@ -6,8 +6,8 @@ use lib.IntN.{ℤ}
 use mir.Facts.{toZ-ofZ}
 use Rattle.set_params.specs.declared.Params.{Params}
 use Rattle.quote_target.specs.declared.TargetYear.{TargetYear}
-use Rattle.quote_target.specs.code.Target.{targetAnswer}
-use Rattle.quote_target.specs.code.Meaning.{Honest}
+use Rattle.quote_target.specs.Target.{targetAnswer}
+use Rattle.quote_target.specs.Target.{Honest}
 use Rattle.quote_target.specs.laws.SoughtLaws.{out-of-limits}
 use Rattle.quote_target.specs.laws.Theorem.{honest}
 use Rattle.quote_target.proofs.target_of.Statement.{statement}

@@ -12,13 +12,10 @@ use mir.Val.{toZ}
 use mir.Facts.{toZ-ofZ}
 use lib.IntN.{ℤ, pos, _+ℤ_}
 use mir.Val.{SFits}
-use Rattle.number_whole.specs.code.Sizes.{Under}
-use Rattle.number_whole.specs.laws.Bound.{bits, under-between, under-add, under-pos, fits}
-use Rattle.number_whole.specs.laws.Split.{split, split-neg}
+use Rattle.number_whole.specs.laws.Bound.{bits, under-add, under-pos, fits}
 use Rattle.number_whole.specs.laws.Clash.{clash}
 use Rattle.number_whole.proofs.Signed.{sum}
-use Rattle.set_params.specs.Limits.{firstYears, quoteYears, lastStart}
-use Rattle.set_params.specs.code.Within.{StartWithin}
+use Rattle.set_params.specs.Limits.{firstYears, quoteYears}
 use Rattle.set_limits.specs.laws.LimitsLaws.{in-limits-start}
 use Rattle.set_refusal.specs.declared.Refusal.{Refusal}
 use Rattle.set_refusal.specs.declared.Refusal.the-variants.{LogForceOutOfRange}
@@ -27,11 +24,11 @@ use Rattle.quote_along.specs.declared.Quote.{Quote}
 use Rattle.quote_along.specs.declared.Answer.the-variants.{Quoted, Refused}
 use Rattle.quote.specs.Quote.{quoteOf, answerOf}
 use Rattle.quote_table_tests.specs.TableTests.{ageInTable}
-use Rattle.quote_target.specs.code.Target.{periodEnds, periodInRange, yearTells, soughtFrom, inRangeFrom, yearsSought}
+use Rattle.quote_target.specs.Target.{periodEnds, periodInRange, yearTells, soughtFrom, inRangeFrom, yearsSought}
 use Rattle.quote_target.specs.declared.TargetYear.{TargetYear}
 use Rattle.number_exponential.specs.declared.Ends.{Ends}
 use Rattle.set_params.specs.declared.Params.{Params}
-use Rattle.quote_target.specs.laws.PeriodLaws.{period-answer}
+use Rattle.quote_target.specs.laws.PeriodLaws.{start-under, period-answer}
 use Rattle.quote_target.specs.laws.SoughtLaws.{sought-back, range-back, range-out, no-such-age, out-of-range, all-in-range}
 use Rattle.quote_target.proofs.target_within.Statement.{statement}
 use Rattle.quote_target.proofs.target_within.Tie as tie
@@ -70,9 +67,6 @@ start-read s = let f : SFits w64 (s .args .p .start) = search needs in toZ-ofZ f
 
 number-fits : (n : ℕ) → n ≤ quoteYears → SFits w64 (pos n)
 number-fits n h = fits (under-pos {k = quoteYears} h) tt
-
-start-under : {start : ℤ} → StartWithin start → Under start lastStart
-start-under {start} w = under-between (omega (split, split-neg (pos lastStart), w .first)) (omega (split, w .last))
 
 year-read : (s : tie.Start Inv-loop μ-loop) (n : ℕ) → n ≤ quoteYears
     → SFits w64 (bits (s .args .p .start) +ℤ toZ w64 n) × (bits (bits (s .args .p .start) +ℤ toZ w64 n) ≡ s .args .p .start +ℤ pos n)

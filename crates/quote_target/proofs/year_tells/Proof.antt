@@ -4,7 +4,7 @@ use borrow.Author.Tests.{not-true, not-false}
 use mathlib.Core.Path.{_≡_, sym, _∙_}
 use mathlib.Core.Bool.{true}
 use mir.Facts.{toZ-ofZ}
-use Rattle.quote_target.specs.code.Target.{reaches, yearTells}
+use Rattle.quote_target.specs.Target.{reaches, yearTells}
 use Rattle.quote_target.proofs.year_tells.Statement.{statement}
 use Rattle.quote_target.proofs.year_tells.Tie as tie
 

@@ -8,9 +8,12 @@ use lib.Dec.{T}
 use lib.IntN.{ℤ, pos, _+ℤ_}
 use lib.Signed.{_≤ℤ_, leZ}
 use mir.Facts.{yes-and}
-use Rattle.number_whole.specs.laws.Split.{split, split-add}
+use Rattle.number_whole.specs.code.Sizes.{Under}
+use Rattle.number_whole.specs.laws.Bound.{under-between}
+use Rattle.number_whole.specs.laws.Split.{split, split-add, split-neg}
 use Rattle.set_params.specs.declared.Params.{Params}
-use Rattle.set_params.specs.Limits.{firstYears, quoteYears}
+use Rattle.set_params.specs.Limits.{firstYears, quoteYears, lastStart}
+use Rattle.set_params.specs.code.Within.{StartWithin}
 use Rattle.set_refusal.specs.declared.Refusal.{Refusal}
 use Rattle.set_refusal.specs.declared.Refusal.the-variants.{Accepted, LogForceOutOfRange}
 use Rattle.set_refusal.specs.Refusals.{refusalNumber}
@@ -25,7 +28,11 @@ use Rattle.quote_along.specs.declared.Answer.the-variants.{Quoted, Refused}
 use Rattle.quote_paths.specs.Path.{pathInRange}
 use Rattle.quote.specs.Quote.{queryPath, quoteOf, answerBy, answerOf}
 use Rattle.quote.proofs.Steps.{cells-decide}
-use Rattle.quote_target.specs.code.Target.{periodInRange}
+use Rattle.quote_target.specs.Target.{periodInRange}
+
+-- how great a start year is
+pub start-under : {start : ℤ} → StartWithin start → Under start lastStart
+start-under {start} w = under-between (omega (split, split-neg (pos lastStart), w .first)) (omega (split, w .last))
 
 -- a quote year of the table
 year-within : (start : ℤ) (n : ℕ) → firstYears ≤ n → n ≤ quoteYears → T (yearInTable start (ruleOf PeriodExpectancy) (start +ℤ pos n))

@@ -14,7 +14,7 @@ use Rattle.set_refusal.specs.Refusals.{refusalNumber}
 use Rattle.set_limits.specs.InLimits.{inLimits}
 use Rattle.quote_table_tests.specs.TableTests.{ageInTable, firstFailed}
 use Rattle.quote_target.specs.declared.TargetYear.the-variants.{Refused}
-use Rattle.quote_target.specs.code.Target.{
+use Rattle.quote_target.specs.Target.{
   periodEnds,
   periodInRange,
   yearTells,

@@ -34,8 +34,8 @@ use Rattle.quote.specs.laws.Theorem.{demand-met}
 use Rattle.quote_target.specs.declared.TargetYear.{TargetYear}
 use Rattle.quote_target.specs.declared.TargetYear.the-variants.{Reached, Open, Never}
 use Rattle.quote_target.specs.declared.TargetYear.the-variants as told
-use Rattle.quote_target.specs.code.Target.{periodEnds, periodInRange, reaches, yearTells, soughtFrom, inRangeFrom, yearsSought, targetRefusal, targetAnswer}
-use Rattle.quote_target.specs.code.Meaning.{exactPeriod, AtLeastTarget, Earliest, NoYear, Honest}
+use Rattle.quote_target.specs.Target.{periodEnds, periodInRange, reaches, yearTells, soughtFrom, inRangeFrom, yearsSought, targetRefusal, targetAnswer}
+use Rattle.quote_target.specs.Target.{exactPeriod, AtLeastTarget, Earliest, NoYear, Honest}
 use Rattle.quote_target.specs.laws.PeriodLaws.{period-answer}
 
 -- ---- one year

@@ -10,7 +10,7 @@ use Rattle.text_printing.specs.laws.PutLaws.{put-none, put-as, put-join, put-le
 use Rattle.text_lines.specs.Lines.{firstLine, afterLine, lines}
 use Rattle.text_lines.specs.laws.LineLaws.{after-drop, line-some, line-take, lines-none, lines-first, place-within}
 use Rattle.run_answer_text.specs.laws.LineLaws.{Bounded}
-use Rattle.run.specs.Answers.{answersTo, answersFrom}
+use Rattle.run.specs.Run.{answersTo, answersFrom}
 
 -- ---- definitions
 

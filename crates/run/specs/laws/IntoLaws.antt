@@ -9,7 +9,7 @@ use Rattle.text_printing.specs.code.Put.{Put}
 use Rattle.text_printing.specs.laws.OverwrittenLaws.{overwritten-front}
 use Rattle.set_refusal.specs.declared.Refusal.the-variants.{Accepted, BufferTooShort}
 use Rattle.sheet.specs.declared.Written.{Written}
-use Rattle.run.specs.Into.{textAnswer, textBuffer}
+use Rattle.run.specs.Run.{textAnswer, textBuffer}
 
 -- the answer, and the buffer after
 abbrev pub Into : ℕ → List ℕ → List ℕ → Written → List ℕ → Type 0

@@ -20,7 +20,7 @@ use Rattle.run_line.specs.Line.{lineAnswer, longestLine, mostLine}
 use Rattle.run_line.specs.laws.ReplyLaws.{longest-between}
 use Rattle.run.specs.declared.Program.{Program}
 use Rattle.run.specs.declared.Program.the-variants.{Lines, Verdict}
-use Rattle.run.specs.Answers.{answersFrom}
+use Rattle.run.specs.Run.{answersFrom}
 use Rattle.run.specs.Run.{sheetsBy, refusedRun, outputOf, linesRun, runRoom}
 
 -- ---- a refused front

@@ -1,33 +1,28 @@
--- `put_field` meets its contract: the name, and right after it the number.
+-- `put_field` meets its contract: the number is one at or above 0.
 use borrow.Author.Needs.{needs}
-use Rattle.text_tokens.specs.Number.{unsignedText}
-use Rattle.text_printing.specs.code.Put.{Room, Put}
-use Rattle.text_printing.specs.laws.PutLaws.{put-of, room-first, room-rest, put-join}
+use mathlib.Core.Path.{_≡_}
+use Prim.Native.Nat.{ℕ, _^_, _<_}
+use native.Mathlib.Omega.{arith}
+use lib.IntN.{pos}
+use mir.Syntax.{w64}
+use mir.Val.{toZ}
+use Rattle.text_tokens.specs.Number.{mostDigits, numberText}
+use Rattle.text_tokens.specs.laws.ReadLaws.{held}
 use Rattle.run_answer_text.proofs.put_field.Statement.{statement}
 use Rattle.run_answer_text.proofs.put_field.Tie as tie
 
-name : (c : tie.After-put-text) → let s = c .before .before .before .before .args in
-    Put (s .buffer .now) (s .at) (s .name .now) (c .put-text .last .0) (c .put-text .result)
-name c = put-of (c .put-text .ensures)
+as-signed : (n : ℕ) → n < 10 ^ mostDigits → toZ w64 n ≡ pos n
+as-signed n h = held (pos n) (omega arith)
 
-room-number : (c : tie.After-put-text)
-    → Room (c .put-text .last .0) (c .put-text .result) (unsignedText (c .before .before .before .before .args .n))
-room-number c = room-rest (name c) (c .before .before .before .before .pre .1)
-
-put-text-requires : tie.Need-put-text-requires
-put-text-requires c κs =
-    let s = c .before .before .before in
-    room-first {t = s .args .name .now} (unsignedText (s .args .n)) (s .pre .1) .fits
-
-put-digits-requires : tie.Need-put-digits-requires
-put-digits-requires c κs =
-    let c₁ = c .before .before .before in
-    (c₁ .before .before .before .before .pre .0, room-number c₁ .fits)
+put-signed-requires : tie.Need-put-signed-requires
+unfolding numberText
+put-signed-requires c κs = let s = c .before .before .before in rw (as-signed (s .args .n) (s .pre .0)) (s .pre)
 
 returns : tie.Need-returns
+unfolding numberText
 returns c =
-    let c₁ = c .before .before .before .before .before .before in
-    put-join (name c₁) (put-of (c .before .before .put-digits .ensures)) (c₁ .before .before .before .before .pre .1)
+    let s = c .before .before .before .before .before .before in
+    rw (as-signed (s .args .n) (s .pre .0)) at (c .before .before .put-signed .ensures)
 
 pub put-field-spec : {M : Type 1} → statement M
-put-field-spec = tie.close (tie.spec put-text-requires put-digits-requires (λ c. search needs) returns)
+put-field-spec = tie.close (tie.spec (λ c. omega (arith, c .before .before .before .pre .0)) put-signed-requires (λ c. search needs) returns)

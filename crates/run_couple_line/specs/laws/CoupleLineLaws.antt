@@ -13,8 +13,8 @@ use Rattle.quote_along.specs.declared.Answer.{Answer}
 use Rattle.quote_along.specs.declared.Answer.the-variants.{Quoted, Refused}
 use Rattle.quote_couple.specs.laws.SmallLaws.{couple-small}
 use Rattle.run_couple_query.specs.declared.CoupleQuery.{CoupleQuery}
-use Rattle.run_couple_query.specs.CoupleQuery.{coupleText, readCouple}
-use Rattle.run_couple_query.specs.laws.CoupleQueryLaws.{couple-text, couple-least, couple-most}
+use Rattle.run_couple_query.specs.CoupleQuery.{readCouple}
+use Rattle.run_couple_query.specs.laws.CoupleQueryLaws.{coupleText, couple-text, couple-least, couple-most}
 use Rattle.run_answer_text.specs.AnswerText.{kindDecimals, answerText}
 use Rattle.run_answer_text.specs.Line.{withoutFeed}
 use Rattle.run_answer_text.specs.code.Sizes.{SizedAnswer}

@@ -2,19 +2,18 @@
 -- line is malformed.
 use borrow.Author.Needs.{needs}
 use mathlib.Core.Path.{_≡_, sym, _∙_}
-use Prim.Native.Nat.{ℕ, _+_}
-use native.Mathlib.Omega.{arith}
+use Prim.Native.Nat.{ℕ}
 use mathlib.Core.List.{List}
 use lib.ListN.{drop}
 use Rattle.text_tokens.specs.Text.{bytesOf}
-use Rattle.text_tokens.specs.laws.TextLaws.{text-found, text-missing, text-room}
+use Rattle.text_tokens.specs.laws.TextLaws.{text-found, text-missing}
 use Rattle.text_tokens.specs.laws.ReadLaws.{lacks, has, held, read-malformed, read-taken}
 use Rattle.text_tokens.specs.laws.Steps.{goes, stops}
-use Rattle.run_query.specs.Query.{alone}
-use Rattle.run_query.proofs.QuerySteps.{followed, at-end}
+use Rattle.run_query.specs.Query.{ended}
+use Rattle.run_query.proofs.QuerySteps.{line-ended, line-goes-on}
 use Rattle.run_couple_query.specs.declared.CoupleQuery.{CoupleQuery}
 use Rattle.run_couple_query.specs.CoupleQuery.{readCouple}
-use Rattle.run_couple_query.proofs.CoupleSteps.{lineEnd, fromSpan, fromYear, fromOther, fromAge, fromWord}
+use Rattle.run_couple_query.proofs.CoupleSteps.{fromSpan, fromYear, fromOther, fromAge, fromWord}
 use Rattle.run_couple_query.proofs.CoupleSteps.{start-malformed, start-taken, kind-malformed, kind-taken}
 use Rattle.run_couple_query.proofs.couple_query_of.Statement.{statement}
 use Rattle.run_couple_query.proofs.couple_query_of.Tie as tie
@@ -42,15 +41,8 @@ told₃ c = c .before .before .before .before .before
 abbrev told₄ : tie.After-known-told5 → tie.After-known-told4
 told₄ c = c .before .before .before .before .before
 
-abbrev told₅ : tie.After-text-at2 → tie.After-known-told5
-told₅ c = c .before .before
-
--- the start and the end of the line, seen from its end
-abbrev first : tie.Else2 → tie.Else1
-first c = start (told (told₂ (told₃ (told₄ (told₅ (c .before))))))
-
-abbrev end : tie.Else2 → ℕ
-end c = told₅ (c .before) .before .span .given .0 .1 .0 + 1
+abbrev told₅ : tie.After-ends-at → tie.After-known-told5
+told₅ c = c .before
 
 -- the query that was read
 asked : tie.After-known-told5 → CoupleQuery
@@ -106,18 +98,11 @@ after-year c =
     ∙ goes _ (read-taken _ (c .before .before .before .field-at3 .ensures) (c .before .year .given .1))
 
 after-span : (c : tie.After-known-told5) → let l = line (start (told (told₂ (told₃ (told₄ c))))) in
-    readCouple l ≡ lineEnd (asked c) (drop (c .before .span .given .0 .1 .0) l)
+    readCouple l ≡ ended (asked c) (drop (c .before .span .given .0 .1 .0) l)
 unfolding asked bytesOf
 after-span c =
     after-year (told₄ c)
     ∙ goes _ (read-taken _ (c .before .before .before .field-at4 .ensures) (c .before .span .given .1))
-
-after-end : (c : tie.Else2)
-    → readCouple (line (first c)) ≡ alone (asked (told₅ (c .before))) (drop (end c) (line (first c)))
-unfolding bytesOf
-after-end c =
-    after-span (told₅ (c .before))
-    ∙ goes _ (text-found _ _ (bytesOf "\n") (has (c .before .text-at2 .ensures) (c .if2 .left)))
 
 -- ---- the needs
 
@@ -155,23 +140,13 @@ returns-6 c =
     sym (after-year (f .before .before) ∙ stops _ (read-malformed _ (f .field-at4 .ensures) (c .enum-told5 .given .1)))
 
 returns-7 : tie.Need-returns-7
-unfolding bytesOf
 returns-7 c =
-    sym
-    (after-span (told₅ (c .before))
-    ∙ stops _ (text-missing _ _ (bytesOf "\n") (lacks (c .before .text-at2 .ensures) (c .if2 .taken))))
-
-add-if3 : tie.Need-add-if3
-add-if3 c =
-    omega (arith, entry (first c) .good .0, text-room _ _ _ (has (c .before .text-at2 .ensures) (c .if2 .left)))
+    sym (after-span (told₅ (c .before)) ∙ line-goes-on _ _ (lacks (c .before .ends-at .ensures) (c .if2 .taken)))
 
 returns-8 : tie.Need-returns-8
-returns-8 c = sym (after-end (c .before) ∙ followed _ (line (first (c .before))) (end (c .before)) (omega arith))
-
-returns-9 : tie.Need-returns-9
 unfolding asked
-returns-9 c =
-    let c₅ = told₅ (c .before .before) in
+returns-8 c =
+    let c₅ = told₅ (c .before) in
     let c₄ = told₄ c₅ in
     let c₃ = told₃ c₄ in
     let c₂ = told₂ c₃ in
@@ -181,7 +156,7 @@ returns-9 c =
       held (c₄ .before .year .given .0 .0) (c₄ .known-told4 .given .0 .1),
       held (c₅ .before .span .given .0 .0) (c₅ .known-told5 .given .0 .1),
     )
-    (sym (after-end (c .before) ∙ at-end _ (line (first (c .before))) (end (c .before)) (omega arith)))
+    (sym (after-span c₅ ∙ line-ended _ _ (has (c .before .ends-at .ensures) (c .if2 .left))))
 
 pub couple-query-of-spec : {M : Type 1} → statement M
 couple-query-of-spec =
@@ -190,5 +165,4 @@ couple-query-of-spec =
     (λ c. search needs) returns-2 (λ c. search needs) (λ c κs. search needs) (λ c. search needs) (λ c. search needs)
     returns-3 (λ c. search needs) (λ c κs. search needs) (λ c. search needs) (λ c. search needs) returns-4
     (λ c. search needs) (λ c κs. search needs) (λ c. search needs) (λ c. search needs) returns-5 (λ c. search needs)
-    (λ c κs. search needs) (λ c. search needs) (λ c. search needs) returns-6 (λ c. search needs)
-    (λ c κs. search needs) returns-7 add-if3 returns-8 returns-9)
+    (λ c κs. search needs) (λ c. search needs) (λ c. search needs) returns-6 (λ c κs. search needs) returns-7 returns-8)

@@ -7,7 +7,7 @@ use Rattle.text_tokens.specs.Text.{bytesOf, malformed, taken, takeText}
 use Rattle.text_tokens.specs.Number.{isDigit, digits, afterDigits, valueFrom, noLeadingZero, wellFormed}
 use Rattle.text_tokens.specs.Number.{readUnsigned, negated, positive, readNumber}
 use Rattle.quote_couple_kinds.specs.declared.CoupleKind.the-variants.{JointLife, LastSurvivor, JointExpectancy, LastExpectancy}
-use Rattle.run_query.specs.Query.{readWord, readField, alone}
+use Rattle.run_query.specs.Query.{readWord, readField, alone, ended}
 use Rattle.run_couple_query.specs.CoupleQuery.{coupleWord, couplesOnOffer, readCouple}
 
 -- ---- read
@@ -22,7 +22,7 @@ read-rows :
     -- an age below 0: whether a life has it is not asked here
     × (readCouple (bytesOf "kind=elast age=65 age2=-1 year=2020 span=0\n")
     ≡ taken (record { kind = LastExpectancy; age = pos 65; other = negsuc 0; year = pos 2020; span = pos 0 }) [])
-unfolding bytesOf takeText coupleWord couplesOnOffer readWord readField alone readCouple
+unfolding bytesOf takeText coupleWord couplesOnOffer readWord readField alone ended readCouple
     isDigit digits afterDigits valueFrom noLeadingZero wellFormed readUnsigned negated positive readNumber
 read-rows = (refl, refl, refl, refl)
 
@@ -44,6 +44,6 @@ malformed-rows :
     -- leading zeros, and a rate
     × Malformed (bytesOf "kind=joint age=65 age2=062 year=2020 span=20\n")
     × Malformed (bytesOf "kind=joint age=65 age2=62 year=2020 span=20 rate=30000\n")
-unfolding bytesOf takeText coupleWord couplesOnOffer readWord readField alone readCouple
+unfolding bytesOf takeText coupleWord couplesOnOffer readWord readField alone ended readCouple
     isDigit digits afterDigits valueFrom noLeadingZero wellFormed readUnsigned negated positive readNumber
 malformed-rows = (refl, refl, refl, refl, refl, refl, refl, refl)

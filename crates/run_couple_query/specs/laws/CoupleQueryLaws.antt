@@ -3,7 +3,7 @@
 use mathlib.Core.Path.{_≡_, refl, _∙_}
 use Prim.Native.Nat.{ℕ, _+_, _^_, _≤_, _<_}
 use native.Mathlib.Omega.{arith}
-use mathlib.Core.List.{List, [], _++_, append-assoc, append-nil}
+use mathlib.Core.List.{List, [], _++_, append-assoc}
 use lib.IntN.{natAbs}
 use lib.ListN.{length, length-append}
 use Rattle.text_tokens.specs.Text.{bytesOf, taken, takeText}
@@ -14,10 +14,18 @@ use Rattle.text_tokens.specs.laws.Steps.{goes}
 use Rattle.sheet.specs.laws.SheetTrip.{then-taken}
 use Rattle.quote_couple_kinds.specs.declared.CoupleKind.{CoupleKind}
 use Rattle.quote_couple_kinds.specs.declared.CoupleKind.the-variants.{JointLife, LastSurvivor, JointExpectancy, LastExpectancy}
-use Rattle.run_query.specs.Query.{readWord, readField, alone}
-use Rattle.run_query.specs.laws.QueryLaws.{word-read, field-reads, field-read, alone-taken}
+use Rattle.run_query.specs.Query.{readWord, readField}
+use Rattle.run_query.specs.laws.QueryLaws.{word-read, field-reads, field-read, ended-taken, ended-reads}
 use Rattle.run_couple_query.specs.declared.CoupleQuery.{CoupleQuery}
-use Rattle.run_couple_query.specs.CoupleQuery.{coupleWord, couplesOnOffer, coupleText, readCouple}
+use Rattle.run_couple_query.specs.CoupleQuery.{coupleWord, couplesOnOffer, readCouple}
+
+-- ---- a query's text
+
+unfoldable pub coupleText : CoupleQuery → List ℕ
+coupleText q =
+    bytesOf "kind=" ++ (coupleWord (q .kind) ++ (bytesOf " age=" ++ (numberText (q .age)
+    ++ (bytesOf " age2=" ++ (numberText (q .other) ++ (bytesOf " year=" ++ (numberText (q .year)
+    ++ (bytesOf " span=" ++ numberText (q .span)))))))))
 
 -- ---- a word
 
@@ -64,21 +72,19 @@ couple-text line {q} e =
     then-taken (readField (bytesOf " age2=") b₂) _ f₂ λ other b₃ e₃ f₃.
     then-taken (readField (bytesOf " year=") b₃) _ f₃ λ year b₄ e₄ f₄.
     then-taken (readField (bytesOf " span=") b₄) _ f₄ λ span b₅ e₅ f₅.
-    then-taken (takeText (bytesOf "\n") b₅) _ f₅ λ v b₆ e₆ f₆.
     let r : CoupleQuery = record { kind = kind; age = age; other = other; year = year; span = span } in
-    let (none, same) = alone-taken r b₆ f₆ in
+    let (l, same) = ended-taken r b₅ f₅ in
     let a = field-read (bytesOf " age=") b₁ e₂ in
     let o = field-read (bytesOf " age2=") b₂ e₃ in
     let y = field-read (bytesOf " year=") b₃ e₄ in
     let s = field-read (bytesOf " span=") b₄ e₅ in
-    let l : b₅ ≡ bytesOf "\n" = takeText-whole (bytesOf "\n") b₅ e₆ ∙ rw (none, append-nil) in
     rw (← same)
     (takeText-whole (bytesOf "kind=") line e₀
     ∙ rw (word-read coupleWord couplesOnOffer b₀ e₁, a, o, y, s, l, couple-apart r (bytesOf "\n")))
 
 -- the line of a query whose numbers have so few digits reads as the query
 pub couple-reads : (q : CoupleQuery) → Small q → readCouple (coupleText q ++ bytesOf "\n") ≡ taken q []
-unfolding readCouple alone bytesOf isDigit
+unfolding readCouple bytesOf isDigit
 couple-reads q h =
     let s = bytesOf " span=" ++ (numberText (q .span) ++ bytesOf "\n") in
     let y = bytesOf " year=" ++ (numberText (q .year) ++ s) in
@@ -91,7 +97,7 @@ couple-reads q h =
     ∙ goes _ (field-reads (bytesOf " age2=") (q .other) y (h .other) tt)
     ∙ goes _ (field-reads (bytesOf " year=") (q .year) s (h .year) tt)
     ∙ goes _ (field-reads (bytesOf " span=") (q .span) (bytesOf "\n") (h .span) tt)
-    ∙ goes _ (takeText-split (bytesOf "\n") []))
+    ∙ ended-reads q)
 
 -- ---- lengths
 

@@ -32,6 +32,9 @@ start₂ c = c .before .before .before .before
 abbrev start₃ : tie.After-enum-told2 → tie.Start
 start₃ c = c .before .before .before .before
 
+abbrev start₄ : tie.After-enum-told3 → tie.Start
+start₄ c = c .before .before .before .before
+
 put-query-requires : tie.Need-put-query-requires
 unfolding longestLine
 put-query-requires c κs =
@@ -53,6 +56,13 @@ put-couple-requires c κs =
     let s = start₃ t in
     (s .pre .0, s .pre .1, room s (t .enum-told2 .given .1))
 
+put-target-requires : tie.Need-put-target-requires
+unfolding longestLine
+put-target-requires c κs =
+    let t = c .before in
+    let s = start₄ t in
+    (s .pre .0, room s (t .enum-told3 .given .1))
+
 returns : tie.Need-returns
 unfolding lineAnswer
 returns c =
@@ -71,8 +81,15 @@ returns-3 c =
     let t = c .before .before .before .before in
     put-as (matched (start₃ t) (t .enum-told2 .given .1)) (c .before .before .put-couple .ensures)
 
+returns-4 : tie.Need-returns-4
+unfolding lineAnswer
+returns-4 c =
+    let t = c .before .before .before .before in
+    put-as (matched (start₄ t) (t .enum-told3 .given .1)) (c .before .before .put-target .ensures)
+
 pub put-line-spec : {M : Type 1} → statement M
 put-line-spec =
     tie.close
     (tie.spec (λ c. search needs) put-query-requires (λ c. search needs) put-query-requires-2 (λ c. search needs)
-    put-couple-requires (λ c. search needs) returns (λ c. search needs) returns-2 (λ c. search needs) returns-3)
+    put-couple-requires (λ c. search needs) put-target-requires (λ c. search needs) returns (λ c. search needs) returns-2
+    (λ c. search needs) returns-3 (λ c. search needs) returns-4)

@@ -10,8 +10,8 @@ use Rattle.set_params.specs.declared.Params.{Params}
 use Rattle.quote_kinds.specs.Kinds.{ruleOf}
 use Rattle.quote_along.specs.declared.Answer.{Answer}
 use Rattle.run_query.specs.declared.Query.{Query}
-use Rattle.run_query.specs.Query.{queryText, readQuery}
-use Rattle.run_query.specs.laws.QueryLaws.{query-text, query-least, query-most}
+use Rattle.run_query.specs.Query.{readQuery}
+use Rattle.run_query.specs.laws.QueryLaws.{queryText, query-text, query-least, query-most}
 use Rattle.run_answer_text.specs.AnswerText.{kindDecimals, answerText}
 use Rattle.run_answer_text.specs.Line.{withoutFeed}
 use Rattle.run_answer_text.specs.code.Sizes.{SizedAnswer}
@@ -25,8 +25,10 @@ use Rattle.run_compare_text.specs.code.Sizes.{SizedComparison}
 use Rattle.run_compare_text.specs.laws.SizeLaws.{comparison-sized}
 use Rattle.run_compare_text.specs.laws.Lengths.{comparison-length}
 use Rattle.run_couple_line.specs.laws.CoupleLineLaws.{couple-bounded}
+use Rattle.run_target_line.specs.TargetLine.{mostTarget}
+use Rattle.run_target_line.specs.laws.TargetLineLaws.{target-bounded}
 use Rattle.run_line.specs.declared.Mode.{Mode}
-use Rattle.run_line.specs.declared.Mode.the-variants.{Quotes, Compare, Couples}
+use Rattle.run_line.specs.declared.Mode.the-variants.{Quotes, Compare, Couples, Targets}
 use Rattle.run_line.specs.declared.Reply.{Reply}
 use Rattle.run_line.specs.declared.Reply.the-variants.{Quote, Compared}
 use Rattle.run_line.specs.Line.{queryAnswer, reply, queryLine, lineAnswer, longestReply, longestLine, mostLine}
@@ -87,14 +89,16 @@ query-bounded follows p p′ =
 
 -- ---- by the mode
 
-pub longest-between : (mode : Mode) → (161 ≤ longestLine mode) × (longestLine mode ≤ mostLine)
+pub longest-between : (mode : Mode) → (mostTarget ≤ longestLine mode) × (longestLine mode ≤ mostLine)
 unfolding longestLine
 longest-between (Quotes ends) = omega arith
 longest-between Compare = omega arith
 longest-between Couples = omega arith
+longest-between Targets = omega arith
 
 pub line-bounded : (mode : Mode) (p p′ : Params) → Bounded (longestLine mode) (lineAnswer mode p p′)
 unfolding longestLine lineAnswer
 line-bounded (Quotes ends) p p′ = query-bounded (Quote ends) p p′
 line-bounded Compare p p′ = query-bounded Compared p p′
 line-bounded Couples p p′ = couple-bounded p p′
+line-bounded Targets p p′ = target-bounded p

@@ -2,18 +2,17 @@
 -- line is malformed.
 use borrow.Author.Needs.{needs}
 use mathlib.Core.Path.{_≡_, sym, _∙_}
-use Prim.Native.Nat.{ℕ, _+_}
-use native.Mathlib.Omega.{arith}
+use Prim.Native.Nat.{ℕ}
 use mathlib.Core.List.{List}
 use lib.ListN.{drop}
 use Rattle.text_tokens.specs.Text.{bytesOf}
-use Rattle.text_tokens.specs.laws.TextLaws.{text-found, text-missing, text-room}
+use Rattle.text_tokens.specs.laws.TextLaws.{text-found, text-missing}
 use Rattle.text_tokens.specs.laws.ReadLaws.{lacks, has, held, read-malformed, read-taken}
 use Rattle.text_tokens.specs.laws.Steps.{goes, stops}
 use Rattle.run_query.specs.declared.Query.{Query}
-use Rattle.run_query.specs.Query.{alone, readQuery}
-use Rattle.run_query.proofs.QuerySteps.{lineEnd, fromRate, fromTerm, fromYear, fromAge, fromWord}
-use Rattle.run_query.proofs.QuerySteps.{start-malformed, start-taken, followed, at-end, kind-malformed, kind-taken}
+use Rattle.run_query.specs.Query.{ended, readQuery}
+use Rattle.run_query.proofs.QuerySteps.{fromRate, fromTerm, fromYear, fromAge, fromWord}
+use Rattle.run_query.proofs.QuerySteps.{start-malformed, start-taken, line-ended, line-goes-on, kind-malformed, kind-taken}
 use Rattle.run_query.proofs.query_of.Statement.{statement}
 use Rattle.run_query.proofs.query_of.Tie as tie
 
@@ -40,15 +39,8 @@ told₃ c = c .before .before .before .before
 abbrev told₄ : tie.After-known-told5 → tie.After-known-told4
 told₄ c = c .before .before .before .before
 
-abbrev told₅ : tie.After-text-at2 → tie.After-known-told5
-told₅ c = c .before .before
-
--- the start and the end of the line, seen from its end
-abbrev first : tie.Else2 → tie.Else1
-first c = start (told (told₂ (told₃ (told₄ (told₅ (c .before))))))
-
-abbrev end : tie.Else2 → ℕ
-end c = told₅ (c .before) .before .kind .given .0 .1 .0 + 1
+abbrev told₅ : tie.After-ends-at → tie.After-known-told5
+told₅ c = c .before
 
 -- the query that was read
 asked : tie.After-known-told5 → Query
@@ -103,18 +95,11 @@ after-term c =
     ∙ goes _ (read-taken _ (c .before .before .before .term-at .ensures) (c .before .term .given .1))
 
 after-rate : (c : tie.After-known-told5) → let l = line (start (told (told₂ (told₃ (told₄ c))))) in
-    readQuery l ≡ lineEnd (asked c) (drop (c .before .kind .given .0 .1 .0) l)
+    readQuery l ≡ ended (asked c) (drop (c .before .kind .given .0 .1 .0) l)
 unfolding asked bytesOf
 after-rate c =
     after-term (told₄ c)
     ∙ goes _ (kind-taken _ (c .before .before .before .rate-at .ensures) (c .before .kind .given .1))
-
-after-end : (c : tie.Else2)
-    → readQuery (line (first c)) ≡ alone (asked (told₅ (c .before))) (drop (end c) (line (first c)))
-unfolding bytesOf
-after-end c =
-    after-rate (told₅ (c .before))
-    ∙ goes _ (text-found _ _ (bytesOf "\n") (has (c .before .text-at2 .ensures) (c .if2 .left)))
 
 -- ---- the needs
 
@@ -150,23 +135,13 @@ returns-6 c =
     sym (after-term (k .before) ∙ stops _ (kind-malformed _ (k .rate-at .ensures) (c .enum-told5 .given .1)))
 
 returns-7 : tie.Need-returns-7
-unfolding bytesOf
 returns-7 c =
-    sym
-    (after-rate (told₅ (c .before))
-    ∙ stops _ (text-missing _ _ (bytesOf "\n") (lacks (c .before .text-at2 .ensures) (c .if2 .taken))))
-
-add-if3 : tie.Need-add-if3
-add-if3 c =
-    omega (arith, entry (first c) .good .0, text-room _ _ _ (has (c .before .text-at2 .ensures) (c .if2 .left)))
+    sym (after-rate (told₅ (c .before)) ∙ line-goes-on _ _ (lacks (c .before .ends-at .ensures) (c .if2 .taken)))
 
 returns-8 : tie.Need-returns-8
-returns-8 c = sym (after-end (c .before) ∙ followed _ (line (first (c .before))) (end (c .before)) (omega arith))
-
-returns-9 : tie.Need-returns-9
 unfolding asked
-returns-9 c =
-    let c₄ = told₄ (told₅ (c .before .before)) in
+returns-8 c =
+    let c₄ = told₄ (told₅ (c .before)) in
     let c₃ = told₃ c₄ in
     let c₂ = told₂ c₃ in
     rw (
@@ -174,7 +149,7 @@ returns-9 c =
       held (c₃ .before .year .given .0 .0) (c₃ .known-told3 .given .0 .1),
       held (c₄ .before .term .given .0 .0) (c₄ .known-told4 .given .0 .1),
     )
-    (sym (after-end (c .before) ∙ at-end _ (line (first (c .before))) (end (c .before)) (omega arith)))
+    (sym (after-rate (told₅ (c .before)) ∙ line-ended _ _ (has (c .before .ends-at .ensures) (c .if2 .left))))
 
 pub query-of-spec : {M : Type 1} → statement M
 query-of-spec =
@@ -183,5 +158,4 @@ query-of-spec =
     (λ c. search needs) returns-2 (λ c. search needs) (λ c κs. search needs) (λ c. search needs) (λ c. search needs)
     returns-3 (λ c. search needs) (λ c κs. search needs) (λ c. search needs) (λ c. search needs) returns-4
     (λ c κs. search needs) (λ c. search needs) (λ c. search needs) returns-5 (λ c κs. search needs)
-    (λ c. search needs) (λ c. search needs) returns-6 (λ c. search needs) (λ c κs. search needs) returns-7 add-if3
-    returns-8 returns-9)
+    (λ c. search needs) (λ c. search needs) returns-6 (λ c κs. search needs) returns-7 returns-8)

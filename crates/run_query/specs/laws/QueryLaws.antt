@@ -21,8 +21,22 @@ use Rattle.quote_kinds.specs.declared.Kind.the-variants.{Death, CohortSurvival,
 use Rattle.quote_kinds.specs.declared.Kind.the-variants.{CohortAnnuity, PeriodAnnuity, Day}
 use Rattle.quote_kinds.specs.Kinds.{ruleOf, takesRate, withRate, rateAside, rateOf}
 use Rattle.run_query.specs.declared.Query.{Query}
-use Rattle.run_query.specs.Query.{wordOf, onOffer, kindRate, termName, rateText, queryText}
-use Rattle.run_query.specs.Query.{readWord, readField, readRate, alone, readQuery}
+use Rattle.run_query.specs.Query.{wordOf, onOffer, termName}
+use Rattle.run_query.specs.Query.{readWord, readField, readRate, alone, ended, readQuery}
+
+-- ---- a query's text
+
+-- the rate of a kind that takes one
+abbrev pub kindRate : Kind → ℤ
+kindRate k = rateOf (ruleOf k .fold)
+
+unfoldable pub rateText : Kind → List ℕ
+rateText k = cond (takesRate k) (bytesOf " rate=" ++ numberText (kindRate k)) []
+
+unfoldable pub queryText : Query → List ℕ
+queryText q =
+    bytesOf "kind=" ++ (wordOf (q .kind) ++ (bytesOf " age=" ++ (numberText (q .age)
+    ++ (bytesOf " year=" ++ (numberText (q .year) ++ (termName (q .kind) ++ (numberText (q .term) ++ rateText (q .kind))))))))
 
 -- ---- a word
 
@@ -221,6 +235,23 @@ unfolding alone
 alone-taken a [] e = (refl, cc)
 alone-taken a (c ∷ bs) e = malformed-not-taken e
 
+-- ---- the end of a line
+
+-- a value whose line ended was followed by a line feed alone, and such a line ends
+pub ended-taken : {A : Type 0} (a : A) (bs : List ℕ) {b : A} {rest : List ℕ} → ended a bs ≡ taken b rest
+    → (bs ≡ bytesOf "\n") × (a ≡ b)
+unfolding ended
+ended-taken a bs e =
+    then-taken (takeText (bytesOf "\n") bs) _ e λ u after f g.
+    let (none, same) = alone-taken a after g in
+    (takeText-whole (bytesOf "\n") bs f ∙ rw (none, append-nil), same)
+
+pub ended-reads : {A : Type 0} (a : A) → ended a (bytesOf "\n") ≡ taken a []
+unfolding ended alone takeText bytesOf
+ended-reads a = refl
+
+-- ---- a query's line
+
 -- what reads as a query is its text and a line feed
 pub query-text : (line : List ℕ) {q : Query} {rest : List ℕ} → readQuery line ≡ taken q rest
     → line ≡ queryText q ++ bytesOf "\n"
@@ -232,21 +263,19 @@ query-text line {q} e =
     then-taken (readField (bytesOf " year=") b₂) _ f₂ λ year b₃ e₃ f₃.
     then-taken (readField (termName word) b₃) _ f₃ λ term b₄ e₄ f₄.
     then-taken (readRate word b₄) _ f₄ λ kind b₅ e₅ f₅.
-    then-taken (takeText (bytesOf "\n") b₅) _ f₅ λ v b₆ e₆ f₆.
     let r : Query = record { kind = kind; age = age; year = year; term = term } in
-    let (none, same) = alone-taken r b₆ f₆ in
+    let (l, same) = ended-taken r b₅ f₅ in
     let a = field-read (bytesOf " age=") b₁ e₂ in
     let y = field-read (bytesOf " year=") b₂ e₃ in
     let s = field-read (termName word) b₃ e₄ in
     let k = rate-read word b₄ e₅ in
-    let l : b₅ ≡ bytesOf "\n" = takeText-whole (bytesOf "\n") b₅ e₆ ∙ rw (none, append-nil) in
     rw (← same)
     (takeText-whole (bytesOf "kind=") line e₀
     ∙ rw (word-read wordOf onOffer b₀ e₁, k .same, a, y, s, k .term, k .is, l, query-apart r (bytesOf "\n")))
 
 -- the line of a query whose numbers have so few digits reads as the query
 pub query-reads : (q : Query) → Small q → readQuery (queryText q ++ bytesOf "\n") ≡ taken q []
-unfolding readQuery alone bytesOf isDigit
+unfolding readQuery bytesOf isDigit
 query-reads q h =
     let r = rateText (q .kind) ++ bytesOf "\n" in
     let s = termName (q .kind) ++ (numberText (q .term) ++ r) in
@@ -261,7 +290,7 @@ query-reads q h =
     (ap (λ (name : List ℕ). readField name s) (term-aside (q .kind))
     ∙ field-reads (termName (q .kind)) (q .term) r (h .term) (rate-ends (q .kind)))
     ∙ goes _ (rate-reads (q .kind) (bytesOf "\n") (h .rate) tt)
-    ∙ goes _ (takeText-split (bytesOf "\n") []))
+    ∙ ended-reads q)
 
 -- ---- lengths
 

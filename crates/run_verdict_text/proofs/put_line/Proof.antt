@@ -1,68 +1,42 @@
 -- `put_line` meets its contract: the year, and right after it the verdict or the refusal.
 use borrow.Author.Needs.{needs}
-use mathlib.Core.Path.{_≡_}
+use mathlib.Core.List.{_++_}
 use mir.Facts.{toZ-ofZ}
-use mir.Syntax.{w64}
-use mir.Val.{toZ, ofZ}
 use Rattle.text_tokens.specs.Text.{bytesOf}
 use Rattle.text_tokens.specs.Number.{numberText}
-use Rattle.text_printing.specs.code.Put.{Put}
-use Rattle.text_printing.specs.laws.PutLaws.{put-of, Three, three-first, three-second, three-third, three-put}
+use Rattle.text_printing.specs.code.Put.{Room, Put}
+use Rattle.text_printing.specs.laws.PutLaws.{room-first, room-rest, put-join}
 use Rattle.run_verdict_text.specs.VerdictText.{judgedText, verdictLine}
 use Rattle.run_verdict_text.proofs.put_line.Statement.{statement}
 use Rattle.run_verdict_text.proofs.put_line.Tie as tie
 
--- ---- the place before, seen from each text
-
-abbrev start : tie.After-put-text → tie.Start
+abbrev start : tie.After-put-signed → tie.Start
 start c = c .before .before .before .before
 
-abbrev first : tie.After-put-number → tie.After-put-text
-first c = c .before .before .before .before
-
--- ---- the three texts have room, and they are written
-
-texts : (s : tie.Start)
-    → Three (s .args .out .now) 0 (bytesOf "year=") (numberText (s .args .year)) (judgedText (s .args .judged))
+room : (s : tie.Start)
+    → Room (s .args .out .now) 0 ((bytesOf "year=" ++ numberText (s .args .year)) ++ judgedText (s .args .judged))
 unfolding verdictLine
-texts s = record { room = s .pre .1 }
+room s = s .pre .1
 
-name : (c : tie.After-put-text) → Put (start c .args .out .now) 0 (bytesOf "year=") (c .put-text .last .0) (c .put-text .result)
+year : (c : tie.After-put-signed) → let s = start c .args in
+    Put (s .out .now) 0 (bytesOf "year=" ++ numberText (s .year)) (c .put-signed .last .0) (c .put-signed .result)
 unfolding bytesOf
-name c = put-of (c .put-text .ensures)
+year c = rw (toZ-ofZ (start c .fits .year)) at (c .put-signed .ensures)
 
--- the year, from its bits
-year-back : (s : tie.Start) → toZ w64 (ofZ w64 (s .args .year)) ≡ s .args .year
-year-back s = toZ-ofZ (s .fits .year)
-
-number : (c : tie.After-put-number) → let b = first c .put-text in let s = start (first c) .args in
-    Put (b .last .0) (b .result) (numberText (s .year)) (c .put-number .last .0) (c .put-number .result)
-number c = put-of (rw (year-back (start (first c))) at (c .put-number .ensures))
-
--- ---- the needs
-
-put-text-requires : tie.Need-put-text-requires
+put-signed-requires : tie.Need-put-signed-requires
 unfolding bytesOf
-put-text-requires c κs = three-first (texts (c .before .before .before)) .fits
-
-put-number-requires : tie.Need-put-number-requires
-put-number-requires c κs =
-    let c₁ = c .before .before .before in
-    let s = start c₁ in
-    rw (year-back s) (s .pre .0, three-second (texts s) (name c₁) .fits)
+put-signed-requires c κs =
+    let s = c .before .before .before in rw (toZ-ofZ (s .fits .year)) (s .pre .0, room-first (judgedText (s .args .judged)) (room s))
 
 put-judged-requires : tie.Need-put-judged-requires
-put-judged-requires c κs =
-    let c₂ = c .before .before .before in
-    three-third (texts (start (first c₂))) (name (first c₂)) (number c₂)
+put-judged-requires c κs = let w = c .before .before .before in room-rest (year w) (room (start w))
 
 returns : tie.Need-returns
 unfolding verdictLine
 returns c =
-    let c₂ = c .before .before .before .before .before .before in
-    three-put (texts (start (first c₂))) (name (first c₂)) (number c₂) (c .before .before .put-judged .ensures)
+    let w = c .before .before .before .before .before .before in
+    put-join (year w) (c .before .before .put-judged .ensures) (room (start w))
 
 pub put-line-spec : {M : Type 1} → statement M
 put-line-spec =
-    tie.close
-    (tie.spec (λ c. search needs) put-text-requires put-number-requires put-judged-requires (λ c. search needs) returns)
+    tie.close (tie.spec (λ c. search needs) put-signed-requires put-judged-requires (λ c. search needs) returns)

@@ -1,0 +1,2 @@
+pub mod SheetTarget
+pub mod laws

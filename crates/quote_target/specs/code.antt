@@ -1,2 +1,0 @@
-pub mod Target
-pub mod Meaning

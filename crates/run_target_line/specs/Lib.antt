@@ -1,0 +1,4 @@
+pub mod TargetLine
+pub mod code
+pub mod laws
+pub mod examples

@@ -1,0 +1,2 @@
+pub mod TargetQueryLaws
+pub mod TargetLineLaws
