@@ -75,10 +75,11 @@ static inline pair log_force(const params *p, int x, int64_t period, pair kappa)
 /* A power over its place, both below 2^32, where a division takes less time. */
 static inline uint64_t over(uint64_t power, uint64_t place) { return (uint32_t)power / (uint32_t)place; }
 
-/* -ln(1 - u), both ends in one loop, from the first power on, which is u. */
+/* -ln(1 - u), both ends in one loop, from the second power on: the first is u, and halves take no division. */
 static ends log_between(ends u) {
-    ends power = u, sum = u;
-    for (uint64_t k = 2; k <= 28; k++) {
+    ends power = {u.lower * u.lower / UNIT, up(u.upper * u.upper, UNIT)};
+    ends sum = {u.lower + power.lower / 2, u.upper + (power.upper + 1) / 2};
+    for (uint64_t k = 3; k <= 28; k++) {
         power.lower = u.lower * power.lower / UNIT;
         power.upper = up(u.upper * power.upper, UNIT);
         sum.lower += over(power.lower, k);

@@ -90,17 +90,25 @@ upper-more {u} {power} {sum} {k} h p l =
     })
 
 -- the first power is u
-pub lower-first : {u : ℕ} → u ≤ billionths .unit → LowerSteps u u u 1
+lower-first : {u : ℕ} → u ≤ billionths .unit → LowerSteps u u u 1
 lower-first {u} h =
     let e : u * billionths .unit / billionths .unit ≡ u = mul-div-cancel u (lit< tt) in
     let d : 0 + u / (0 + 1) ≡ u = zero-add _ ∙ div-one u in
     rw d at (rw e at (lower-more h (lower-none u) (lit< tt)))
 
-pub upper-first : {u : ℕ} → u ≤ billionths .unit → UpperSteps u u u 1
+upper-first : {u : ℕ} → u ≤ billionths .unit → UpperSteps u u u 1
 upper-first {u} h =
     let e : ceilDivℕ (u * billionths .unit) (billionths .unit) ≡ u = ceilℕ-exact u (lit< tt) in
     let d : 0 + (u + 0) / (0 + 1) ≡ u = rw (add-zero u) (zero-add _ ∙ div-one u) in
     rw d at (rw e at (upper-more h (upper-none u) (lit< tt)))
+
+-- the second is over 2
+pub lower-second : {u power : ℕ} → u ≤ billionths .unit → power ≡ u * u / billionths .unit → LowerSteps u power (u + power / 2) 2
+lower-second h e = rw e (lower-more h (lower-first h) (lit< tt))
+
+pub upper-second : {u power : ℕ} → u ≤ billionths .unit → power ≡ ceilDivℕ (u * u) (billionths .unit)
+    → UpperSteps u power (u + (power + 1) / 2) 2
+upper-second h e = rw e (upper-more h (upper-first h) (lit< tt))
 
 -- after the last term
 pub lower-done : (u : ℕ) {power sum k : ℕ} → LowerSteps u power sum k → k ≡ billionths .logTerms → sum ≡ logLower billionths u

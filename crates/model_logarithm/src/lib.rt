@@ -37,20 +37,20 @@ fn over(power: u64, place: u64) -> u64
     ((power as u32) / (place as u32)) as u64
 }
 
-// Both ends in one loop, from the first power on, which is u. The lower one: powers and quotients rounded down. The upper one:
-// powers and quotients rounded up, and twice the next power over its place. From powers of 0 and of at most 1 on, what is left is
-// a count.
+// Both ends in one loop, from the second power on: the first is u, and halves take no division. The lower one: powers and
+// quotients rounded down. The upper one: powers and quotients rounded up, and twice the next power over its place. From powers of
+// 0 and of at most 1 on, what is left is a count.
 pub fn log_between(u: Ends) -> Ends
     requires { ⌜ (u .lower ≤ billionths .unit) × (u .upper ≤ billionths .unit) ⌝ }
     ensures { λ r. ⌜ (r .lower ≡ logLower billionths (u .lower)) × (r .upper ≡ logUpper billionths (u .upper)) ⌝ }
 {
     let low = u.lower;
     let high = u.upper;
-    let mut down = low;
-    let mut up = high;
-    let mut least = low;
-    let mut most = high;
-    let mut k = 1;
+    let mut down = next_down(low, low);
+    let mut up = next_up(high, high);
+    let mut least = low + down / 2;
+    let mut most = high + (up + 1) / 2;
+    let mut k = 2;
     while k < TERMS {
         let place = k + 1;
         down = next_down(low, down);

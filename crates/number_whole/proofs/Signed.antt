@@ -2,14 +2,13 @@
 use mathlib.Core.Path.{_≡_, refl}
 use mathlib.Core.Bool.{Bool, true, false, cond}
 use Prim.Native.Nat.{ℕ}
-use lib.IntN.{ℤ, pos, _+ℤ_, _*ℤ_}
-use lib.Signed.{nonNeg, ltZ}
+use lib.IntN.{ℤ, _+ℤ_, _*ℤ_}
+use lib.Signed.{nonNeg}
 use mir.Syntax.{w64}
 use mir.Val.{SFits}
 use mir.Facts.{toZ-ofZ}
 use Rattle.number_whole.specs.Division.{floorDiv, ceilDiv}
 use Rattle.number_whole.specs.laws.Bound.{bits, fits-floor, fits-ceil}
-use Rattle.number_whole.specs.laws.Sign.{Sign, minus, plain, sign}
 use Rattle.number_whole.specs.declared.SignedEnds.{SignedEnds}
 
 -- a number that is z is read as z, and so are its floor and its ceiling
@@ -38,21 +37,18 @@ pub record EndsFit (e : SignedEnds) : Type 0 where
   pub lower : SFits w64 (e .lower)
   pub upper : SFits w64 (e .upper)
 
--- the product of c with the end that its sign, by the code's test b, chooses: u where c is negative, else l. Where the
--- definition's choice fits, the code's does, and is read as it.
-chosen : {c : ℤ} {b : Bool} (l u : ℤ) → Sign c b → cond (nonNeg c) (c *ℤ l) (c *ℤ u) ≡ c *ℤ cond b u l
-chosen l u (minus n) = refl
-chosen l u (plain n) = refl
+-- the product of c with the end that its sign chooses: l, and u where c is negative. Where the definition's choice fits, the
+-- code's does, and is read as it.
+chosen : (b : Bool) (c l u : ℤ) → cond b (c *ℤ l) (c *ℤ u) ≡ c *ℤ cond b l u
+chosen true c l u = refl
+chosen false c l u = refl
 
-abbrev pub Chosen : ℤ → ℤ → ℤ → Bool → ℤ → Type 0
-Chosen c l u b r = SFits w64 (bits c *ℤ bits (cond b u l)) × (bits (bits c *ℤ bits (cond b u l)) ≡ r)
-
-pub choice : {c l u : ℤ} {b : Bool} → SFits w64 c → SFits w64 l → SFits w64 u → ltZ (bits c) (pos 0) ≡ b
-    → SFits w64 (cond (nonNeg c) (c *ℤ l) (c *ℤ u)) → Chosen c l u b (cond (nonNeg c) (c *ℤ l) (c *ℤ u))
-choice {c} {l} {u} {b} f fl fu t h =
-    let e = chosen l u (sign c (rw (toZ-ofZ f) at t)) in
-    product (toZ-ofZ f) (read-choice b) e h
+pub choice : {c l u r : ℤ} → SFits w64 c → SFits w64 l → SFits w64 u → r ≡ cond (nonNeg (bits c)) (bits l) (bits u)
+    → SFits w64 (cond (nonNeg c) (c *ℤ l) (c *ℤ u))
+    → SFits w64 (bits c *ℤ bits r) × (bits (bits c *ℤ bits r) ≡ cond (nonNeg c) (c *ℤ l) (c *ℤ u))
+choice {c} {l} {u} f fl fu e h =
+    product (toZ-ofZ f) (read (rw (toZ-ofZ f, toZ-ofZ fl, toZ-ofZ fu) at e) (either (nonNeg c))) (chosen (nonNeg c) c l u) h
   where
-    read-choice : (b : Bool) → bits (cond b u l) ≡ cond b u l
-    read-choice true = toZ-ofZ fu
-    read-choice false = toZ-ofZ fl
+    either : (b : Bool) → SFits w64 (cond b l u)
+    either true = fl
+    either false = fu

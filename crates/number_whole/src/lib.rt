@@ -4,7 +4,7 @@ ghost use mathlib.Core.Path.{_≡_};
 ghost use mathlib.Core.Bool.{cond};
 ghost use Prim.Native.Nat.{_+_, _-_, _<_, _^_};
 ghost use lib.IntN.{pos, natAbs};
-ghost use lib.Signed.{_<ℤ_};
+ghost use lib.Signed.{_<ℤ_, nonNeg};
 ghost use mir.Syntax.{w64};
 ghost use mir.Val.{SFits};
 ghost use Rattle.number_whole.specs.Division.{floorDiv, ceilDiv, ceilDivℕ};
@@ -46,15 +46,23 @@ pub fn ceil_div_u(n: u64, d: u64) -> u64
     (n + (d - 1)) / d
 }
 
+// An end, or the other where c is negative. Of two numbers one is chosen in registers; of two fields of a struct the compiler
+// would load one by its place.
+fn end_by(c: i64, end: i64, other: i64) -> i64
+    ensures { λ r. ⌜ r ≡ cond (nonNeg c) end other ⌝ }
+{
+    if c < 0 {
+        return other;
+    }
+    end
+}
+
 // The least product of c with a number between the ends: a negative c exchanges them.
 pub fn least_product(c: i64, e: SignedEnds) -> i64
     requires { ⌜ SFits w64 (leastProduct c e) ⌝ }
     ensures { λ r. ⌜ r ≡ leastProduct c e ⌝ }
 {
-    if c < 0 {
-        return c * e.upper;
-    }
-    c * e.lower
+    c * end_by(c, e.lower, e.upper)
 }
 
 // The greatest product.
@@ -62,10 +70,7 @@ pub fn greatest_product(c: i64, e: SignedEnds) -> i64
     requires { ⌜ SFits w64 (greatestProduct c e) ⌝ }
     ensures { λ r. ⌜ r ≡ greatestProduct c e ⌝ }
 {
-    if c < 0 {
-        return c * e.lower;
-    }
-    c * e.upper
+    c * end_by(c, e.upper, e.lower)
 }
 
 // z / d, rounded up for an upper end and down for a lower one.
