@@ -131,10 +131,10 @@ uint8_t kulfizan_couple(const uint8_t *sheet, size_t sheet_length, const uint8_t
    leaves its range, also where an earlier year would answer. */
 uint8_t kulfizan_target(const uint8_t *sheet, size_t sheet_length, int64_t age, int64_t target, uint64_t *found, int64_t *year);
 
-/* Checks a column of q for one year that somebody published: 121 lines `age=0 q=0.00312`, each ended by a line feed, in any order,
-   each age from 0 to 120 once. The verdict is wrong where some age with a printed figure here has another entry; else open, where
-   some age's figure is open here; else right. Torn where the sheet is, off scale, torn column, no such year where it is none of
-   those of q, start + 1 to start + 171, and steep. */
+/* Checks a column of q for one year that somebody published: 121 lines `age=0 q=0.00312`, each ended by a line feed, upward from
+   age 0 to 120; in any other order it is torn. The verdict is wrong where some age with a printed figure here has another entry;
+   else open, where some age's figure is open here; else right. Torn where the sheet is, off scale, torn column, no such year where
+   it is none of those of q, start + 1 to start + 171, and steep. */
 uint8_t kulfizan_verdict(const uint8_t *sheet, size_t sheet_length, int64_t year, const uint8_t *column,
                          size_t column_length, uint64_t *verdict);
 

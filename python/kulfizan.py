@@ -181,7 +181,7 @@ def target_year(sheet, age, target):
 
 def verdict(sheet, year, column):
     """The verdict on a column of q for one year that somebody published, by a sheet: "right", "wrong" or "open". The column is
-    bytes, 121 lines `age=0 q=0.00312`."""
+    bytes, 121 lines `age=0 q=0.00312` upward from age 0 to 120; in any other order it is torn."""
     sheet, column = bytes(sheet), bytes(column)
     (year,), _ = signed((year,))
     number = ctypes.c_uint64()

@@ -1,8 +1,8 @@
-"""The verdict on a column of q that somebody else published, written from paper 02, E3.
+"""The verdict on a column of q that somebody else published, written from paper 02, E3 and E10.
 
-A column is 121 lines `age=0 q=0.00312`, each ended by a line feed, in any order, each age from 0 to 120 once, and nothing
-else. It is wrong where it differs from a printed figure, else open where a figure is open, else right. Refusals are those of
-the sheet, then 9 for a torn column, and then those of q.
+A column is 121 lines `age=0 q=0.00312`, each ended by a line feed, upward from age 0 to 120, and nothing else. It is wrong
+where it differs from a printed figure, else open where a figure is open, else right. Refusals are those of the sheet, then 9
+for a torn column, and then those of q.
 """
 import functools
 import re
@@ -18,13 +18,12 @@ ENTRY = re.compile(rb"age=(%b) q=([0-9])\.([0-9]{5})" % NUMBER.pattern)
 
 
 def entries_of(column):
-    """The number of steps that a column has at each age, or None where it is torn."""
+    """The numbers of steps that a column has, from age 0 to 120, or None where it is torn."""
     *lines, rest = column.split(b"\n")
     got = [ENTRY.fullmatch(line) for line in lines]
-    if rest or len(got) != len(AGES) or not all(got):
+    if rest or not all(got) or [int(one[1]) for one in got] != [*AGES]:
         return None
-    entries = {int(one[1]): int(one[2] + one[3]) for one in got}
-    return entries if entries.keys() == set(AGES) else None
+    return [int(one[2] + one[3]) for one in got]
 
 
 class Columns:

@@ -2,9 +2,10 @@
 against the second implementation in columns.py and whole_run.py; and what is said of a column, against the exact values to 80
 digits.
 
-Columns are of flat, realistic, extreme and steep sheets, some searched for open ages: right ones in many orders, one digit
-changed at each age in turn, open ages with any entry and a wrong one beside them, and every kind of damage. What is said of
-most of them is also known beforehand, whatever the second implementation says. The program also gets torn and off-scale
+Columns are of flat, realistic, extreme and steep sheets, some searched for open ages: right ones, one digit changed at each age
+in turn, open ages with any entry and a wrong one beside them, rows in other orders, and every kind of damage; 3,000 of them by
+their rows, as many of each form. What is said of most of them is also known beforehand, whatever the second implementation
+says. The program also gets torn and off-scale
 sheets, years' lines torn in every way, and inputs up to, at and past the longest, in pieces. An argument is taken as the seed.
 """
 import collections
@@ -28,7 +29,7 @@ from test_runs import from_file, full_device, padded, piecewise, with_value
 from test_quotes import mild, moved
 
 SEED = 20142184
-LEAST_COLUMNS = 1000
+EACH_FORM = 375
 OFF = with_value("k", b"%d" % (SIZES["k"] + 1))
 STEEP_SHEET = sheets.text(dict(flat(), A=[0] * 91))
 TORN_SHEET = FLAT.replace(b"sex=", b"Sex=", 1)
@@ -126,10 +127,13 @@ def tables(draw):
     return sorted(every, key=lambda one: OPEN in one.figures)
 
 
-# ---- columns that are taken
+# ---- columns of entries
 
 def known(one, entries):
-    """What is known of a column whose entries are all but some those of the exact values."""
+    """What is known of a column whose entries are all but some those of the exact values: torn where its rows don't go upward
+    from age 0 to 120."""
+    if [age for age, _ in entries] != [*AGES]:
+        return TORN_COLUMN
     if any(one.figures[age] not in (OPEN, steps) for age, steps in entries):
         return WRONG
     return OPEN if OPEN in one.figures else RIGHT
@@ -150,32 +154,26 @@ def with_entry(one, age, steps):
 
 
 def in_orders(draw, one):
-    """The table's own column upward, downward, from the middle on and in any order."""
+    """The table's own column upward, and torn: downward, from the middle on, every second age first, and in any order."""
     own, at = list(enumerate(one.steps)), draw.randint(1, OLDEST)
-    for entries in (own, own[::-1], own[at:] + own[:at], own[::2] + own[1::2]):
-        yield case_of(one, "in order", entries)
-    for _ in range(4):
-        yield case_of(one, "shuffled", shuffled(draw, own))
+    for entries in (own, own[::-1], own[at:] + own[:at], own[::2] + own[1::2], shuffled(draw, own)):
+        yield case_of(one, "in some order", entries)
 
 
 def digit_changed(draw, one):
-    """One digit changed at each age in turn, each of the six in turn, in any order or upward."""
+    """One digit changed at each age in turn, each of the six in turn."""
     for age in AGES:
         place = 10 ** (age % 6)
         digit = one.steps[age] // place % 10
         steps = one.steps[age] + (draw.choice([other for other in range(10) if other != digit]) - digit) * place
-        entries = with_entry(one, age, steps)
-        yield case_of(one, f"a digit of age {age}", shuffled(draw, entries) if age % 2 else entries)
+        yield case_of(one, f"a digit of age {age}", with_entry(one, age, steps))
 
 
 def nearest(draw, one):
-    """An entry one step off, where it is the first line, the last or any."""
-    for age in draw.sample(AGES, 4) + [0, OLDEST]:
+    """An entry one step off, at the first age, the last and others."""
+    for age in draw.sample(AGES, 10) + [0, OLDEST]:
         steps = max(0, one.steps[age] + draw.choice((-1, 1)))
-        rest = shuffled(draw, [entry for entry in enumerate(one.steps) if entry[0] != age])
-        at = draw.randint(1, OLDEST - 1)
-        for where, place in (("first", 0), ("last", OLDEST), ("any", at)):
-            yield case_of(one, f"age {age} a step off, {where}", rest[:place] + [(age, steps)] + rest[place:])
+        yield case_of(one, f"age {age} a step off", with_entry(one, age, steps))
 
 
 def all_else(draw, one):
@@ -187,12 +185,12 @@ def all_else(draw, one):
     yield case_of(one, "moved on", list(zip(AGES, own[1:] + own[:1])))
     for steps in (0, 99_999, 100_000, 999_999, FLAT_STEPS):
         yield case_of(one, f"all {steps}", [(age, steps) for age in AGES])
-    yield case_of(one, "any entries", shuffled(draw, [(age, draw.randrange(10**6)) for age in AGES]))
+    yield case_of(one, "any entries", [(age, draw.randrange(10**6)) for age in AGES])
     yield case_of(one, "all a step off", [(age, steps + 1) for age, steps in enumerate(own)])
 
 
 def around_open(draw, one):
-    """Any entries at the open ages: the rest right, or wrong at one age, before or after them in order and in age, or at all."""
+    """Any entries at the open ages: the rest right, or wrong at one age or at all; torn where the open ages come first."""
     ages = [age for age in AGES if one.figures[age] == OPEN]
     printed = [age for age in AGES if age not in ages]
     for _ in range(3 if ages else 0):
@@ -201,16 +199,14 @@ def around_open(draw, one):
         at_open, rest = list(odd.items()), [(age, one.steps[age]) for age in printed]
         yield case_of(one, "odd at open ages", sorted(at_open + rest))
         yield case_of(one, "odd at open ages, first", at_open + rest)
-        wrong = draw.choice([printed[0], printed[-1], draw.choice(printed)])
-        rest = [(age, steps + (age == wrong)) for age, steps in rest]
-        yield case_of(one, f"odd at open ages, {wrong} wrong", sorted(at_open + rest))
-        yield case_of(one, f"odd at open ages, {wrong} wrong, open first", at_open + rest)
-        yield case_of(one, f"odd at open ages, {wrong} wrong, open last", shuffled(draw, rest) + at_open)
-        yield case_of(one, f"right at open ages, {wrong} wrong", shuffled(draw, with_entry(one, wrong, one.steps[wrong] + 1)))
-        yield case_of(one, "odd at open ages, all wrong", at_open + [(age, one.steps[age] + 1) for age in printed])
+        for wrong in (printed[0], printed[-1], draw.choice(printed)):
+            one_off = [(age, steps + (age == wrong)) for age, steps in rest]
+            yield case_of(one, f"odd at open ages, {wrong} wrong", sorted(at_open + one_off))
+            yield case_of(one, f"right at open ages, {wrong} wrong", with_entry(one, wrong, one.steps[wrong] + 1))
+        yield case_of(one, "odd at open ages, all wrong", sorted(at_open + [(age, steps + 1) for age, steps in rest]))
 
 
-def taken_columns(draw, every):
+def entry_columns(draw, every):
     for one in every:
         yield from in_orders(draw, one)
         yield from nearest(draw, one)
@@ -218,6 +214,72 @@ def taken_columns(draw, every):
         yield from around_open(draw, one)
     for one in [every[0], every[2], every[-1], every[-3], *draw.sample(every[1:], 3)]:
         yield from digit_changed(draw, one)
+
+
+# ---- columns by their rows
+
+def neighbours_exchanged(draw, rows):
+    at = draw.randrange(OLDEST)
+    return [*rows[:at], rows[at + 1], rows[at], *rows[at + 2 :]]
+
+
+def age_twice(draw, rows):
+    """121 rows that don't fall, one age twice and another missing."""
+    twice, missing = draw.sample(AGES, 2)
+    return sorted((twice if age == missing else age, steps) for age, steps in rows)
+
+
+def age_missing(draw, rows):
+    """121 rows that go upward, with one outside for an age that is missing."""
+    missing, outside = draw.choice(AGES), draw.choice((-1, OLDEST + 1))
+    return sorted((outside if age == missing else age, steps) for age, steps in rows)
+
+
+def one_row_less(draw, rows):
+    at = draw.choice((0, OLDEST, draw.choice(AGES)))
+    return [*rows[:at], *rows[at + 1 :]]
+
+
+def one_row_more(draw, rows):
+    """122 rows: one of an age outside, or one that stands twice, beside itself or at the end."""
+    at = draw.choice(AGES)
+    before, after = (-1, rows[at][1]), (OLDEST + 1, rows[at][1])
+    return draw.choice(([*rows, after], [before, *rows], [*rows[: at + 1], *rows[at:]], [*rows, rows[at]]))
+
+
+# The forms that rows are tried in, each with what it makes of a table's own rows, of which one may have another entry.
+IN_ORDER, DAMAGED = "in order", "damaged bytes"
+FORMS = {
+    IN_ORDER: lambda draw, rows: rows,
+    "two neighbours exchanged": neighbours_exchanged,
+    "shuffled": shuffled,
+    "an age twice": age_twice,
+    "an age missing": age_missing,
+    "120 rows": one_row_less,
+    "122 rows": one_row_more,
+}
+
+
+def of_form(draw, one, form):
+    """A column of a table by its rows, or with some bytes changed: torn, wrong or neither."""
+    rows = with_entry(one, draw.choice(AGES), draw.randrange(10**6)) if draw.randrange(4) else list(enumerate(one.steps))
+    if form != DAMAGED:
+        return case_of(one, form, FORMS[form](draw, rows))
+    column = text_of(rows)
+    for _ in range(draw.choice((1, 1, 1, 3))):
+        column = damaged(column, draw.randrange(len(column)), draw)
+    return Case(f"{one.name}, {form}", one.sheet, one.year, column, None)
+
+
+def form_columns(draw, every):
+    """As many different columns of each form."""
+    for form in (*FORMS, DAMAGED):
+        met = set()
+        while len(met) < EACH_FORM:
+            case = of_form(draw, draw.choice(every), form)
+            if case.column not in met:
+                met.add(case.column)
+                yield form, case
 
 
 # ---- torn columns
@@ -304,9 +366,8 @@ def cut_and_long(draw):
 def torn_columns(draw):
     """Columns that are torn for certain, over the flat sheet."""
     for line in torn_lines():
-        at = 65 if draw.randrange(2) else 64
         rest = FLAT_LINES[:65] + FLAT_LINES[66:]
-        yield f"the line {line[:40]!r}", b"".join([*rest[:at], line + b"\n", *rest[at:]])
+        yield f"the line {line[:40]!r}", with_line(65, line + b"\n")
         if draw.randrange(3) == 0:
             yield f"the last line {line[:40]!r}", b"".join([*rest, line + b"\n"])
             yield f"the line {line[:40]!r} more", FLAT_COLUMN + line + b"\n"
@@ -324,16 +385,6 @@ def torn_cases(draw):
         ))
         if draw.randrange(3) == 0:
             yield Case(f"torn in order, {what}", sheet, year, column, no)
-
-
-def damaged_columns(draw, every, count):
-    """A table's own column with some bytes changed: torn, wrong or neither."""
-    for i in range(count):
-        one = draw.choice(every)
-        column = text_of(shuffled(draw, enumerate(one.steps)))
-        for _ in range(draw.choice((1, 1, 1, 3))):
-            column = damaged(column, draw.randrange(len(column)), draw)
-        yield Case(f"{one.name}, changed bytes {i}", one.sheet, one.year, column, None)
 
 
 # ---- refusals of the sheet, the year and steep cells
@@ -369,8 +420,10 @@ def steep_cases(draw):
 
 
 def cases(draw, every):
-    parts = [in_order(YEARS), taken_columns(draw, every), torn_cases(draw), damaged_columns(draw, every, 150)]
-    return list(itertools.chain(*parts, steep_cases(draw)))
+    """All cases, and those of each form among them."""
+    formed = list(form_columns(draw, every))
+    parts = [in_order(YEARS), entry_columns(draw, every), torn_cases(draw), steep_cases(draw), (case for _, case in formed)]
+    return list(itertools.chain(*parts)), formed
 
 
 # ---- inputs of the program: the year's line, the sheet's lines, and sizes
@@ -451,7 +504,7 @@ def any_bytes(draw, every, count):
     """Whole inputs with some bytes changed, or a part left out or doubled."""
     for i in range(count):
         one = draw.choice(every)
-        data = one.sheet + b"year=%d\n" % one.year + text_of(shuffled(draw, enumerate(one.steps)))
+        data = one.sheet + b"year=%d\n" % one.year + text_of(enumerate(one.steps))
         for _ in range(draw.randint(1, 3)):
             data = damaged(data, draw.randrange(draw.choice((0, len(one.sheet))), len(data)), draw)
         if draw.randrange(3) == 0:
@@ -471,7 +524,7 @@ def untrue(case, said):
     """What is wrong with a verdict, of the exact values: right is said only where every entry is the rounded one, wrong only
     where some entry is not."""
     entries = entries_of(case.column) if said in VERDICTS else None
-    same = entries and list(map(entries.get, AGES)) == exact_steps(case.sheet, case.year)
+    same = entries and entries == exact_steps(case.sheet, case.year)
     true = {RIGHT: same, WRONG: entries and not same}.get(said, True)
     return None if true else f"verdict, {case.name}: {said} is not true of the exact values"
 
@@ -599,26 +652,33 @@ def compare_library(draw, every_case):
 # ---- all of it
 
 SAID = (*VERDICTS, TORN, OFF_SCALE, TORN_COLUMN, NO_YEAR, STEEP)
+# What has to be said of some column of each form.
+FORM_SAID = {form: {TORN_COLUMN} for form in FORMS} | {IN_ORDER: {*VERDICTS}, DAMAGED: {WRONG, TORN_COLUMN}}
 OPEN_AGES = {"to 79": range(80), "80 to 90": range(80, 91), "above 90": range(91, 121), "0": (0,), "120": (120,)}
 
 
-def absent(counts, every, every_case):
+def absent(counts, every, formed):
     """What should have been met and was not."""
     missed = [f"no case of: {what}" for what in SAID if not counts[what]]
+    for form, said in FORM_SAID.items():
+        got = [said_of(case) for one, case in formed if one == form]
+        if len(got) != EACH_FORM or not said <= {*got}:
+            missed.append(f"{form}: {len(got)} columns, of which is said {sorted(map(str, {*got}))}")
     for name, ages in OPEN_AGES.items():
         if not any(one.figures[age] == OPEN for one in every for age in ages):
             missed.append(f"no open age {name}")
     if not any(OPEN not in one.figures for one in every):
         missed.append("no table without an open age")
-    if len({case.column for case in every_case}) < LEAST_COLUMNS:
-        missed.append(f"fewer than {LEAST_COLUMNS} columns")
     return missed
 
 
-def report(counts, every, every_case, others):
+def report(counts, every, every_case, formed, others):
     print(f"{len(every)} tables, {sum(OPEN in one.figures for one in every)} with open ages")
     print(f"{len(every_case)} cases, {len({case.column for case in every_case})} columns, and {len(others)} other inputs")
     print("said of them:", ", ".join(f"{what} {counts[what]}" for what in SAID))
+    for form in FORM_SAID:
+        said = collections.Counter(said_of(case) for one, case in formed if one == form)
+        print(f"{form}:", ", ".join(f"{what} {said[what]}" for what in SAID if said[what]))
 
 
 def main():
@@ -630,12 +690,12 @@ def main():
         return 1
     draw = random.Random(seed)
     every = tables(draw)
-    every_case, others = cases(draw, every), other_inputs(draw, every)
+    (every_case, formed), others = cases(draw, every), other_inputs(draw, every)
     counts = collections.Counter(map(said_of, every_case))
     with concurrent.futures.ThreadPoolExecutor(2) as threads:
         found = list(threads.map(lambda job: job[0](*job[1:]), list(jobs(draw, every_case, others))))
-    report(counts, every, every_case, others)
-    found += absent(counts, every, every_case) or [None]
+    report(counts, every, every_case, formed, others)
+    found += absent(counts, every, formed) or [None]
     wrong = [said for said in found if said]
     for message in wrong[:20]:
         print(message)

@@ -9,7 +9,7 @@ use Rattle.text_tokens.specs.declared.UnsignedRead.the-variants.{Malformed, Uns
 use Rattle.text_tokens.specs.Text.{bytesOf, Parse, malformed, taken, takeText, andThen}
 use Rattle.text_tokens.specs.laws.Steps.{goes, stops}
 use Rattle.text_tokens.specs.Number.{readDigits}
-use Rattle.run_query.specs.Query.{readField, alone}
+use Rattle.run_query.specs.Query.{readField, ended}
 use Rattle.run_column_text.specs.declared.Entry.{Entry}
 use Rattle.run_column_text.specs.Column.{wholes, decimals, readQ, readEntry}
 use Rattle.run_column_text.specs.code.Code.{unsignedRead}
@@ -29,11 +29,8 @@ digit-taken bs e = goes _ e
 
 -- ---- a line
 
-abbrev pub lineEnd : Entry → List ℕ → Parse Entry
-lineEnd e bs = andThen (takeText (bytesOf "\n") bs) (λ v rest. alone e rest)
-
 abbrev pub fromQ : ℤ → List ℕ → Parse Entry
-fromQ age bs = andThen (readQ bs) (λ steps rest. lineEnd (record { age = age; steps = steps }) rest)
+fromQ age bs = andThen (readQ bs) (λ steps rest. ended (record { age = age; steps = steps }) rest)
 
 abbrev pub fromName : ℤ → List ℕ → Parse Entry
 fromName age bs = andThen (takeText (bytesOf " q=") bs) (λ u rest. fromQ age rest)

@@ -1,3 +1,2 @@
 pub mod DigitSteps
-pub mod PlaceSteps
 pub mod EntrySteps

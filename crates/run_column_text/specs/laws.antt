@@ -1,5 +1,6 @@
 pub mod QLaws
 pub mod QText
-pub mod StepLaws
-pub mod WalkLaws
+pub mod RowLaws
 pub mod ColumnLaws
+pub mod AnyOrder
+pub mod OrderLaws

@@ -1,11 +1,10 @@
-// A published column of q for one year, 121 lines `age=0 q=0.00312` in any order, read from its bytes in one pass.
+// A published column of q for one year, 121 lines `age=0 q=0.00312` upward from age 0, read from its bytes in one pass.
 ghost use mathlib.Core.Path.{_≡_};
 ghost use Prim.Native.Nat.{_≤_, _<_};
 ghost use lib.ListN.{drop};
 ghost use Rattle.text_tokens.specs.Number.{readDigits};
-ghost use Rattle.run_column_text.specs.Column.{decimals, readQ, readEntry, columnOf};
-ghost use Rattle.run_column_text.specs.code.Table.{withEntry, withLine, tableSteps};
-ghost use Rattle.run_column_text.specs.code.Code.{mostSteps, unsignedRead, entryRead, listRead, columnRead};
+ghost use Rattle.run_column_text.specs.Column.{columnLines, decimals, readQ, readEntry, columnOf};
+ghost use Rattle.run_column_text.specs.code.Code.{unsignedRead, entryRead, listRead, columnRead, withRow};
 use model_closure::LAST_CLOSED;
 use text_tokens::NumberRead;
 use text_tokens::UnsignedRead;
@@ -83,75 +82,44 @@ pub fn entry_of(line: &[u8]) -> EntryRead
     let UnsignedRead::Unsigned(steps, after_q) = q_at(line, after_age + 3) else {
         return EntryRead::Malformed;
     };
-    if !text_tokens::text_at(line, after_q, b"\n") {
-        return EntryRead::Malformed;
-    }
-    if after_q + 1 < line.len() {
+    if !run_query::ends_at(line, after_q) {
         return EntryRead::Malformed;
     }
     EntryRead::Of(Entry { age, steps })
 }
 
-// Puts an entry into its empty place of the table; false where there is no such place.
-fn place(table: &mut [u64; COLUMN_LINES], age: i64, steps: u64) -> bool
-    requires { ⌜ steps < mostSteps ⌝ }
-    ensures { λ r. ⌜ listRead r (now (table .exit)) ≡ withEntry (now (table .entry)) (record { age = age; steps = steps }) ⌝ }
-{
-    if age < 0 {
-        return false;
-    }
-    if age > LAST_CLOSED as i64 {
-        return false;
-    }
-    let x = age as usize;
-    if table[x] != 0 {
-        return false;
-    }
-    table[x] = steps + 1;
-    true
-}
-
-// Puts a line's entry into its empty place of the table; false where the line is malformed or there is no such place.
-fn place_line(table: &mut [u64; COLUMN_LINES], line: &[u8]) -> bool
-    ensures { λ r. ⌜ listRead r (now (table .exit)) ≡ withLine (now (table .entry)) (now (line .entry)) ⌝ }
+// Puts the steps of a line of age x into their place; false where the line is malformed or of another age.
+fn put_row(steps: &mut [u64; COLUMN_LINES], x: usize, line: &[u8]) -> bool
+    requires { ⌜ x < columnLines ⌝ }
+    ensures { λ r. ⌜ listRead r (now (steps .exit)) ≡ withRow (now (steps .entry)) x (now (line .entry)) ⌝ }
 {
     let EntryRead::Of(entry) = entry_of(line) else {
         return false;
     };
-    place(table, entry.age, entry.steps)
-}
-
-// The steps of a table, where no place is empty.
-fn table_steps(table: [u64; COLUMN_LINES]) -> ColumnRead
-    ensures { λ r. ⌜ columnRead r ≡ tableSteps table ⌝ }
-{
-    let mut steps = table;
-    let mut x: usize = 0;
-    while x < COLUMN_LINES {
-        if steps[x] == 0 {
-            return ColumnRead { ok: false, steps };
-        }
-        steps[x] -= 1;
-        x += 1;
+    if entry.age != x as i64 {
+        return false;
     }
-    ColumnRead { ok: true, steps }
+    steps[x] = entry.steps;
+    true
 }
 
-// The column that all the bytes are.
+// The column that all the bytes are: each line's age is its place.
 pub fn column_of(bytes: &[u8]) -> ColumnRead
     ensures { λ r. ⌜ columnRead r ≡ columnOf (now (bytes .entry)) ⌝ }
 {
-    let mut table = [0u64; COLUMN_LINES];
+    let mut steps = [0u64; COLUMN_LINES];
+    let mut x = 0;
     let mut at = 0;
-    while at < bytes.len() {
+    while x < COLUMN_LINES {
         let end = text_lines::line_end(bytes, at);
-        if !place_line(&mut table, &bytes[at..end]) {
-            return ColumnRead {
-                ok: false,
-                steps: table,
-            };
+        if !put_row(&mut steps, x, &bytes[at..end]) {
+            return ColumnRead { ok: false, steps };
         }
         at = end;
+        x += 1;
     }
-    table_steps(table)
+    if at < bytes.len() {
+        return ColumnRead { ok: false, steps };
+    }
+    ColumnRead { ok: true, steps }
 }

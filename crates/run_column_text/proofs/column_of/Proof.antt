@@ -1,27 +1,35 @@
--- `column_of` meets its contract. The loop's invariant: the lines that are left, put into the present table, give the whole
--- column. The measure is how many bytes are left.
+-- `column_of` meets its contract. The loop's invariant: the steps before age x and the rows from the present place on are the
+-- whole column. The measure is how many ages are left.
 use borrow.Author.Needs.{needs}
 use borrow.Author.Tests.{not-true, not-false}
-use mathlib.Core.Path.{_≡_, sym, ap, _∙_}
+use mathlib.Core.Path.{_≡_, refl, sym, ap, _∙_}
 use mathlib.Core.Bool.{Bool}
 use mathlib.Core.List.{List}
-use Prim.Native.Nat.{ℕ, _+_, _-_, _≤_}
+use Prim.Native.Nat.{ℕ, suc, _+_, _-_, _≤_}
+use native.Mathlib.Numerals.{add-one}
 use native.Mathlib.Omega.{arith}
 use lib.ListN.{length, take, drop}
-use Rattle.text_lines.specs.Lines.{lines}
+use Rattle.text_tokens.specs.Text.{andThen}
+use Rattle.text_tokens.specs.laws.Steps.{goes, stops}
 use Rattle.text_lines.specs.laws.LineLaws.{line-take, place-within}
-use Rattle.run_column_text.specs.Column.{columnOf}
-use Rattle.run_column_text.specs.code.Table.{emptyTable, withLine, walk}
-use Rattle.run_column_text.specs.code.Code.{listRead}
-use Rattle.run_column_text.specs.laws.WalkLaws.{lineAt, line-here, walk-column, walk-malformed, walk-next, walk-end}
+use Rattle.run_column_text.specs.Column.{columnLines, columnOf}
+use Rattle.run_column_text.specs.code.Code.{listRead, withRow}
+use Rattle.run_column_text.specs.laws.RowLaws.{row-long, lineAt, columnFrom, from-start, from-step, from-end, from-past}
 use Rattle.run_column_text.proofs.column_of.Statement.{statement}
 use Rattle.run_column_text.proofs.column_of.Tie as tie
 
+-- after x rows
+record Read (bytes steps : List ℕ) (x at : ℕ) : Type 0 where
+  most : x ≤ columnLines
+  within : at ≤ length bytes
+  long : length steps ≡ columnLines
+  whole : columnOf bytes ≡ columnFrom bytes at steps x
+
 abbrev Inv-loop : tie.InvT-loop
-Inv-loop bytes table₀ at₀ table at = (at ≤ length bytes) × (columnOf bytes ≡ walk table (lines (drop at bytes)))
+Inv-loop bytes steps₀ x₀ at₀ steps x at = Read bytes steps x at
 
 abbrev μ-loop : tie.MeasureT-loop
-μ-loop bytes table₀ at₀ table at = length bytes - at
+μ-loop bytes steps₀ x₀ at₀ steps x at = columnLines - x
 
 -- ---- the place before, seen from the line's end
 
@@ -38,7 +46,7 @@ end c = c .line-end .ensures
 inside : (c : tie.After-line-end Inv-loop μ-loop) → c .line-end .result ≤ length (bytes (turn c))
 inside c =
     let l = turn c .loop in
-    omega (arith, end c, place-within (bytes (turn c)) (l .at) (l .inv .0))
+    omega (arith, end c, place-within (bytes (turn c)) (l .at) (l .inv .within))
 
 -- the slice that is read is the line
 slice : (c : tie.After-line-end Inv-loop μ-loop) → let l = turn c .loop in
@@ -48,59 +56,62 @@ slice c =
     let e : c .line-end .result - l .at ≡ length (lineAt (bytes (turn c)) (l .at)) = omega (arith, end c) in
     rw e (line-take (drop (l .at) (bytes (turn c))))
 
--- the line, put into the table
-put : (c : tie.After-place-line Inv-loop μ-loop) → let w = c .before .before .before in let l = turn w .loop in
-    listRead (c .place-line .result) (c .place-line .last .0) ≡ withLine (l .table) (lineAt (bytes (turn w)) (l .at))
-put c = let w = c .before .before .before in c .place-line .ensures ∙ ap (withLine (turn w .loop .table)) (slice w)
+-- the whole column by its row and those after it
+step : (c : tie.After-line-end Inv-loop μ-loop) → let l = turn c .loop in let bs = bytes (turn c) in
+    columnOf bs
+    ≡ andThen (withRow (l .steps) (l .x) (lineAt bs (l .at)))
+    (λ t none. columnFrom bs (l .at + length (lineAt bs (l .at))) t (suc (l .x)))
+step c =
+    let l = turn c .loop in
+    l .inv .whole ∙ from-step (bytes (turn c)) (l .at) (l .steps) (l .x) (omega arith) (l .inv .long)
 
-put-as : {b : Bool} (c : tie.After-place-line Inv-loop μ-loop) → c .place-line .result ≡ b
+-- its row, put among the steps or not
+row : {b : Bool} (c : tie.After-put-row Inv-loop μ-loop) → c .put-row .result ≡ b
     → let w = c .before .before .before in let l = turn w .loop in
-    withLine (l .table) (lineAt (bytes (turn w)) (l .at)) ≡ listRead b (c .place-line .last .0)
-put-as c e = sym (put c) ∙ ap (λ (b : Bool). listRead b (c .place-line .last .0)) e
+    withRow (l .steps) (l .x) (lineAt (bytes (turn w)) (l .at)) ≡ listRead b (c .put-row .last .0)
+row c e =
+    let w = c .before .before .before in
+    let l = turn w .loop in
+    ap (withRow (l .steps) (l .x)) (sym (slice w)) ∙ sym (c .put-row .ensures) ∙ ap (λ (b : Bool). listRead b (c .put-row .last .0)) e
 
 -- ---- the needs
 
 loop-holds : tie.Need-loop-holds Inv-loop μ-loop
-unfolding emptyTable
-loop-holds c = (omega arith, sym (walk-column (c .before .args .bytes .now)))
-
-sub-place-line : tie.Need-sub-place-line Inv-loop μ-loop
-sub-place-line c = omega (arith, end (c .before))
-
-part-place-line-start : tie.Need-part-place-line-start Inv-loop μ-loop
-part-place-line-start c = omega (arith, end (c .before))
-
-part-place-line-end : tie.Need-part-place-line-end Inv-loop μ-loop
-part-place-line-end c = inside (c .before)
+loop-holds c = record { most = omega arith; within = omega arith; long = refl; whole = from-start _ }
 
 returns : tie.Need-returns Inv-loop μ-loop
 returns c =
     let w = c .before .before .before .before in
-    let l = turn w .loop in
-    sym (l .inv .1 ∙ walk-malformed (bytes (turn w)) (l .at) (omega arith) (l .table) (put-as (c .before) (not-true _ (c .if1 .taken))))
-
-loop-less : tie.Need-loop-less Inv-loop μ-loop
-loop-less c =
-    let w = c .before .before .before .before in
-    omega (arith, end w, line-here (bytes (turn w)) (turn w .loop .at) (omega arith))
+    sym (step w ∙ stops _ (row (c .before) (not-true _ (c .if1 .taken))))
 
 loop-again : tie.Need-loop-again Inv-loop μ-loop
 loop-again c =
     let w = c .before .before .before .before in
-    let l = turn w .loop in (
-      inside w,
-      l .inv .1
-          ∙ walk-next (bytes (turn w)) (l .at) (omega arith) (l .table) (put-as (c .before) (not-false _ (c .if1 .left)))
-          ∙ ap (λ (n : ℕ). walk (c .before .place-line .last .0) (lines (drop n (bytes (turn w))))) (sym (end w)),
-    )
+    let l = turn w .loop in
+    let put = row (c .before) (not-false _ (c .if1 .left)) in
+    record {
+      most = omega arith;
+      within = inside w;
+      long = row-long (l .steps) (l .x) _ put ∙ l .inv .long;
+      whole = rw (add-one (l .x))
+          (step w ∙ goes _ put ∙ ap (λ (n : ℕ). columnFrom (bytes (turn w)) n (c .before .put-row .last .0) (suc (l .x))) (sym (end w)));
+    }
 
 returns-2 : tie.Need-returns-2 Inv-loop μ-loop
 returns-2 c =
     let l = c .before .before .loop in
-    c .table-steps .ensures ∙ sym (l .inv .1 ∙ walk-end _ (l .at) (l .table) (omega arith))
+    let e : l .x ≡ columnLines = omega (arith, l .inv .most) in
+    sym (rw e at (l .inv .whole) ∙ from-past _ (l .at) (l .steps) (omega arith))
+
+returns-3 : tie.Need-returns-3 Inv-loop μ-loop
+returns-3 c =
+    let l = c .before .before .loop in
+    let e : l .x ≡ columnLines = omega (arith, l .inv .most) in
+    sym (rw e at (l .inv .whole) ∙ from-end _ (l .at) (l .steps) (l .inv .long) (omega arith))
 
 pub column-of-spec : {M : Type 1} → statement M
 column-of-spec =
     tie.close
-    (tie.spec Inv-loop μ-loop loop-holds (λ c κs. search needs) sub-place-line part-place-line-start part-place-line-end
-    (λ c κs. search needs) returns loop-less loop-again (λ c κs. search needs) returns-2)
+    (tie.spec Inv-loop μ-loop loop-holds (λ c κs. search needs) (λ c. omega (arith, end (c .before)))
+    (λ c. omega (arith, end (c .before))) (λ c. inside (c .before)) (λ c κs. search needs) returns (λ c. search needs)
+    (λ c. search needs) loop-again returns-2 returns-3)

@@ -10,11 +10,11 @@ use Rattle.text_tokens.specs.Text.{bytesOf}
 use Rattle.text_tokens.specs.laws.TextLaws.{text-found, text-missing, text-room}
 use Rattle.text_tokens.specs.laws.ReadLaws.{lacks, has, held, read-malformed, read-taken}
 use Rattle.text_tokens.specs.laws.Steps.{goes, stops}
-use Rattle.run_query.specs.Query.{alone}
-use Rattle.run_query.proofs.QuerySteps.{followed, at-end}
+use Rattle.run_query.specs.Query.{ended}
+use Rattle.run_query.proofs.QuerySteps.{line-ended, line-goes-on}
 use Rattle.run_column_text.specs.declared.Entry.{Entry}
 use Rattle.run_column_text.specs.Column.{readEntry}
-use Rattle.run_column_text.proofs.EntrySteps.{lineEnd, fromQ, fromName, age-malformed, age-taken, unsigned-malformed, unsigned-taken}
+use Rattle.run_column_text.proofs.EntrySteps.{fromQ, fromName, age-malformed, age-taken, unsigned-malformed, unsigned-taken}
 use Rattle.run_column_text.proofs.entry_of.Statement.{statement}
 use Rattle.run_column_text.proofs.entry_of.Tie as tie
 
@@ -35,12 +35,8 @@ named c = c .before .before .before .before
 abbrev aged : tie.After-known-told2 → tie.After-known-told
 aged c = told (named c .before)
 
-abbrev told₂ : tie.After-text-at2 → tie.After-known-told2
-told₂ c = c .before .before
-
--- the end of the line
-abbrev end : tie.Else2 → ℕ
-end c = told₂ (c .before) .before .steps .given .0 .1 .0 + 1
+abbrev told₂ : tie.After-ends-at → tie.After-known-told2
+told₂ c = c .before
 
 -- the entry that was read
 abbrev said : tie.After-known-told2 → Entry
@@ -60,16 +56,9 @@ after-name c =
     after-age (told (c .before)) ∙ goes _ (text-found _ _ (bytesOf " q=") (has (c .before .text-at .ensures) (c .if1 .left)))
 
 after-q : (c : tie.After-known-told2)
-    → readEntry (line (aged c)) ≡ lineEnd (said c) (drop (c .before .steps .given .0 .1 .0) (line (aged c)))
+    → readEntry (line (aged c)) ≡ ended (said c) (drop (c .before .steps .given .0 .1 .0) (line (aged c)))
 after-q c =
     after-name (named c) ∙ goes _ (unsigned-taken _ (c .before .before .before .q-at .ensures) (c .before .steps .given .1))
-
-after-end : (c : tie.Else2) → let t = told₂ (c .before) in
-    readEntry (line (aged t)) ≡ alone (said t) (drop (end c) (line (aged t)))
-unfolding bytesOf
-after-end c =
-    after-q (told₂ (c .before))
-    ∙ goes _ (text-found _ _ (bytesOf "\n") (has (c .before .text-at2 .ensures) (c .if2 .left)))
 
 -- ---- the needs
 
@@ -94,31 +83,20 @@ returns-3 c =
     sym (after-name (q .before) ∙ stops _ (unsigned-malformed _ (q .q-at .ensures) (c .enum-told2 .given .1)))
 
 returns-4 : tie.Need-returns-4
-unfolding bytesOf
 returns-4 c =
     let t = c .before in
-    sym (after-q (told₂ t) ∙ stops _ (text-missing _ _ (bytesOf "\n") (lacks (t .text-at2 .ensures) (c .if2 .taken))))
-
-add-if3 : tie.Need-add-if3
-add-if3 c =
-    let t = c .before in
-    omega (arith, entry (aged (told₂ t)) .good .0, text-room _ _ _ (has (t .text-at2 .ensures) (c .if2 .left)))
+    sym (after-q (told₂ t) ∙ line-goes-on _ _ (lacks (t .ends-at .ensures) (c .if2 .taken)))
 
 returns-5 : tie.Need-returns-5
 returns-5 c =
-    let e = c .before in
-    sym (after-end e ∙ followed _ (line (aged (told₂ (e .before)))) (end e) (omega arith))
-
-returns-6 : tie.Need-returns-6
-returns-6 c =
-    let e = c .before in
-    let a = aged (told₂ (e .before)) in
+    let t = told₂ (c .before) in
+    let a = aged t in
     rw (held (a .before .age .given .0 .0) (a .known-told .given .0 .1))
-    (sym (after-end e ∙ at-end _ (line a) (end e) (omega arith)))
+    (sym (after-q t ∙ line-ended _ _ (has (c .before .ends-at .ensures) (c .if2 .left))))
 
 pub entry-of-spec : {M : Type 1} → statement M
 entry-of-spec =
     tie.close
     (tie.spec (λ c. search needs) (λ c κs. search needs) (λ c. search needs) (λ c. search needs) returns
     (λ c. search needs) (λ c κs. search needs) returns-2 add-q-at (λ c κs. search needs) (λ c. search needs)
-    (λ c. search needs) returns-3 (λ c. search needs) (λ c κs. search needs) returns-4 add-if3 returns-5 returns-6)
+    (λ c. search needs) returns-3 (λ c κs. search needs) returns-4 returns-5)

@@ -1,28 +1,30 @@
--- What a column that is taken says: its bytes are 121 lines, each age from 0 to 120 has one of them, and the column holds the
--- steps of that line at its age. And the other way round: such lines are a column, in whatever order.
-use mathlib.Core.Path.{_≡_, refl, sym, ap, _∙_}
-use mathlib.Core.Bool.{Bool, true, false, cond}
-use mathlib.Core.List.{List, [], _∷_, nil≢cons}
-use Prim.Native.Nat.{ℕ, zero, suc, _+_, _≤_, _<_}
-use native.Mathlib.Nat.{zero-add}
-use native.Mathlib.Decide.{ℕ-discrete}
+-- What a column that is taken says: its bytes are 121 lines, and their entries are those of ages 0 to 120 in their order, with the
+-- column's steps. And the other way round: such entries are a column.
+use mathlib.Core.Path.{_≡_, refl, ap, _∙_}
+use mathlib.Core.Bool.{Bool, true, false, cond, _&&_}
+use mathlib.Core.List.{List, [], _∷_}
+use Prim.Native.Nat.{ℕ, suc, _+_}
 use native.Mathlib.Omega.{arith}
-use borrow.Author.Tests.{eqb-true}
-use lib.IntN.{ℤ, pos, negsuc, natAbs}
-use lib.ListN.{length, getD}
-use Rattle.number_whole.specs.Listed.{listed}
-use Rattle.number_whole.specs.laws.Table.{listed-length, listed-at}
+use borrow.Author.Tests.{eqb-true, eq-eqb}
+use lib.IntN.{ℤ, pos, negsuc}
+use lib.ListN.{length, length-map}
 use Rattle.number_whole.specs.laws.Clash.{clash}
 use Rattle.text_tokens.specs.Text.{malformed, taken}
 use Rattle.text_tokens.specs.laws.Steps.{goes}
 use Rattle.text_tokens.specs.laws.NumberTrip.{malformed-not-taken}
 use Rattle.sheet.specs.laws.SheetTrip.{then-taken}
 use Rattle.text_lines.specs.Lines.{lines}
-use Rattle.quote_table_tests.specs.TableTests.{ageInTable}
 use Rattle.run_column_text.specs.declared.Entry.{Entry}
-use Rattle.run_column_text.specs.Column.{columnLines, readEntry, readEntries, entriesOf, isAge, ofAge, allInTable, oneOfEach}
-use Rattle.run_column_text.specs.Column.{eachOnce, stepsOf, byAge, columnOf}
-use Rattle.run_column_text.specs.laws.WalkLaws.{of-age, of-other, and-true, age-own, age-other, Aged, aged, one-entry, each-one}
+use Rattle.run_column_text.specs.Column.{columnLines, readEntry, readEntries, entriesOf, isAge, upward, byAge, columnOf}
+use Rattle.run_column_text.specs.laws.RowLaws.{stepsIn}
+
+-- the entry of an age, and those of these steps from age x on
+abbrev pub row : ℕ → ℕ → Entry
+row x n = record { age = pos x; steps = n }
+
+unfoldable pub rows : ℕ → List ℕ → List Entry
+rows x [] = []
+rows x (n ∷ c) = row x n ∷ rows (suc x) c
 
 -- ---- an entry for each line
 
@@ -44,129 +46,73 @@ entries-read (l ∷ ls) {es} {rest} q =
     let y : b₁ ≡ rest = cc in
     rw (← x, ← y) (record { count = ap suc (r .count); none = r .none })
 
--- ---- the entries of an age have that age
+-- ---- entries upward from age x
+
+pub and-true : (a b : Bool) → (a && b) ≡ true → (a ≡ true) × (b ≡ true)
+and-true true b q = (refl, q)
+and-true false b q = (q, cc)
 
 is-age : (x : ℕ) (z : ℤ) → isAge x z ≡ true → z ≡ pos x
 unfolding isAge
 is-age x (pos n) q = ap pos (eqb-true n x q)
 is-age x (negsuc n) q = clash cc
 
-first-age : (x : ℕ) (es : List Entry) {e : Entry} {fs : List Entry} → ofAge x es ≡ e ∷ fs → e .age ≡ pos x
-unfolding ofAge
-first-age x [] q = absurd (nil≢cons q)
-first-age x (d ∷ es) {e} {fs} q = go (λ r. first-age x es r) (isAge x (d .age)) refl
-  where
-    go : (ofAge x es ≡ e ∷ fs → e .age ≡ pos x) → (b : Bool) → isAge x (d .age) ≡ b → e .age ≡ pos x
-    go ih true r =
-        let s : d ∷ ofAge x es ≡ e ∷ fs = sym (of-age x d es r) ∙ q in
-        let h : d ≡ e = cc in
-        rw (← h) (is-age x (d .age) r)
-    go ih false r = ih (sym (of-other x d es r) ∙ q)
+record UpwardIs (x : ℕ) (es : List Entry) : Type 0 where
+  many : x + length es ≡ columnLines
+  are : es ≡ rows x (stepsIn es)
 
--- where an age has one entry, it is this one
-the-entry : (es : List Entry) (x : ℕ) → length (ofAge x es) ≡ 1
-    → ofAge x es ≡ (record { age = pos x; steps = stepsOf es x }) ∷ []
-unfolding stepsOf
-the-entry es x q = go (ofAge x es) refl q
-  where
-    go : (fs : List Entry) → ofAge x es ≡ fs → length fs ≡ 1
-        → ofAge x es ≡ (record { age = pos x; steps = stepsOf es x }) ∷ []
-    go [] r h = absurd (omega arith)
-    go (e ∷ []) r h = rw (← first-age x es r, r, stepsOf)
-    go (e ∷ d ∷ fs) r h = absurd (omega arith)
+upward-is : (x : ℕ) (es : List Entry) → upward x es ≡ true → UpwardIs x es
+unfolding upward rows
+upward-is x [] q = record { many = omega (arith, eqb-true x columnLines q); are = refl }
+upward-is x (e ∷ es) q =
+    let (own, more) = and-true (isAge x (e .age)) (upward (suc x) es) q in
+    let u = upward-is (suc x) es more in
+    record {
+      many = omega (arith, u .many);
+      are = ap (λ (z : ℤ). record { age = z; steps = e .steps } ∷ es) (is-age x (e .age) own)
+          ∙ ap (_∷_ (row x (e .steps))) (u .are);
+    }
 
--- ---- as many entries as ages
+rows-upward : (x : ℕ) (c : List ℕ) → x + length c ≡ columnLines → upward x (rows x c) ≡ true
+unfolding upward rows isAge
+rows-upward x [] q = eq-eqb x columnLines (omega arith)
+rows-upward x (n ∷ c) q = rw (eq-eqb x x refl) (rows-upward (suc x) c (omega arith))
 
--- those of the ages below n
-total : ℕ → List Entry → ℕ
-total zero es = 0
-total (suc n) es = total n es + length (ofAge n es)
-
-total-none : (n : ℕ) → total n [] ≡ 0
-unfolding total ofAge
-total-none zero = refl
-total-none (suc n) = omega (arith, total-none n)
-
-module _ (e : Entry) (es : List Entry) (a : Aged (e .age)) where
-  total-same : (n : ℕ) → n ≤ natAbs (e .age) → total n (e ∷ es) ≡ total n es
-  unfolding total
-  total-same zero h = refl
-  total-same (suc n) h =
-      rw (total-same n (omega arith), of-other n e es (age-other n (e .age) (λ q. omega arith)))
-
-  total-more : (n : ℕ) → natAbs (e .age) < n → total n (e ∷ es) ≡ suc (total n es)
-  unfolding total
-  total-more zero h = absurd (omega arith)
-  total-more (suc n) h =
-      elim (ℕ-discrete n (natAbs (e .age))) [
-        | yes k ↦ omega (
-          arith,
-          total-same n (omega arith),
-          ap length (of-age n e es (rw k (age-own (e .age) (a .is)))),
-        )
-        | no k ↦ omega (arith, total-more n (omega arith), ap length (of-other n e es (age-other n (e .age) k)))
-      ]
-
-total-all : (es : List Entry) → allInTable es ≡ true → total columnLines es ≡ length es
-unfolding allInTable
-total-all [] q = total-none columnLines
-total-all (e ∷ es) q =
-    let (one, more) = and-true (ageInTable (e .age)) (allInTable es) q in
-    let a = aged (e .age) one in
-    total-more e es a columnLines (a .most) ∙ ap suc (total-all es more)
-
-total-each : (es : List Entry) → ((x : ℕ) → x < columnLines → length (ofAge x es) ≡ 1) → (n : ℕ) → n ≤ columnLines
-    → total n es ≡ n
-unfolding total
-total-each es h zero l = refl
-total-each es h (suc n) l = omega (arith, total-each es h n (omega arith), h n (omega arith))
+rows-steps : (x : ℕ) (c : List ℕ) → stepsIn (rows x c) ≡ c
+unfolding rows
+rows-steps x [] = refl
+rows-steps x (n ∷ c) = ap (_∷_ n) (rows-steps (suc x) c)
 
 -- ---- a column that is taken
 
 pub record ColumnIs (bytes c : List ℕ) : Type 0 where
-  -- the entries of its lines, "121 lines"
-  pub entries : List Entry
-  pub read : entriesOf bytes ≡ taken entries []
+  -- "121 lines"
   pub many : length (lines bytes) ≡ columnLines
-  -- each is of an age from 0 to 120
-  pub in-table : allInTable entries ≡ true
-  -- each of these ages has one, with the column's steps at that age
   pub long : length c ≡ columnLines
-  pub once : (x : ℕ) → x < columnLines → ofAge x entries ≡ (record { age = pos x; steps = getD c x 0 }) ∷ []
-
-by-age-taken : (es : List Entry) {c rest : List ℕ} → byAge es ≡ taken c rest
-    → (allInTable es ≡ true) × (oneOfEach es ≡ true) × (listed (stepsOf es) 0 columnLines ≡ c)
-unfolding byAge eachOnce
-by-age-taken es {c} {rest} q = go (eachOnce es) refl q
-  where
-    go : (b : Bool) → eachOnce es ≡ b → cond b (taken (listed (stepsOf es) 0 columnLines) []) malformed ≡ taken c rest
-        → (allInTable es ≡ true) × (oneOfEach es ≡ true) × (listed (stepsOf es) 0 columnLines ≡ c)
-    go true r h = let (one, two) = and-true (allInTable es) (oneOfEach es) r in (one, two, cc)
-    go false r h = malformed-not-taken h
+  pub read : entriesOf bytes ≡ taken (rows 0 c) []
 
 pub column-is : (bytes : List ℕ) {c rest : List ℕ} → columnOf bytes ≡ taken c rest → ColumnIs bytes c
-unfolding columnOf entriesOf
-column-is bytes {c} q =
-    then-taken (entriesOf bytes) _ q λ es b₀ e₀ f₀.
-    let r = entries-read (lines bytes) e₀ in
-    let (ins, each, is) = by-age-taken es f₀ in
-    let one = one-entry es each in
-    rw (← is)
-    (record {
-      entries = es;
-      read = e₀ ∙ ap (taken es) (r .none);
-      many = omega (arith, r .count, total-all es ins, total-each es one columnLines (omega arith));
-      in-table = ins;
-      long = listed-length (stepsOf es) 0 columnLines;
-      once = λ x h. the-entry es x (one x h)
-          ∙ ap (λ (n : ℕ). (record { age = pos x; steps = n }) ∷ [])
-          (sym (listed-at (stepsOf es) 0 0 columnLines x h ∙ ap (stepsOf es) (zero-add x)));
-    })
+unfolding columnOf entriesOf byAge
+column-is bytes {c} {rest} q =
+    then-taken (entriesOf bytes) _ q λ es b₀ e₀ f₀. go es (entries-read (lines bytes) e₀) e₀ (upward 0 es) refl f₀
+  where
+    go : (es : List Entry) {b₀ : List ℕ} → EntriesOf (lines bytes) es b₀ → entriesOf bytes ≡ taken es b₀
+        → (b : Bool) → upward 0 es ≡ b → cond b (taken (stepsIn es) []) malformed ≡ taken c rest → ColumnIs bytes c
+    go es r e true u f =
+        let i = upward-is 0 es u in
+        let is : stepsIn es ≡ c = cc in
+        rw (← is)
+        (record {
+          many = omega (arith, r .count, i .many);
+          long = omega (arith, i .many, length-map es (λ (e : Entry). e .steps));
+          read = e ∙ ap (taken es) (r .none) ∙ ap (λ (fs : List Entry). taken fs []) (i .are);
+        })
+    go es r e false u f = malformed-not-taken f
 
--- ---- lines that are a column
+pub column-taken : (bytes c : List ℕ) → length c ≡ columnLines → entriesOf bytes ≡ taken (rows 0 c) [] → columnOf bytes ≡ taken c []
+unfolding columnOf byAge
+column-taken bytes c l q = goes _ q ∙ rw (rows-upward 0 c (omega arith), rows-steps 0 c)
 
-pub column-taken : (bytes : List ℕ) {es : List Entry} {rest : List ℕ} → entriesOf bytes ≡ taken es rest
-    → allInTable es ≡ true → ((x : ℕ) → x < columnLines → length (ofAge x es) ≡ 1)
-    → columnOf bytes ≡ taken (listed (stepsOf es) 0 columnLines) []
-unfolding columnOf byAge eachOnce
-column-taken bytes {es} q ins h = goes _ q ∙ rw (ins, each-one es h)
+-- nothing follows it
+pub column-alone : (bytes : List ℕ) {c rest : List ℕ} → columnOf bytes ≡ taken c rest → columnOf bytes ≡ taken c []
+column-alone bytes {c} q = let i = column-is bytes q in column-taken bytes c (i .long) (i .read)

@@ -8,17 +8,11 @@ use native.Mathlib.Numerals.{add-one}
 use native.Mathlib.Omega.{arith}
 use lib.ListN.{length, getD, drop, drop-of-length-le}
 use lib.Seq.{drop-cons}
-use Rattle.text_tokens.specs.Text.{bytesOf, malformed, taken, takeText}
+use Rattle.text_tokens.specs.Text.{malformed, taken}
 use Rattle.text_tokens.specs.Number.{zeroDigit, isDigit, readDigits}
 use Rattle.text_tokens.specs.laws.DigitLaws.{digit-bounds, digit-within}
 use Rattle.text_tokens.specs.laws.FixedLaws.{read-all, read-past, read-other, read-digit}
 use Rattle.text_tokens.specs.laws.NumberTrip.{malformed-not-taken}
-use Rattle.sheet.specs.laws.SheetTrip.{then-taken}
-use Rattle.run_query.specs.Query.{readField}
-use Rattle.run_query.specs.laws.QueryLaws.{alone-taken}
-use Rattle.run_column_text.specs.declared.Entry.{Entry}
-use Rattle.run_column_text.specs.Column.{wholes, decimals, readQ, readEntry}
-use Rattle.run_column_text.specs.code.Code.{mostSteps}
 
 -- ---- in a list
 
@@ -38,25 +32,6 @@ digits-small v (suc n) (b ∷ bs) {w} {rest} e = go (λ q. digits-small (v * 10 
         let l = ih (sym (read-digit v n b bs h) ∙ e) in
         rw (pow-suc 10 n) (lt-of-lt-of-le l (digit-within v (b - zeroDigit) 10 (10 ^ n) (omega arith)))
     go ih false h = malformed-not-taken (sym (read-other v n b bs h) ∙ e)
-
-pub q-small : (bs : List ℕ) {v : ℕ} {rest : List ℕ} → readQ bs ≡ taken v rest → v < mostSteps
-unfolding readQ
-q-small bs {v} e =
-    then-taken (readDigits 0 wholes bs) _ e λ w b₀ e₀ f₀.
-    then-taken (takeText (bytesOf ".") b₀) _ f₀ λ u b₁ e₁ f₁.
-    let x = digits-small 0 wholes bs e₀ in
-    let y = digits-small w decimals b₁ f₁ in
-    omega arith
-
-pub entry-small : (line : List ℕ) {e : Entry} {rest : List ℕ} → readEntry line ≡ taken e rest → e .steps < mostSteps
-unfolding readEntry
-entry-small line {e} q =
-    then-taken (readField (bytesOf "age=") line) _ q λ age b₀ e₀ f₀.
-    then-taken (takeText (bytesOf " q=") b₀) _ f₀ λ u b₁ e₁ f₁.
-    then-taken (readQ b₁) _ f₁ λ steps b₂ e₂ f₂.
-    then-taken (takeText (bytesOf "\n") b₂) _ f₂ λ v b₃ e₃ f₃.
-    let (none, same) = alone-taken (record { age = age; steps = steps }) b₃ f₃ in
-    rw (← same) (q-small b₁ e₂)
 
 -- ---- from a place on
 

@@ -230,7 +230,7 @@ query-apart : (q : Query) (rest : List ℕ)
 unfolding queryText
 query-apart q rest = simp append-assoc
 
-pub alone-taken : {A : Type 0} (a : A) (bs : List ℕ) {b : A} {rest : List ℕ} → alone a bs ≡ taken b rest → (bs ≡ []) × (a ≡ b)
+alone-taken : {A : Type 0} (a : A) (bs : List ℕ) {b : A} {rest : List ℕ} → alone a bs ≡ taken b rest → (bs ≡ []) × (a ≡ b)
 unfolding alone
 alone-taken a [] e = (refl, cc)
 alone-taken a (c ∷ bs) e = malformed-not-taken e
