@@ -19,7 +19,11 @@
 
    The caller sees to it that no pointer is null, also where its length is 0; that each points to as many elements as its
    length says; and that nothing that is written overlaps anything else that is lent. Nothing else is asked: each call
-   answers every input. */
+   answers every input.
+
+   Threads: the library has no state of its own, neither static nor by thread, and allocates nothing, so that any calls may run at
+   once, also over the same sheet, as long as nothing that one of them writes is lent to another. Stack: a call needs less than
+   64 kB; measured on x86-64, read and write need some 20 kB, a verdict 37, a query or a target 44 to 47, a couple or a run 50. */
 #ifndef KULFIZAN_H
 #define KULFIZAN_H
 

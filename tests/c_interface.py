@@ -1,5 +1,5 @@
-"""The library's calls, as tests use them: built by make, found by python/kulfizan.py, and handed numbers and bytes of which all
-are compared afterwards, with one more behind the last that is lent."""
+"""The library's calls, as tests use them: built by make, found by the package python/kulfizan, and handed numbers and bytes of which
+all are compared afterwards, with one more behind the last that is lent."""
 import array
 import ctypes
 import fcntl
@@ -18,7 +18,7 @@ SET_LENGTH, QUOTE_LENGTH = 372, 4
 
 
 def built():
-    """The module of python/kulfizan.py over the library as it is built from the sources, by one test at a time, or None."""
+    """The package python/kulfizan over the library as it is built from the sources, by one test at a time, or None."""
     make, folder = ["make", "--no-print-directory", "lib", "examples"], ROOT / "target" / "lib"
     folder.mkdir(parents=True, exist_ok=True)
     with open(folder / "lock", "w") as lock:

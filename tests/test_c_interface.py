@@ -23,7 +23,7 @@ import sheets
 import test_quotes
 from c_interface import GREATEST, LEAST, QUOTE_LENGTH, ROOT, SET_LENGTH, listed
 from grid import flat
-from quotes import ANNUITIES, DAY, KINDS, OPEN, UNRATED, Quotes, figure
+from quotes import ANNUITIES, DAY, KINDS, OPEN, TENTHS, UNRATED, Quotes, figure
 from reader import KEYS, LIMITS, LONGEST, OFF_SCALE, SHORT, SIZES, TORN, Set, params_of, read, set_from
 
 SEED = 20142065
@@ -365,9 +365,9 @@ def compare_days(count, module, sheet, given):
     for year, month, day in ((2020, 1, 1), (2041, 3, 15), (2060, 12, 31), (2020, 2, 29), (2075, 12, 31), (2076, 1, 1)):
         date = year * 10**4 + month * 100 + day
         no, numbers = answer(given, 0, (DAY, 65, 2020, date))
-        wanted = no or (*numbers[:2], numbers[3] if numbers[2] else None)
+        wanted = no or (*numbers[:2], numbers[3] if numbers[2] else None, 5)
         for asked in (date, datetime.date(year, month, day)):
-            got = raised(module.day, sheet, 65, 2020, asked) or tuple(module.day(sheet, 65, 2020, asked))
+            got = raised(module.day, sheet, 65, 2020, asked) or module.day(sheet, 65, 2020, asked)
             count.take(got == wanted, f"day to {asked} gives {got} and not {wanted}")
 
 
@@ -383,15 +383,15 @@ def compare_module(count, draw, module):
     asked = [("q", 65, 2020, 0), ("ecoh", 65, 2020, 0), ("per", 30, 2064, 0)]
     for query in asked + [("acoh", 65, 2020, 0, 30_000), ("aper", 119, 2064, 0, 0), ("acoh", 120, 2014, 0, 200_000)]:
         no, numbers = answer(given, 0, query)
-        wanted = None if no else (*numbers[:2], numbers[3] if numbers[2] else None)
-        got = raised(module.quote, sheet, *query) or tuple(module.quote(sheet, *query))
+        wanted = None if no else (*numbers[:2], numbers[3] if numbers[2] else None, 1 if query[0] in TENTHS else 5)
+        got = raised(module.quote, sheet, *query) or module.quote(sheet, *query)
         count.take(got == (no or wanted), f"quote gives {got} and not {no or wanted}")
     compare_days(count, module, sheet, given)
-    lower, upper, steps = module.quote(sheets.text(flat()), "ecoh", 120, 2064)
-    wanted = lower + 5 * 10**8, upper + 5 * 10**8, steps + 5
+    lower, upper, steps, decimals = module.quote(sheets.text(flat()), "ecoh", 120, 2064)
+    wanted = lower + 5 * 10**8, upper + 5 * 10**8, steps + 5, decimals
     count.take(steps == 27, "the flat sheet's expectancy at 120 is not 2.7")
     got = module.quote(sheets.text(flat()), "acoh", 120, 2064, rate=0)
-    count.take(tuple(got) == wanted, "an annuity at rate 0 is not the expectancy and a half")
+    count.take(got == wanted, "an annuity at rate 0 is not the expectancy and a half")
     off_scale, steep = sheets.text(dict(flat(), a=SIZES["a"] + 1)), sheets.text(dict(flat(), A=[0] * 91))
     refusals = [
         (TORN, module.read, b""), (2, module.read, off_scale), (TORN, module.write, []), (TORN, module.write, values + [0]),
@@ -424,12 +424,12 @@ def compare_module(count, draw, module):
 
 
 def compare_places(count, module):
-    """The library is found by the environment, or beside the module; else there is none."""
-    library, script = ROOT / "target" / "lib" / "libkulfizan.so", "import kulfizan; print(kulfizan.path())"
+    """The library is found by the environment, or in the package; else there is none."""
+    library, script = ROOT / "target" / "lib" / "libkulfizan.so", "import kulfizan; kulfizan.LIBRARY; print(kulfizan.path())"
     with tempfile.TemporaryDirectory() as folder:
         here = pathlib.Path(folder).resolve()
-        (here / "module").mkdir()
-        shutil.copy(ROOT / "python" / "kulfizan.py", here / "module")
+        package = here / "module" / "kulfizan"
+        shutil.copytree(ROOT / "python" / "kulfizan", package, ignore=shutil.ignore_patterns("__pycache__", "*.so"))
 
         def found(**more):
             run = [sys.executable, "-B", "-c", script]
@@ -440,8 +440,8 @@ def compare_places(count, module):
         shutil.copy(library, here / "other.so")
         wanted = str(here / "other.so")
         count.take(found(KULFIZAN_LIBRARY=wanted) == wanted, "the library of the environment is not found")
-        shutil.copy(library, here / "module")
-        count.take(found() == str(here / "module" / "libkulfizan.so"), "the library beside the module is not found")
+        shutil.copy(library, package)
+        count.take(found() == str(package / "libkulfizan.so"), "the library in the package is not found")
         count.take(found(KULFIZAN_LIBRARY=wanted) == wanted, "the library of the environment does not come first")
     count.take(module.path() == library, "the library of target/lib is not found")
 

@@ -567,8 +567,8 @@ def compare_call(count, counts, draw, module, first, second, query, given=None):
     kind, *numbers = query
     no, quoted = wanted_quote(first, second, query)
     count.take(given is None or given == no, f"{query}: the second implementation gives {no} and not {given}")
-    wanted = no or (*quoted[:2], quoted[3] if quoted[2] else None)
-    got = raised(module.couple, first, second, *query) or tuple(module.couple(first, second, *query))
+    wanted = no or (*quoted[:2], quoted[3] if quoted[2] else None, 5 if kind in CHANCES else 1)
+    got = raised(module.couple, first, second, *query) or module.couple(first, second, *query)
     count.take(got == wanted, f"couple {query} gives {got} and not {wanted}")
     counts["calls"] += 1
     counts[f"call refused {no}" if no else f"call {'printed' if quoted[2] else 'open'}"] += 1

@@ -1,0 +1,6 @@
+"""`python -m kulfizan`: the commands."""
+import sys
+
+from kulfizan.cli import main
+
+sys.exit(main())
