@@ -9,8 +9,7 @@ import sys
 import tempfile
 
 ROOT = pathlib.Path(__file__).resolve().parent.parent
-# The lines are those that there are; 3,900 is the number to come back to (docs/DECISIONS.md).
-MOST_FILES, MOST_LINES = 90, 4018
+MOST_FILES, MOST_LINES = 90, 3900
 
 
 def believed(root):

@@ -1,2 +1,3 @@
 pub mod SetNumbers
+pub mod code
 pub mod laws

@@ -1,11 +1,11 @@
 -- A parameter set as a list of 372 numbers, as programs in other languages hold it, and what the calls over such lists
 -- give.
-use Prim.Native.Nat.{ℕ, zero, suc, _+_}
+use Prim.Native.Nat.{ℕ, zero, suc}
 use mathlib.Core.Bool.{Bool, false, _&&_, cond}
 use mathlib.Core.List.{List, _∷_, _++_}
 use lib.Dec.{eqb, leb}
 use lib.IntN.{ℤ, pos, negsuc}
-use lib.ListN.{length, getD, take, drop}
+use lib.ListN.{length, getD, drop}
 use Rattle.set_params.specs.declared.Params.{Params}
 use Rattle.set_params.specs.declared.Table.{Table}
 use Rattle.set_params.specs.declared.Table.the-variants.{Ag2014, LiLee}
@@ -13,7 +13,6 @@ use Rattle.set_params.specs.declared.Sex.{Sex}
 use Rattle.set_params.specs.declared.Sex.the-variants.{M, F}
 use Rattle.set_refusal.specs.declared.Refusal.the-variants.{Malformed, BufferTooShort}
 use Rattle.set_refusal.specs.Refusals.{refusalNumber}
-use Rattle.sheet.specs.declared.Written.{Written}
 use Rattle.sheet.specs.Sheet.{allValues, paramsOf, sheetText, readSheet, writeRefusal, writtenBuffer}
 
 -- ---- a set's numbers
@@ -59,10 +58,6 @@ setOf ns = paramsOf (tableOf (getD ns 0 (pos 0))) (sexOf (getD ns 1 (pos 0))) (d
 
 -- ---- reading a sheet into numbers
 
--- the numbers with others written over them from a place on
-unfoldable pub over : List ℤ → ℕ → List ℤ → List ℤ
-over before at ns = take at before ++ (ns ++ drop (at + length ns) before)
-
 -- the numbers with a set's in their first places
 unfoldable pub setOver : Params → List ℤ → List ℤ
 setOver p before = setNumbers p ++ drop setLength before
@@ -78,10 +73,6 @@ unfoldable pub numbersAfter : List ℕ → List ℤ → List ℤ
 numbersAfter sheet before = cond (eqb (readNo sheet (length before)) 0) (setOver (readSheet sheet .set) before) before
 
 -- ---- writing numbers into a sheet
-
--- a writer's length where it accepts, else what stood there
-unfoldable pub toldLength : Written → ℕ → ℕ
-toldLength got before = cond (eqb (refusalNumber (got .refusal)) 0) (got .len) before
 
 -- malformed where the numbers are no set's, else the writer's refusal
 unfoldable pub writeNo : List ℤ → ℕ → ℕ

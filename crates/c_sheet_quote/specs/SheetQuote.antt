@@ -2,14 +2,14 @@
 use mathlib.Core.Bool.{cond, _||_}
 use mathlib.Core.List.{List, [], _∷_, _++_}
 use Prim.Native.Nat.{ℕ}
-use lib.Dec.{eqb, leb}
+use lib.Dec.{leb}
 use lib.IntN.{ℤ}
 use lib.ListN.{length, drop}
 use Rattle.text_tokens.specs.Text.{Parse, malformed, taken, andThen}
 use Rattle.set_refusal.specs.declared.Refusal.the-variants.{Accepted, Malformed, BufferTooShort}
 use Rattle.set_refusal.specs.Refusals.{refusalNumber}
 use Rattle.sheet.specs.declared.Reading.{Reading}
-use Rattle.sheet.specs.Sheet.{readSheet}
+use Rattle.sheet.specs.Sheet.{readSheet, bySheet}
 use Rattle.number_exact.specs.declared.Figure.{Figure}
 use Rattle.number_exact.specs.declared.Figure.the-variants.{Printed, Open}
 use Rattle.quote_kinds.specs.declared.Kind.{Kind}
@@ -39,8 +39,7 @@ ratedKindOf word rate = andThen (wordKind word) (λ kind rest. cond (takesRate k
 -- malformed, which has the lowest number; else the sheet's refusal; else the answer of its set
 unfoldable pub answerTo : Parse Kind → Reading → ℤ → ℤ → ℤ → Answer
 answerTo malformed got age year term = Refused Malformed
-answerTo (taken kind rest) got age year term =
-    cond (eqb (refusalNumber (got .refusal)) 0) (answerOf (got .set) kind age year term) (Refused (got .refusal))
+answerTo (taken kind rest) got age year term = bySheet Refused (λ p. answerOf p kind age year term) got
 
 -- the answer to a query of a sheet's bytes, by the kind that was read
 unfoldable pub sheetAnswer : List ℕ → Parse Kind → ℤ → ℤ → ℤ → Answer

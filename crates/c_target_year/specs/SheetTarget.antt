@@ -1,25 +1,17 @@
 -- The year a target is reached by a sheet's bytes, as a call gives it: its number, and the two numbers after it.
-use mathlib.Core.Bool.{cond}
 use mathlib.Core.List.{List}
 use Prim.Native.Nat.{ℕ}
-use lib.Dec.{eqb}
 use lib.IntN.{ℤ, pos}
 use Rattle.set_refusal.specs.declared.Refusal.the-variants.{Accepted}
 use Rattle.set_refusal.specs.Refusals.{refusalNumber}
-use Rattle.sheet.specs.declared.Reading.{Reading}
-use Rattle.sheet.specs.Sheet.{readSheet}
+use Rattle.sheet.specs.Sheet.{readSheet, bySheet}
 use Rattle.quote_target.specs.declared.TargetYear.{TargetYear}
 use Rattle.quote_target.specs.declared.TargetYear.the-variants.{Reached, Open, Never, Refused}
 use Rattle.quote_target.specs.Target.{targetAnswer}
 
--- the sheet's refusal, 1 or 2, comes before all others
-unfoldable pub targetBy : Reading → ℤ → ℤ → TargetYear
-targetBy got age target =
-    cond (eqb (refusalNumber (got .refusal)) 0) (targetAnswer (got .set) age target) (Refused (got .refusal))
-
 -- the answer of a sheet's bytes, an age and a target
 unfoldable pub sheetTarget : List ℕ → ℤ → ℤ → TargetYear
-sheetTarget sheet age target = targetBy (readSheet sheet) age target
+sheetTarget sheet age target = bySheet Refused (λ p. targetAnswer p age target) (readSheet sheet)
 
 -- what a call gives: 0, or the refusal's number
 unfoldable pub targetNo : TargetYear → ℕ

@@ -9,8 +9,7 @@ use Rattle.set_refusal.specs.Refusals.{refusalNumber}
 use Rattle.run_line.specs.declared.Mode.the-variants.{Quotes}
 use Rattle.run.specs.declared.Program.{Program}
 use Rattle.run.specs.declared.Program.the-variants.{Lines}
-use Rattle.run.specs.Run.{textBuffer}
-use Rattle.run.specs.Run.{runOf}
+use Rattle.run.specs.Run.{textBuffer, runOf}
 
 -- 0 prints as the program `quotes` does, any other number as `ends`
 unfoldable pub programOf : ℕ → Program

@@ -10,7 +10,7 @@ ghost use Rattle.c_set_numbers.specs.SetNumbers.{readNo, numbersAfter, writeNo,
 ghost use Rattle.c_sheet_quote.specs.SheetQuote.{kindOf, ratedKindOf, sheetAnswer, quoteNo, quoteAfter};
 ghost use Rattle.c_couple_quote.specs.SheetsCouple.{coupleKindOf, sheetsAnswer};
 ghost use Rattle.c_target_year.specs.SheetTarget.{sheetTarget, targetNo, foundAfter, yearAfter};
-ghost use Rattle.run_column_verdict.specs.SheetVerdict.{sheetVerdict, verdictNo, verdictAfter};
+ghost use Rattle.run_column_verdict.specs.ColumnVerdict.{sheetVerdict, verdictNo, verdictAfter};
 ghost use Rattle.kulfizan.specs.Run.{runNo, runBuffer, runLength};
 use run::Program;
 use run_line::Mode;

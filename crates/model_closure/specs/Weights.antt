@@ -32,10 +32,6 @@ weight x i = pos 10 +ℤ (pos (firstFitted + i) -ℤ pos 85) *ℤ (pos x -ℤ po
 unfoldable pub weightRow : ℕ → List ℤ
 weightRow x = listed (weight x) 0 fitted
 
--- of all fitted ages at the ages 91 to 120
-unfoldable pub weightTable : List (List ℤ)
-weightTable = listed weightRow firstClosed closed
-
 -- ---- a table of rows against "the rule and row total"
 
 -- a row with its total beside it

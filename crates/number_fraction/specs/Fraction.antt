@@ -3,7 +3,7 @@
 use Prim.Native.Nat.{ℕ, _*_, _<_}
 use native.Mathlib.Nat.{mul-pos}
 use lib.Dec.{lit<}
-use lib.IntN.{ℤ, pos, natAbs, _+ℤ_, _-ℤ_, _*ℤ_}
+use lib.IntN.{ℤ, pos, natAbs, _+ℤ_, _*ℤ_}
 use lib.Signed.{_≤ℤ_}
 use Rattle.number_fraction.specs.Ratio.{Ratio}
 
@@ -34,24 +34,6 @@ infixl 60 _+ℚ_
 unfoldable pub _+ℚ_ : Fraction → Fraction → Fraction
 x +ℚ y = record {
   num = x .num *ℤ pos (y .den) +ℤ y .num *ℤ pos (x .den);
-  den = x .den * y .den;
-  positive = mul-pos (x .positive) (y .positive);
-}
-
--- a/b − c/d = (a·d − c·b)/(b·d)
-infixl 60 _-ℚ_
-unfoldable pub _-ℚ_ : Fraction → Fraction → Fraction
-x -ℚ y = record {
-  num = x .num *ℤ pos (y .den) -ℤ y .num *ℤ pos (x .den);
-  den = x .den * y .den;
-  positive = mul-pos (x .positive) (y .positive);
-}
-
--- a/b · c/d = (a·c)/(b·d)
-infixl 70 _*ℚ_
-unfoldable pub _*ℚ_ : Fraction → Fraction → Fraction
-x *ℚ y = record {
-  num = x .num *ℤ y .num;
   den = x .den * y .den;
   positive = mul-pos (x .positive) (y .positive);
 }

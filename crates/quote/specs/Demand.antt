@@ -84,11 +84,6 @@ queryWidth kind age year term = widthOf (ruleOf kind) (natAbs age) (natAbs (span
 abbrev pub RoundsAt : Params → Kind → ℤ → ℤ → ℤ → ℕ → Type 0
 RoundsAt p kind age year term n = RoundsTo billionths (step kind) n (exactQuery p kind age year term)
 
--- an accepted query is kept
-abbrev pub Kept : Params → Kind → ℤ → ℤ → ℤ → Answer → Type 0
-Kept p kind age year term a =
-    KeptBy (queryEnds p kind age year term) (exactQuery p kind age year term) (step kind) (queryWidth kind age year term) a
-
 -- "Demand 3 is one claim over any two accepted quotes of one kind": what is promised of a by itself, and of any second quote of
 -- the kind that is printed, whichever its set, age, year, term and rate, the figures are equal exactly when the two exact values
 -- round to one same step

@@ -32,7 +32,7 @@ use Rattle.quote.specs.laws.Tests.{counted, path-first, path-room, path-in}
 use Rattle.quote.proofs.Steps.{refused, failed-append, first-passed, number-none}
 use Rattle.quote_couple.specs.Couple.{lifePath, coupleEnds, sameStart, coupleTable, coupleRefusal, coupleStep, coupleAnswer}
 use Rattle.quote_couple.specs.code.Code.{pathsAnswer}
-use Rattle.quote_couple.specs.CoupleDemand.{CoupleDemand3}
+use Rattle.quote_couple.specs.Couple.{CoupleDemand3}
 use Rattle.quote_couple.specs.laws.Theorem.{demand-met}
 use Rattle.quote_couple.specs.laws.CoupleTests.{CoupleIn, couple-in, life-in, single-plain, same-starts, other-starts}
 

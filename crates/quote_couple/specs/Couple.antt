@@ -1,13 +1,15 @@
 -- The quote of a couple (paper 02, E8): "two lives, each with its own sheet, age and one common quote year". Its refusal, and else
 -- its ends and figure.
+use mathlib.Core.Path.{_≡_}
+use mathlib.Core.Logic.{_↔_}
 use mathlib.Core.Bool.{Bool, _&&_}
 use mathlib.Core.List.{List, [], _∷_, _++_}
 use Prim.Native.Nat.{ℕ}
-use lib.IntN.{ℤ}
+use lib.IntN.{ℤ, natAbs}
 use lib.Signed.{leZ}
 use Rattle.number_exponential.specs.declared.Ends.{Ends}
 use Rattle.number_exponential.specs.Billionths.{billionths}
-use Rattle.number_exact.specs.Value.{Exact}
+use Rattle.number_exact.specs.Value.{Exact, OneStep}
 use Rattle.set_params.specs.declared.Params.{Params}
 use Rattle.set_refusal.specs.declared.Refusal.{Refusal}
 use Rattle.set_refusal.specs.declared.Refusal.the-variants.{OutOfLimits, NoSuchAge, NoSuchYear, NoSuchSpan, LogForceOutOfRange, StartsDiffer}
@@ -16,12 +18,13 @@ use Rattle.quote_paths.specs.Path.{Place, factors, orderFactors, pathInRange}
 use Rattle.quote_kinds.specs.declared.Rule.{Rule}
 use Rattle.quote_kinds.specs.Kinds.{ruleOf, stepOf}
 use Rattle.quote_couple_kinds.specs.declared.CoupleKind.{CoupleKind}
-use Rattle.quote_couple_kinds.specs.CoupleKinds.{singleOf}
+use Rattle.quote_couple_kinds.specs.CoupleKinds.{singleOf, coupleWidth}
 use Rattle.quote_two_lives.specs.TwoLives.{coupleOver}
 use Rattle.quote_two_lives.specs.Exact.{orderCoupleOver}
 use Rattle.quote_table_tests.specs.TableTests.{Test, ageInTable, yearInTable, spanInTable, firstFailed}
 use Rattle.quote_along.specs.declared.Answer.{Answer}
 use Rattle.quote.specs.Quote.{queryPath, quoteBy, answerBy}
+use Rattle.quote.specs.Demand.{printed, figureShown, Promised}
 
 -- ---- the paths, the ends and the exact value
 
@@ -75,3 +78,15 @@ coupleStep k = stepOf (ruleOf (singleOf k) .fold)
 unfoldable pub coupleAnswer : Params → Params → CoupleKind → ℤ → ℤ → ℤ → ℤ → Answer
 coupleAnswer p p′ k age age′ year span =
     answerBy (coupleRefusal p p′ k age age′ year span) (quoteBy (coupleStep k) (coupleEnds p p′ k age age′ year span))
+
+-- ---- what is promised of it (paper 01, "The exact value"; paper 02, E8: "Ends may be twice as wide as for one life, in demand 3
+-- too")
+
+-- demand 3 of a couple: what is promised of a by itself, and of any second couple's quote of the kind that is printed, whichever
+-- its sets, ages, year and span, the figures are equal exactly when the two exact values round to one same step
+pub record CoupleDemand3 (p p′ : Params) (k : CoupleKind) (age age′ year span : ℤ) (a : Answer) : Type 0 where
+  pub alone : Promised (coupleRefusal p p′ k age age′ year span) (coupleEnds p p′ k age age′ year span)
+      (exactCouple p p′ k age age′ year span) (coupleStep k) (coupleWidth k (natAbs age) (natAbs span)) a
+  pub one-step : (n : ℕ) → figureShown a ≡ printed n
+      → (q q′ : Params) (x x′ y s : ℤ) (m : ℕ) → figureShown (coupleAnswer q q′ k x x′ y s) ≡ printed m
+      → (n ≡ m) ↔ OneStep billionths (coupleStep k) (exactCouple p p′ k age age′ year span) (exactCouple q q′ k x x′ y s)

@@ -1,4 +1,3 @@
 pub mod Couple
-pub mod CoupleDemand
 pub mod code
 pub mod laws

@@ -1,20 +1,11 @@
 -- The kinds of a couple's figures (paper 02, E8): "the chances that both live and that at least one lives after a span, and the
--- expectancy of each of these two states". Of each the status of the two lives, and the kind of a single life that it follows.
+-- expectancy of each of these two states". Of each the kind of a single life that it follows.
 use Prim.Native.Nat.{ℕ, _*_}
 use Rattle.quote_kinds.specs.declared.Kind.{Kind}
 use Rattle.quote_kinds.specs.declared.Kind.the-variants as kind
 use Rattle.quote_kinds.specs.Kinds.{ruleOf, widthOf}
-use Rattle.quote_couple_kinds.specs.declared.Status.{Status}
-use Rattle.quote_couple_kinds.specs.declared.Status.the-variants as status
 use Rattle.quote_couple_kinds.specs.declared.CoupleKind.{CoupleKind}
 use Rattle.quote_couple_kinds.specs.declared.CoupleKind.the-variants.{JointLife, LastSurvivor, JointExpectancy, LastExpectancy}
-
--- "both live": joint life; "at least one lives": last survivor
-unfoldable pub statusOf : CoupleKind → Status
-statusOf JointLife = status.JointLife
-statusOf LastSurvivor = status.LastSurvivor
-statusOf JointExpectancy = status.JointLife
-statusOf LastExpectancy = status.LastSurvivor
 
 -- "Wanted, along the cohort": each life's path is that of `coh` or of `ecoh`. "Steps are those of the single life."
 unfoldable pub singleOf : CoupleKind → Kind

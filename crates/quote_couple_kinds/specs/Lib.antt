@@ -1,1 +1,2 @@
 pub mod CoupleKinds
+pub mod code

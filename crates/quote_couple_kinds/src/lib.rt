@@ -1,6 +1,7 @@
 // The kinds of a couple's figures: the status of the two lives that each asks for, and the single life's kind that it follows.
 ghost use mathlib.Core.Path.{_≡_};
-ghost use Rattle.quote_couple_kinds.specs.CoupleKinds.{statusOf, singleOf};
+ghost use Rattle.quote_couple_kinds.specs.CoupleKinds.{singleOf};
+ghost use Rattle.quote_couple_kinds.specs.code.Code.{statusOf};
 use quote_kinds::Kind;
 
 // The joint life status holds while both live, the last survivor status while at least one lives.

@@ -3,7 +3,8 @@
 ghost use mathlib.Core.Path.{_≡_};
 ghost use Rattle.quote_kinds.specs.Kinds.{OneKind};
 ghost use Rattle.quote.specs.Demand.{shownOf, figureShown};
-ghost use Rattle.quote_two.specs.Claim.{kindNumber, oneKind, stepsShown, Settled};
+ghost use Rattle.quote_two.specs.Claim.{Settled};
+ghost use Rattle.quote_two.specs.code.Code.{kindNumber, oneKind, stepsShown};
 use number_exact::Figure;
 use quote_along::Answer;
 use quote_kinds::Kind;

@@ -34,8 +34,7 @@ use Rattle.quote_verdicts.specs.Verdict.{
   judgedBy,
   judged,
 }
-use Rattle.quote_verdicts.specs.Meaning.{Honest}
-use Rattle.quote_verdicts.specs.code.Code.{columnRead, figureIn}
+use Rattle.quote_verdicts.specs.code.Code.{columnRead, figureIn, Honest}
 use Rattle.quote_verdicts.specs.laws.VerdictLaws.{verdict-same}
 use Rattle.quote_verdicts.specs.laws.Figures.{figures-in}
 use Rattle.quote_verdicts.specs.laws.Theorem.{verdict-honest}

@@ -2,7 +2,7 @@
 -- that was read is its 121 entries by age, each a number of steps of 0.00001.
 use mathlib.Core.Bool.{Bool, true, false, cond, not, _||_}
 use mathlib.Core.List.{List, [], _∷_}
-use Prim.Native.Nat.{ℕ, zero, suc}
+use Prim.Native.Nat.{ℕ, zero, suc, _<_}
 use lib.Dec.{eqb}
 use lib.IntN.{ℤ, pos}
 use lib.ListN.{getD}
@@ -19,7 +19,7 @@ use Rattle.quote_kinds.specs.declared.Kind.the-variants.{Death}
 use Rattle.quote_kinds.specs.Kinds.{ruleOf}
 use Rattle.quote_table_tests.specs.TableTests.{yearInTable, firstFailed, Test}
 use Rattle.quote.specs.Quote.{answerOf}
-use Rattle.quote.specs.Demand.{Shown, printed, markedOpen, noFigure, figureShown}
+use Rattle.quote.specs.Demand.{Shown, printed, markedOpen, noFigure, figureShown, RoundsAt}
 use Rattle.quote_verdicts.specs.declared.Verdict.{Verdict}
 use Rattle.quote_verdicts.specs.declared.Verdict.the-variants.{Right, Wrong, Open}
 use Rattle.quote_verdicts.specs.declared.Judged.{Judged}
@@ -101,3 +101,20 @@ judgedBy r v = cond (eqb (refusalNumber r) 0) (Of v) (Refused r)
 
 unfoldable pub judged : Params → ℤ → Parse (List ℕ) → Judged
 judged p year read = judgedBy (columnRefusal p year read) (verdictOf p year (entriesIn read))
+
+-- ---- what it says of the exact values: "Right is returned only for a column whose every entry is the rounded exact value, wrong
+-- only for one with an entry that isn't."
+
+-- the entry of age x is the exact value of `q` at that age and in that year, rounded half up
+abbrev pub Rounded : Params → ℤ → List ℕ → ℕ → Type 0
+Rounded p year column x = RoundsAt p Death (pos x) year (pos 0) (entryAt column x)
+
+-- every entry is
+abbrev pub EachRounded : Params → ℤ → List ℕ → Type 0
+EachRounded p year column = (x : ℕ) → x < columnAges → Rounded p year column x
+
+-- some entry isn't
+pub record SomeOther (p : Params) (year : ℤ) (column : List ℕ) : Type 0 where
+  pub age : ℕ
+  pub in-column : age < columnAges
+  pub other : Rounded p year column age → ⊥

@@ -9,8 +9,7 @@ use Rattle.text_tokens.specs.Text.{Parse, malformed, taken}
 use Rattle.text_printing.specs.code.Put.{Room, Put}
 use Rattle.text_printing.specs.laws.PutLaws.{put-as, room-as, room-first, room-rest, put-join}
 use Rattle.set_refusal.specs.declared.Refusal.the-variants.{Malformed}
-use Rattle.run_answer_text.specs.AnswerText.{refusalLine}
-use Rattle.run_answer_text.specs.Line.{withoutFeed, answered}
+use Rattle.run_answer_text.specs.AnswerText.{refusalLine, withoutFeed, answered}
 use Rattle.run_answer_text.specs.laws.LineLaws.{Bounded, Lengths, answered-malformed, answered-taken}
 
 -- there is room for the answer, and a line that is read has a byte

@@ -1,11 +1,13 @@
--- What is printed after a query: ` fig=` and a figure or `open`, with the two ends before it where they are shown, or ` no=`
--- and a refusal.
+-- "It echoes each with ` fig=` and a figure or `open`, or ` no=` and a refusal. .. A torn query prints `no=1` only": what is printed
+-- after a query, with the two ends before the figure where they are shown, and the answer to a line.
 use mathlib.Core.Bool.{Bool, cond}
 use mathlib.Core.List.{List, [], _++_}
-use Prim.Native.Nat.{ℕ}
-use Rattle.text_tokens.specs.Text.{bytesOf}
+use Prim.Native.Nat.{ℕ, _-_}
+use lib.ListN.{length, take}
+use Rattle.text_tokens.specs.Text.{bytesOf, Parse, malformed, taken}
 use Rattle.text_tokens.specs.Number.{unsignedText}
 use Rattle.set_refusal.specs.declared.Refusal.{Refusal}
+use Rattle.set_refusal.specs.declared.Refusal.the-variants.{Malformed}
 use Rattle.set_refusal.specs.Refusals.{refusalNumber}
 use Rattle.quote_kinds.specs.declared.Kind.{Kind}
 use Rattle.quote_kinds.specs.Kinds.{ruleOf, decimalsOf}
@@ -38,3 +40,15 @@ kindDecimals kind = decimalsOf (ruleOf kind .fold)
 unfoldable pub answerText : Bool → ℕ → Answer → List ℕ
 answerText ends d (Quoted a) = quoteText ends d a
 answerText ends d (Refused r) = refusedText r
+
+-- ---- a line, whatever reads it and whatever follows it
+
+-- a line without its last byte, the line feed
+abbrev pub withoutFeed : List ℕ → List ℕ
+withoutFeed line = take (length line - 1) line
+
+-- the answer to a line, by what reads it and what follows it: `no=1` alone where it is malformed, else its own text and behind it
+-- what follows
+unfoldable pub answered : {A : Type 0} → (List ℕ → Parse A) → (A → List ℕ) → List ℕ → List ℕ
+answered read follows line =
+    elim (read line) [ malformed ↦ refusalLine Malformed | taken q rest ↦ withoutFeed line ++ follows q ]

@@ -1,5 +1,4 @@
 pub mod AnswerText
-pub mod Line
 pub mod code
 pub mod laws
 pub mod examples

@@ -7,7 +7,7 @@ ghost use lib.ListN.{length};
 ghost use Rattle.text_tokens.specs.Number.{mostDigits, unsignedText, numberText};
 ghost use Rattle.text_printing.specs.code.Put.{Room, Put};
 ghost use Rattle.run_answer_text.specs.AnswerText.{refusalLine, refusedText, endsText, quoteText, kindDecimals, answerText};
-ghost use Rattle.run_answer_text.specs.Line.{withoutFeed};
+ghost use Rattle.run_answer_text.specs.AnswerText.{withoutFeed};
 ghost use Rattle.run_answer_text.specs.code.Sizes.{Sized, SizedAnswer};
 use quote_along::Answer;
 use quote_along::Quote;

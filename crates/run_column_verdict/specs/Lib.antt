@@ -1,3 +1,2 @@
 pub mod ColumnVerdict
-pub mod SheetVerdict
 pub mod laws

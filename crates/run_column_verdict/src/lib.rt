@@ -2,7 +2,7 @@
 // numbered refusal. By a set, and by the bytes of a sheet, whose answer goes as a number into a place that the caller lends.
 ghost use mathlib.Core.Path.{_≡_};
 ghost use Rattle.run_column_verdict.specs.ColumnVerdict.{columnVerdict, HonestOn};
-ghost use Rattle.run_column_verdict.specs.SheetVerdict.{sheetVerdict, verdictNumber, verdictNo, verdictAfter};
+ghost use Rattle.run_column_verdict.specs.ColumnVerdict.{sheetVerdict, verdictNumber, verdictNo, verdictAfter};
 use quote_verdicts::Judged;
 use quote_verdicts::Verdict;
 use set_params::Params;

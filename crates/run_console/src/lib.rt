@@ -1,7 +1,7 @@
 // What the programs share: the run of standard input on standard output.
 ghost use Prim.Native.Nat.{_+_, _*_, _≤_};
 ghost use lib.ListN.{length};
-ghost use Rattle.run_line.specs.Line.{mostLine};
+ghost use Rattle.run_line.specs.code.Sizes.{mostLine};
 use run::Program;
 use run_line::MOST_LINE;
 use run_streams::Input;

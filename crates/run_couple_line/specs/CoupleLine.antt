@@ -8,8 +8,7 @@ use Rattle.quote_along.specs.declared.Answer.{Answer}
 use Rattle.quote_couple.specs.Couple.{coupleAnswer}
 use Rattle.run_couple_query.specs.declared.CoupleQuery.{CoupleQuery}
 use Rattle.run_couple_query.specs.CoupleQuery.{readCouple}
-use Rattle.run_answer_text.specs.AnswerText.{kindDecimals, answerText}
-use Rattle.run_answer_text.specs.Line.{answered}
+use Rattle.run_answer_text.specs.AnswerText.{kindDecimals, answerText, answered}
 
 -- the answer to a query
 unfoldable pub queryCouple : Params → Params → CoupleQuery → Answer

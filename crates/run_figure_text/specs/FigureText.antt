@@ -1,8 +1,8 @@
--- "A probability prints five decimals, an expectancy one": a figure as text.
+-- "A probability prints five decimals, an expectancy one": a figure as text, and its steps read back from it.
 use mathlib.Core.List.{List, [], _∷_, _++_}
 use Prim.Native.Nat.{ℕ, zero, suc, _+_, _/_, _%_, _^_}
-use Rattle.text_tokens.specs.Text.{bytesOf}
-use Rattle.text_tokens.specs.Number.{zeroDigit, unsignedText}
+use Rattle.text_tokens.specs.Text.{bytesOf, Parse, takeText, andThen}
+use Rattle.text_tokens.specs.Number.{zeroDigit, unsignedText, readUnsigned, readDigits}
 use Rattle.number_exact.specs.declared.Figure.{Figure}
 use Rattle.number_exact.specs.declared.Figure.the-variants.{Printed, Open}
 
@@ -23,3 +23,11 @@ figureText d Open = bytesOf "open"
 -- a figure with its name, as it follows a query
 unfoldable pub shownText : ℕ → Figure → List ℕ
 shownText d figure = bytesOf " fig=" ++ figureText d figure
+
+-- ---- read back
+
+-- a number without a sign, a point and d digits: the number that the digits stand for with the point left out
+unfoldable pub readSteps : ℕ → List ℕ → Parse ℕ
+readSteps d bs =
+    andThen (readUnsigned bs) (λ v after.
+    andThen (takeText (bytesOf ".") after) (λ u rest. readDigits v d rest))

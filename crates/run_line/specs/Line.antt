@@ -6,8 +6,7 @@ use Rattle.quote_along.specs.declared.Answer.{Answer}
 use Rattle.quote.specs.Quote.{answerOf}
 use Rattle.run_query.specs.declared.Query.{Query}
 use Rattle.run_query.specs.Query.{readQuery}
-use Rattle.run_answer_text.specs.AnswerText.{kindDecimals, answerText}
-use Rattle.run_answer_text.specs.Line.{answered}
+use Rattle.run_answer_text.specs.AnswerText.{kindDecimals, answerText, answered}
 use Rattle.quote_compare.specs.Compare.{comparisonOf}
 use Rattle.run_compare_text.specs.CompareText.{comparisonText}
 use Rattle.run_couple_line.specs.CoupleLine.{coupleLine, mostCouple}
@@ -51,7 +50,3 @@ longestLine (Quotes ends) = longestReply (Quote ends)
 longestLine Compare = longestReply Compared
 longestLine Couples = mostCouple
 longestLine Targets = mostTarget
-
--- no answer is longer, whichever the mode
-abbrev pub mostLine : ℕ
-mostLine = 205

@@ -10,8 +10,7 @@ use Rattle.quote_target.specs.declared.TargetYear.{TargetYear}
 use Rattle.quote_target.specs.declared.TargetYear.the-variants.{Reached, Open, Never, Refused}
 use Rattle.quote_target.specs.Target.{targetAnswer}
 use Rattle.run_query.specs.Query.{readField, ended}
-use Rattle.run_answer_text.specs.AnswerText.{refusedText}
-use Rattle.run_answer_text.specs.Line.{answered}
+use Rattle.run_answer_text.specs.AnswerText.{refusedText, answered}
 use Rattle.run_target_line.specs.declared.TargetQuery.{TargetQuery}
 
 unfoldable pub readTarget : List ℕ → Parse TargetQuery

@@ -1,9 +1,7 @@
 -- The parameter set as the definitions read it: through A, B, alpha and beta at an age, whatever its layout.
 use Prim.Native.Nat.{ℕ}
 use lib.IntN.{ℤ, pos, natAbs, _-ℤ_}
-use lib.ListN.{getD, length, replicate}
-use mathlib.Core.Path.{_≡_}
-use mathlib.Core.List.{List}
+use lib.ListN.{getD, replicate}
 use Rattle.set_params.specs.declared.Params.{Params}
 use Rattle.set_params.specs.declared.Age.{Age}
 use Rattle.set_params.specs.declared.Dynamics.{Dynamics}
@@ -38,23 +36,6 @@ dynamicsOf p = record { a = p .a; theta = p .theta; c = p .c }
 -- a year, counted from the start: "The years 2013, 2014, 2064 and 2184 in 01, E2 and E6 move with the start"
 unfoldable pub yearNumber : ℤ → ℤ → ℕ
 yearNumber start year = natAbs (year -ℤ start)
-
--- the numbers at place x of four runs
-abbrev pub fourAt : List ℤ → List ℤ → List ℤ → List ℤ → ℕ → Age
-fourAt level slope alpha beta x =
-    record {
-      level = getD level x (pos 0);
-      slope = getD slope x (pos 0);
-      alpha = getD alpha x (pos 0);
-      beta = getD beta x (pos 0);
-    }
-
--- each run has one number for each age, as in every set that a program holds
-pub record Whole (p : Params) : Type 0 where
-  pub level : length (p .level) ≡ ages
-  pub slope : length (p .slope) ≡ ages
-  pub alpha : length (p .alpha) ≡ ages
-  pub beta : length (p .beta) ≡ ages
 
 -- "marked AG2014, with start 2013 and c 0", sex M and every number 0
 unfoldable pub blank : Params

@@ -3,7 +3,8 @@ ghost use mathlib.Core.Path.{_≡_};
 ghost use Prim.Native.Nat.{_<_};
 ghost use lib.IntN.{pos};
 ghost use lib.Signed.{_≤ℤ_};
-ghost use Rattle.set_params.specs.Set.{ages, fourAt, yearNumber, blank};
+ghost use Rattle.set_params.specs.Set.{ages, yearNumber, blank};
+ghost use Rattle.set_params.specs.code.Runs.{fourAt};
 
 // The table that a set came from.
 pub enum Table {

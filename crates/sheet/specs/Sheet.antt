@@ -5,10 +5,10 @@
 use Prim.Native.Nat.{ℕ, zero, suc, _+_, _*_}
 use mathlib.Core.Bool.{cond}
 use mathlib.Core.List.{List, [], _∷_, _++_}
-use lib.Dec.{leb}
+use lib.Dec.{eqb, leb}
 use lib.IntN.{ℤ, pos}
 use lib.ListN.{getD, length, take, drop}
-use Rattle.text_tokens.specs.Text.{bytesOf, Parse, malformed, taken, takeText}
+use Rattle.text_tokens.specs.Text.{bytesOf, Parse, malformed, taken, takeText, andThen}
 use Rattle.text_tokens.specs.Number.{readNumber, numberText, unsignedText}
 use Rattle.set_params.specs.declared.Params.{Params}
 use Rattle.set_params.specs.declared.Table.{Table}
@@ -17,6 +17,7 @@ use Rattle.set_params.specs.declared.Sex.{Sex}
 use Rattle.set_params.specs.declared.Sex.the-variants.{M, F}
 use Rattle.set_refusal.specs.declared.Refusal.{Refusal}
 use Rattle.set_refusal.specs.declared.Refusal.the-variants.{Accepted, Malformed, OutOfLimits, BufferTooShort}
+use Rattle.set_refusal.specs.Refusals.{refusalNumber}
 use Rattle.sheet.specs.declared.Reading.{Reading}
 use Rattle.sheet.specs.declared.Written.{Written}
 use Rattle.set_params.specs.Set.{A, B, alpha, beta, ages, blank}
@@ -87,23 +88,14 @@ sheetText p = tableText (p .table) ++ (sexText (p .sex) ++ linesText (keys (p .t
 -- a line with this key: its number, and what follows the line feed
 unfoldable pub readLine : List ℕ → List ℕ → Parse ℤ
 readLine key bs =
-    elim (takeText (key ++ bytesOf "=") bs) [
-      | malformed ↦ malformed
-      | taken u after ↦
-          elim (readNumber after) [
-            | malformed ↦ malformed
-            | taken v rest ↦ elim (takeText (bytesOf "\n") rest) [ malformed ↦ malformed | taken w next ↦ taken v next ]
-          ]
-    ]
+    andThen (takeText (key ++ bytesOf "=") bs) (λ u after.
+    andThen (readNumber after) (λ v rest.
+    andThen (takeText (bytesOf "\n") rest) (λ w next. taken v next)))
 
 -- lines with these keys: their numbers
 unfoldable pub readLines : List (List ℕ) → List ℕ → Parse (List ℤ)
 readLines [] bs = taken [] bs
-readLines (k ∷ ks) bs =
-    elim (readLine k bs) [
-      | malformed ↦ malformed
-      | taken v rest ↦ elim (readLines ks rest) [ malformed ↦ malformed | taken vs next ↦ taken (v ∷ vs) next ]
-    ]
+readLines (k ∷ ks) bs = andThen (readLine k bs) (λ v rest. andThen (readLines ks rest) (λ vs next. taken (v ∷ vs) next))
 
 -- the one of two whose text the bytes begin with
 unfoldable pub readEither : {X : Type 0} → (X → List ℕ) → X → X → List ℕ → Parse X
@@ -153,16 +145,9 @@ paramsOf table sex vs =
 -- the set that the bytes begin with, and what follows its lines
 unfoldable pub readFront : List ℕ → Parse Params
 readFront bs =
-    elim (readTable bs) [
-      | malformed ↦ malformed
-      | taken table rest ↦
-          elim (readSex rest) [
-            | malformed ↦ malformed
-            | taken sex lines ↦
-                elim (readLines (keys table) lines)
-                [ malformed ↦ malformed | taken vs next ↦ taken (paramsOf table sex (completed table vs)) next ]
-          ]
-    ]
+    andThen (readTable bs) (λ table rest.
+    andThen (readSex rest) (λ sex lines.
+    andThen (readLines (keys table) lines) (λ vs next. taken (paramsOf table sex (completed table vs)) next)))
 
 -- what is read, where nothing follows it
 unfoldable pub nothingAfter : Parse Params → Parse Params
@@ -185,6 +170,10 @@ readingOf (taken p rest) = cond (inLimits p) (record { refusal = Accepted; set =
 
 unfoldable pub readSheet : List ℕ → Reading
 readSheet bs = cond (leb (length bs) mostBytes) (readingOf (readSet bs)) (refused Malformed)
+
+-- what is answered by a sheet that was read: its refusal, 1 or 2, before all others, and else what its set gives
+unfoldable pub bySheet : {A : Type 0} → (Refusal → A) → (Params → A) → Reading → A
+bySheet refuse answer got = cond (eqb (refusalNumber (got .refusal)) 0) (answer (got .set)) (refuse (got .refusal))
 
 -- ---- writing
 

@@ -2,3 +2,4 @@ pub mod SetTrip
 pub mod SheetTrip
 pub mod ResultLaws
 pub mod FourLaws
+pub mod BySheet

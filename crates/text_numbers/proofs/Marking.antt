@@ -8,8 +8,8 @@ use mathlib.Core.List.{map}
 use lib.Bits.{bitAnd, bitOr, bitXor, and-le-r}
 use lib.Dec.{T, eqb, eqb→eq, lit<, lit≤}
 use lib.ListN.{length}
-use Rattle.number_whole.specs.Listed.{every, listed}
-use Rattle.number_whole.specs.laws.Table.{at, listed-length, listed-at}
+use Rattle.number_whole.specs.Listed.{listed}
+use Rattle.number_whole.specs.laws.Table.{every, at, listed-length, listed-at}
 use Rattle.text_words.specs.code.Word.{byteBits, wordBytes, bytesIn, laneSum, wordOf, Below}
 use Rattle.text_words.specs.laws.LaneLaws.{lanes-below, lanes-length}
 use Rattle.text_tokens.specs.Number.{isDigit}

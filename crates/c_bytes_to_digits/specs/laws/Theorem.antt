@@ -17,7 +17,7 @@ use Rattle.text_tokens.specs.laws.NumberTrip.{malformed-not-taken}
 use Rattle.sheet.specs.laws.SheetTrip.{then-taken}
 use Rattle.set_refusal.specs.Refusals.{refusalNumber}
 use Rattle.sheet.specs.declared.Reading.{Reading}
-use Rattle.sheet.specs.Sheet.{readSheet}
+use Rattle.sheet.specs.Sheet.{readSheet, bySheet}
 use Rattle.number_exact.specs.declared.Figure.{Figure}
 use Rattle.number_exact.specs.declared.Figure.the-variants.{Printed, Open}
 use Rattle.quote_kinds.specs.declared.Kind.{Kind}
@@ -90,7 +90,7 @@ record Accepted (k : Parse Kind) (got : Reading) (age year term : ℤ) : Type 0 
 
 accepted-by : (k : Parse Kind) (got : Reading) (age year term : ℤ) → numberOf (answerTo k got age year term) ≡ 0
     → Accepted k got age year term
-unfolding answerTo numberOf refusalNumber kindTaken
+unfolding answerTo bySheet numberOf refusalNumber kindTaken
 accepted-by malformed got age year term e = absurd (omega arith)
 accepted-by (taken kind rest) got age year term e = go (refusalNumber (got .refusal)) refl e
   where

@@ -19,17 +19,18 @@ use Rattle.number_exponential.specs.Billionths.{wholeParts}
 use Rattle.text_tokens.specs.Text.{bytesOf, taken, takeText}
 use Rattle.text_tokens.specs.Number.{decimal, unsignedText}
 use Rattle.set_params.specs.declared.Params.{Params}
-use Rattle.set_params.specs.Set.{A, B, alpha, beta, Whole, yearNumber}
+use Rattle.set_params.specs.Set.{A, B, alpha, beta, yearNumber}
+use Rattle.set_params.specs.code.Runs.{Whole}
 use Rattle.set_limits.specs.InLimits.{allBelow, lastStartOf, constantLimitOf, tableInLimits, seriesInLimits, ageInLimits, inLimits}
 use Rattle.set_limits.specs.laws.LimitsLaws.{sizes-decide}
 use Rattle.set_refusal.specs.Refusals.{refusalNumber}
 use Rattle.sheet.specs.declared.Reading.{Reading}
-use Rattle.sheet.specs.Sheet.{ifLiLee, ageValues, values, sheetText, refused, readSheet}
+use Rattle.sheet.specs.Sheet.{ifLiLee, ageValues, values, sheetText, refused, readSheet, bySheet}
 use Rattle.sheet.specs.laws.SetTrip.{Shown, ag2014-shown}
 use Rattle.sheet.specs.laws.SheetTrip.{AllSmall, in-limits-small, written-reads-back, written-out-of-limits}
 use Rattle.set_series.specs.Series.{periodIn, kappaIn, kappaStep}
 use Rattle.model_log_force.specs.LogForce.{cellForce, logForce, inRange}
-use Rattle.model_closure.specs.Weights.{weight, weightRow, weightTable, rowTotal, beside, totalled, ruled}
+use Rattle.model_closure.specs.Weights.{firstClosed, closed, weight, weightRow, rowTotal, beside, totalled, ruled}
 use Rattle.model_closure.specs.laws.WeightLaws.{row-total}
 use Rattle.model_mortality.specs.Cell.{neededInRange}
 use Rattle.number_exact.specs.Figure.{halfUp, figureOf}
@@ -66,7 +67,7 @@ module _ (word : List ℕ) (kind : Kind) (read : kindOf word ≡ taken kind []) 
     -- of a set in limits it is the number of the query's refusal
     number-within : T (inLimits p)
         → quoteNo (sheetAnswer (sheetText p) (kindOf word) age year term) quoteLength ≡ refusalNumber (refusalOf p kind age year term)
-    unfolding answerTo refusalNumber
+    unfolding answerTo bySheet refusalNumber
     number-within t =
         ap (λ (a : Answer). quoteNo a quoteLength) (answer-read (written-reads-back p w t))
         ∙ answer-number (answerOf p kind age year term)
@@ -75,7 +76,7 @@ module _ (word : List ℕ) (kind : Kind) (read : kindOf word ≡ taken kind []) 
     -- and else 2
     number-past : Shown p → AllSmall (values p) → inLimits p ≡ false
         → quoteNo (sheetAnswer (sheetText p) (kindOf word) age year term) quoteLength ≡ 2
-    unfolding answerTo refusalNumber refused quoteNo
+    unfolding answerTo bySheet refusalNumber refused quoteNo
     number-past h s e = ap (λ (a : Answer). quoteNo a quoteLength) (answer-read (written-out-of-limits p w h s e))
 
 -- ---- the kinds' words
@@ -143,6 +144,10 @@ unfolding A B alpha beta setOf refusalOf firstFailed tableTests refusalNumber ye
 next-fails = rw (is-true (inLimits (withForce (minus 699999999))) next-within)
 
 -- ---- the weights
+
+-- of all fitted ages at the ages 91 to 120
+unfoldable weightTable : List (List ℤ)
+weightTable = listed weightRow firstClosed closed
 
 table-ruled : totalled weightTable ≡ ruled
 unfolding listed weight weightRow weightTable rowTotal beside totalled ruled

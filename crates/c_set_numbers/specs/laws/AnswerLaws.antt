@@ -21,7 +21,8 @@ use Rattle.sheet.specs.declared.Reading.{Reading}
 use Rattle.sheet.specs.declared.Written.{Written}
 use Rattle.sheet.specs.Sheet.{readSheet, sheetText, writeRefusal, writtenLength, writeAnswer, writtenBuffer}
 use Rattle.c_set_numbers.specs.SetNumbers.{setLength, isLabel, tableOf, sexOf, areSet, setOf, setOver, readNo, numbersAfter}
-use Rattle.c_set_numbers.specs.SetNumbers.{toldLength, writeNo, bufferAfter, lengthAfter}
+use Rattle.c_set_numbers.specs.SetNumbers.{writeNo, bufferAfter, lengthAfter}
+use Rattle.c_set_numbers.specs.code.Code.{toldLength}
 
 -- ---- the table and the sex
 

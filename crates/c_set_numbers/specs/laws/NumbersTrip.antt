@@ -18,7 +18,7 @@ use Rattle.set_refusal.specs.declared.Refusal.{Refusal}
 use Rattle.set_refusal.specs.declared.Refusal.the-variants.{Accepted, Malformed, OutOfLimits, BufferTooShort}
 use Rattle.set_refusal.specs.Refusals.{refusalNumber}
 use Rattle.set_refusal.specs.laws.RefusalLaws.{accepted}
-use Rattle.set_params.specs.Set.{Whole}
+use Rattle.set_params.specs.code.Runs.{Whole}
 use Rattle.set_limits.specs.InLimits.{inLimits}
 use Rattle.sheet.specs.declared.Reading.{Reading}
 use Rattle.sheet.specs.Sheet.{paramsOf, sheetText, readSheet, writeRefusal}

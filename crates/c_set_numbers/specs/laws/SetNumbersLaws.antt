@@ -12,7 +12,8 @@ use Rattle.set_params.specs.Set.{ages, ageOf}
 use Rattle.sheet.specs.Sheet.{forAges, ageValues, allValues, runFrom, paramsOf}
 use Rattle.sheet_set.specs.code.Ages.{run}
 use Rattle.sheet_set.specs.laws.RunLaws.{Run, run-end}
-use Rattle.c_set_numbers.specs.SetNumbers.{setLength, tableNumber, sexNumber, setNumbers, tableOf, sexOf, setOf, over, setOver}
+use Rattle.c_set_numbers.specs.SetNumbers.{setLength, tableNumber, sexNumber, setNumbers, tableOf, sexOf, setOf, setOver}
+use Rattle.c_set_numbers.specs.code.Code.{over}
 
 -- ---- a set's numbers in front
 

@@ -3,7 +3,7 @@ use mathlib.Core.Path.{_≡_, refl, ap, _∙_}
 use mathlib.Core.Bool.{true, false}
 use mathlib.Core.List.{List, [], _∷_}
 use Prim.Native.Nat.{ℕ, _≤_, _<_}
-use borrow.Author.Tests.{le-leb, lt-leb, ne-eqb}
+use borrow.Author.Tests.{le-leb, lt-leb}
 use lib.IntN.{ℤ}
 use lib.ListN.{length, set}
 use lib.Seq.{sets-eq}
@@ -14,6 +14,7 @@ use Rattle.set_refusal.specs.declared.Refusal.the-variants.{Accepted, Malformed
 use Rattle.set_refusal.specs.Refusals.{refusalNumber}
 use Rattle.sheet.specs.declared.Reading.{Reading}
 use Rattle.sheet.specs.Sheet.{readSheet}
+use Rattle.sheet.specs.laws.BySheet.{sheet-refused, sheet-given}
 use Rattle.quote_kinds.specs.declared.Kind.{Kind}
 use Rattle.quote_along.specs.declared.Quote.{Quote}
 use Rattle.quote_along.specs.declared.Answer.{Answer}
@@ -77,19 +78,14 @@ module _ (sheet : List ℕ) (age year term : ℤ) where
 
   module _ (kind : Kind) {got : Reading} (r : got ≡ readSheet sheet) {number : ℕ}
       (n : number ≡ refusalNumber (got .refusal)) where
-    -- the answer is that of what was read
-    of-read : answerTo (taken kind []) got age year term ≡ sheetAnswer sheet (taken kind []) age year term
-    unfolding sheetAnswer
-    of-read = ap (λ (g : Reading). answerTo (taken kind []) g age year term) r
-
     pub answer-refused : (number ≡ 0 → ⊥) → Refused (got .refusal) ≡ sheetAnswer sheet (taken kind []) age year term
-    unfolding answerTo
-    answer-refused h = rw (← of-read, ← n, ne-eqb number 0 h)
+    unfolding sheetAnswer answerTo
+    answer-refused h = sheet-refused Refused (λ p. answerOf p kind age year term) sheet r n h
 
     pub answer-given : number ≡ 0 → {a : Answer} → a ≡ answerOf (got .set) kind age year term
         → a ≡ sheetAnswer sheet (taken kind []) age year term
-    unfolding answerTo
-    answer-given h q = q ∙ rw (← of-read, ← n, h)
+    unfolding sheetAnswer answerTo
+    answer-given h q = sheet-given Refused (λ p. answerOf p kind age year term) sheet r n h q
 
 -- ---- the numbers
 

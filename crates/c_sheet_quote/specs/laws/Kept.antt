@@ -14,7 +14,7 @@ use Rattle.set_refusal.specs.declared.Refusal.{Refusal}
 use Rattle.set_refusal.specs.declared.Refusal.the-variants.{Accepted, Malformed, BufferTooShort}
 use Rattle.set_refusal.specs.Refusals.{refusalNumber}
 use Rattle.sheet.specs.declared.Reading.{Reading}
-use Rattle.sheet.specs.Sheet.{readSheet}
+use Rattle.sheet.specs.Sheet.{readSheet, bySheet}
 use Rattle.quote_kinds.specs.declared.Kind.{Kind}
 use Rattle.quote_along.specs.declared.Quote.{Quote}
 use Rattle.quote_along.specs.declared.Answer.{Answer}
@@ -54,7 +54,7 @@ numbered-by r q = go (answer-by r q)
     go (refused n) z = numbered-refusal r n z
 
 numbered-to : (k : Parse Kind) (got : Reading) (age year term : ℤ) → Numbered (answerTo k got age year term)
-unfolding answerTo refusalNumber answerOf
+unfolding answerTo bySheet refusalNumber answerOf
 numbered-to malformed got age year term = numbered-refusal Malformed (λ e. omega arith)
 numbered-to (taken kind rest) got age year term = go (refusalNumber (got .refusal)) refl
   where

@@ -13,7 +13,7 @@ use Rattle.run.specs.declared.Program.{Program}
 use Rattle.run.specs.Run.{textAnswer, textBuffer}
 use Rattle.run.specs.laws.IntoLaws.{Into}
 use Rattle.run.specs.Run.{runOf, runRoom}
-use Rattle.c_set_numbers.specs.SetNumbers.{toldLength}
+use Rattle.c_set_numbers.specs.code.Code.{toldLength}
 use Rattle.c_set_numbers.specs.laws.AnswerLaws.{Told}
 use Rattle.kulfizan.specs.Run.{programOf, roomFor, runNo, runBuffer, runLength}
 

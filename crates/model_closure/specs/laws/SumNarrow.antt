@@ -10,8 +10,8 @@ use Rattle.number_whole.specs.laws.Split.{split}
 use Rattle.number_whole.specs.laws.Difference.{difference, difference-pos, difference-add, difference-scale, difference-mul}
 use Rattle.number_whole.specs.laws.Order.{pos-nonneg}
 use Rattle.number_fraction.specs.Ratio.{Ratio, whole/, _*/_}
-use Rattle.number_fraction.specs.Fraction.{Fraction, _≤ℚ_, wholeℚ, signed, _+ℚ_, _*ℚ_, scaleℚ, quotientℚ}
-use Rattle.number_fraction.specs.laws.FractionTerms.{_≈ℚ_}
+use Rattle.number_fraction.specs.Fraction.{Fraction, _≤ℚ_, wholeℚ, signed, _+ℚ_, scaleℚ, quotientℚ}
+use Rattle.number_fraction.specs.laws.FractionTerms.{_≈ℚ_, _*ℚ_}
 use Rattle.number_fraction.specs.laws.FractionLaws.{≤ℚ-refl, ≤ℚ-trans, ≈ℚ-difference, +ℚ-mono, +ℚ-comm, +ℚ-assoc, +ℚ-zero}
 use Rattle.number_fraction.specs.laws.FractionLaws.{scaleℚ-keeps, scaleℚ-exchanges, scaleℚ-+ℚ, +ℚ-*ℚ, quotientℚ-≤ℚ, quotientℚ-*ℚ}
 use Rattle.model_closure.specs.Weights.{fitted, firstClosed, lastClosed, weightUnit, weight}

@@ -12,8 +12,7 @@ use lib.ListN.{getD, replicate}
 use Rattle.number_whole.specs.laws.Split.{split, split-neg, split-sub}
 use Rattle.number_whole.specs.code.Sizes.{Under}
 use Rattle.number_whole.specs.laws.Bound.{under-lit, under-between, under-add, under-mul}
-use Rattle.number_whole.specs.Listed.{every}
-use Rattle.number_whole.specs.laws.Table.{at, listed-at}
+use Rattle.number_whole.specs.laws.Table.{every, at, listed-at}
 use Rattle.model_closure.specs.Weights.{firstFitted, fitted, firstClosed, lastClosed, closed, weightUnit, weight, weightRow, Totalled, rowTotal, beside, totalled, ruled}
 use Rattle.model_closure.specs.code.Totals.{weightLimit, mostSize, sizeTotal}
 

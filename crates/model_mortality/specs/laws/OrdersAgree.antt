@@ -5,7 +5,7 @@ use native.Mathlib.Omega.{arith}
 use borrow.Author.Tests.{lt-ltb, le-ltb}
 use Rattle.number_fraction.specs.Ratio.{Ratio}
 use Rattle.number_fraction.specs.laws.RatioLaws.{≤/-refl, */-mono, complement-reverse}
-use Rattle.number_fraction.specs.Bracket.{NotAbove}
+use Rattle.number_fraction.specs.laws.RatioTerms.{NotAbove}
 use Rattle.number_fraction.specs.Fraction.{_≤ℚ_}
 use Rattle.number_fraction.specs.laws.FractionLaws.{≤ℚ-refl, +ℚ-mono, signed-≤ℚ}
 use Rattle.number_taylor.specs.Order.{leastOrder}

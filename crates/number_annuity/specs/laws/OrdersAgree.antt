@@ -1,7 +1,8 @@
 -- The orders of the price agree where those of the factors do, place by place.
 use mathlib.Core.List.{List, Forall₂}
 use Prim.Native.Nat.{ℕ}
-use Rattle.number_fraction.specs.Bracket.{Bracket, NotAbove}
+use Rattle.number_fraction.specs.Bracket.{Bracket}
+use Rattle.number_fraction.specs.laws.RatioTerms.{NotAbove}
 use Rattle.number_fraction.specs.laws.Places.{places-length, places-take}
 use Rattle.number_folds.specs.laws.OrdersAgree.{exactly-agrees, with-factor-agrees, sum-agrees, survival-agrees}
 use Rattle.number_annuity.specs.Exact.{orderPaymentAfter, orderAnnuityOver}

@@ -5,7 +5,8 @@ use native.Mathlib.Omega.{arith}
 use lib.ListN.{length}
 use Rattle.number_fraction.specs.Ratio.{Ratio, whole/}
 use Rattle.number_fraction.specs.laws.RatioLaws.{≤/-refl, +/-mono, */-mono}
-use Rattle.number_fraction.specs.Bracket.{Bracket, NotAbove}
+use Rattle.number_fraction.specs.Bracket.{Bracket}
+use Rattle.number_fraction.specs.laws.RatioTerms.{NotAbove}
 use Rattle.number_fraction.specs.laws.Places.{places-length, places-take}
 use Rattle.number_folds.specs.Exact.{
   exactly,

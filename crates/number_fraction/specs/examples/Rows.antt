@@ -5,8 +5,8 @@ use lib.IntN.{ℤ, pos, negsuc}
 use lib.Signed.{leZ-yes}
 use Rattle.number_fraction.specs.Ratio.{Ratio, _≤/_, _+/_, complement}
 use Rattle.number_fraction.specs.laws.RatioTerms.{_≈/_, reciprocal}
-use Rattle.number_fraction.specs.Fraction.{Fraction, _≤ℚ_, _-ℚ_}
-use Rattle.number_fraction.specs.laws.FractionTerms.{_≈ℚ_}
+use Rattle.number_fraction.specs.Fraction.{Fraction, _≤ℚ_}
+use Rattle.number_fraction.specs.laws.FractionTerms.{_≈ℚ_, _-ℚ_}
 
 -- a/b, for positive b
 ratio : (a b : ℕ) → T (ltb 0 b) → Ratio

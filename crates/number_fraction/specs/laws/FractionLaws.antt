@@ -12,8 +12,8 @@ use Rattle.number_whole.specs.Parts.{above, below}
 use Rattle.number_whole.specs.laws.Split.{split}
 use Rattle.number_fraction.specs.Ratio.{Ratio, _≤/_, whole/, _+/_}
 use Rattle.number_fraction.specs.laws.RatioTerms.{sum/}
-use Rattle.number_fraction.specs.Fraction.{Fraction, _≤ℚ_, wholeℚ, signed, absolute, _+ℚ_, _*ℚ_, scaleℚ, quotientℚ}
-use Rattle.number_fraction.specs.laws.FractionTerms.{_≈ℚ_, negℚ, divideℚ, sumℚ}
+use Rattle.number_fraction.specs.Fraction.{Fraction, _≤ℚ_, wholeℚ, signed, absolute, _+ℚ_, scaleℚ, quotientℚ}
+use Rattle.number_fraction.specs.laws.FractionTerms.{_≈ℚ_, _*ℚ_, negℚ, divideℚ, sumℚ}
 use Rattle.number_fraction.specs.laws.RatioLaws.{whole/-positive}
 use Rattle.number_whole.specs.laws.Difference.{Difference, difference, difference-pos, difference-nonneg, difference-nonpos, difference-neg, difference-add, difference-scale, difference-mul, difference-le}
 

@@ -1,7 +1,9 @@
--- Terms of the laws of fractions that are at least 0: sameness, a reciprocal and a sum, which no definition uses.
+-- Terms of the laws of fractions that are at least 0, and of brackets, which no definition uses: sameness, a reciprocal, a sum, and
+-- a bracket that does not lie above another.
 use Prim.Native.Nat.{_<_}
 use mathlib.Core.List.{List, [], _∷_}
 use Rattle.number_fraction.specs.Ratio.{Ratio, _≤/_, whole/, _+/_}
+use Rattle.number_fraction.specs.Bracket.{Bracket}
 
 -- x and y are the same number: each is at most the other
 infix 50 _≈/_
@@ -17,3 +19,7 @@ reciprocal x h = record { num = x .den; den = x .num; positive = h }
 unfoldable pub sum/ : List Ratio → Ratio
 sum/ [] = whole/ 0
 sum/ (x ∷ xs) = x +/ sum/ xs
+
+-- a does not lie wholly above b
+pub record NotAbove (a b : Bracket) : Type 0 where
+  pub reaches : a .least ≤/ b .most

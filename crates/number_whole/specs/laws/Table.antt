@@ -8,7 +8,16 @@ use native.Mathlib.Nat.{add-zero, zero-add, add-suc, suc-add, le-of-suc-le-suc, 
 use native.Mathlib.Omega.{arith}
 use lib.Dec.{T}
 use lib.ListN.{length, getD, take, drop}
-use Rattle.number_whole.specs.Listed.{both, every, listed}
+use Rattle.number_whole.specs.Listed.{listed}
+
+abbrev pub both : Bool → Bool → Bool
+both true b = b
+both false b = false
+
+-- the test passes at each entry of the list and its place, counted from i
+abbrev pub every : {A : Type 0} → (ℕ → A → Bool) → ℕ → List A → Bool
+every test i [] = true
+every test i (x ∷ xs) = both (test i x) (every test (suc i) xs)
 
 both-left : (a b : Bool) → T (both a b) → T a
 both-left true b t = tt

@@ -15,8 +15,8 @@ use Rattle.number_exact.specs.Value.{Exact, Narrows}
 use Rattle.number_exact.specs.laws.ValueLaws.{at-least-weaken, at-most-weaken}
 use Rattle.quote_compare.specs.declared.Excess.{Excess}
 use Rattle.quote_compare.specs.Compare.{excess, mostApart, valuesOf}
+use Rattle.quote_compare.specs.Compare.{Held, AtLeastOver, AtMostOver, Exceeds, Within, Means, Less}
 use Rattle.quote_compare.specs.laws.CompareLaws.{values-below, values-above, values-near}
-use Rattle.quote_compare.specs.Meaning.{Held, AtLeastOver, AtMostOver, Exceeds, Within, Means, Less}
 
 -- ---- the three words
 

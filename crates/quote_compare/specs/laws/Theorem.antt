@@ -10,19 +10,23 @@ use Rattle.number_exact.specs.Value.{Exact, OneStep}
 use Rattle.quote_kinds.specs.declared.Kind.{Kind}
 use Rattle.quote_kinds.specs.Kinds.{OneKind}
 use Rattle.quote_along.specs.declared.Answer.{Answer}
-use Rattle.quote.specs.Quote.{exactQuery, answerOf}
-use Rattle.quote.specs.Demand.{shownOf, numberOf, step, KeptBy, Kept}
+use Rattle.quote.specs.Quote.{queryEnds, exactQuery, answerOf}
+use Rattle.quote.specs.Demand.{shownOf, numberOf, step, queryWidth, KeptBy}
 use Rattle.quote.specs.laws.Theorem.{same-figure, demand-met}
 use Rattle.quote_compare.specs.declared.Excess.{Excess}
 use Rattle.quote_compare.specs.declared.Values.the-variants.{Below, Above}
 use Rattle.quote_compare.specs.declared.Pair.{Pair}
 use Rattle.quote_compare.specs.declared.Comparison.the-variants.{Compared}
-use Rattle.quote_compare.specs.Compare.{comparisonOf}
-use Rattle.quote_compare.specs.Meaning.{Held, Means, Less}
+use Rattle.quote_compare.specs.Compare.{comparisonOf, Held, Means, Less}
 use Rattle.quote_compare.specs.laws.CompareLaws.{answerEnds, compared-both}
 use Rattle.quote_compare.specs.laws.MeaningLaws.{values-mean, exceeds-less}
 
--- an accepted answer is kept, and so its ends hold its exact value
+-- a query's answer is kept
+abbrev Kept : Params → Kind → ℤ → ℤ → ℤ → Answer → Type 0
+Kept p kind age year term a =
+    KeptBy (queryEnds p kind age year term) (exactQuery p kind age year term) (step kind) (queryWidth kind age year term) a
+
+-- an accepted answer is, and so its ends hold its exact value
 kept : (p : Params) (kind : Kind) (age year term : ℤ) → numberOf (answerOf p kind age year term) ≡ 0
     → Kept p kind age year term (answerOf p kind age year term)
 kept p kind age year term e = demand-met p kind age year term .alone .kept e

@@ -32,7 +32,7 @@ use Rattle.quote.specs.Demand.{printed, figureShown, Promised}
 use Rattle.quote.specs.laws.Promises.{Held, promised}
 use Rattle.quote.specs.laws.Tests as life
 use Rattle.quote_couple.specs.Couple.{lifePath, coupleEnds, exactCouple, coupleRefusal, coupleStep, coupleAnswer}
-use Rattle.quote_couple.specs.CoupleDemand.{CoupleDemand3}
+use Rattle.quote_couple.specs.Couple.{CoupleDemand3}
 use Rattle.quote_couple.specs.laws.CoupleTests.{single-plain, life-path, Passed, all-passed}
 
 -- ---- an accepted query

@@ -1,7 +1,7 @@
 -- `status_of` meets its contract, case by case.
 use borrow.Author.Needs.{needs}
 use mathlib.Core.Path.{sym, ap}
-use Rattle.quote_couple_kinds.specs.CoupleKinds.{statusOf}
+use Rattle.quote_couple_kinds.specs.code.Code.{statusOf}
 use Rattle.quote_couple_kinds.proofs.status_of.Statement.{statement}
 use Rattle.quote_couple_kinds.proofs.status_of.Tie as tie
 

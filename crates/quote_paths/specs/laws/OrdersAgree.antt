@@ -3,7 +3,8 @@ use mathlib.Core.List.{List, Forall₂}
 use Prim.Native.Nat.{ℕ, _≤_}
 use lib.IntN.{natAbs}
 use Rattle.number_fraction.specs.laws.RatioLaws.{complement-reverse}
-use Rattle.number_fraction.specs.Bracket.{Bracket, NotAbove}
+use Rattle.number_fraction.specs.Bracket.{Bracket}
+use Rattle.number_fraction.specs.laws.RatioTerms.{NotAbove}
 use Rattle.number_taylor.specs.Order.{leastOrder}
 use Rattle.set_params.specs.declared.Params.{Params}
 use Rattle.number_exact.specs.Value.{Agrees}

@@ -1,7 +1,7 @@
 -- `kind_number` meets its contract, case by case.
 use borrow.Author.Needs.{needs}
 use mathlib.Core.Path.{sym, ap}
-use Rattle.quote_two.specs.Claim.{kindNumber}
+use Rattle.quote_two.specs.code.Code.{kindNumber}
 use Rattle.quote_two.proofs.kind_number.Statement.{statement}
 use Rattle.quote_two.proofs.kind_number.Tie as tie
 

@@ -3,7 +3,7 @@ use borrow.Author.Needs.{needs}
 use mathlib.Core.Path.{ap, _∙_}
 use Prim.Native.Nat.{ℕ}
 use lib.Dec.{eqb}
-use Rattle.quote_two.specs.Claim.{kindNumber, oneKind}
+use Rattle.quote_two.specs.code.Code.{kindNumber, oneKind}
 use Rattle.quote_two.proofs.one_kind.Statement.{statement}
 use Rattle.quote_two.proofs.one_kind.Tie as tie
 

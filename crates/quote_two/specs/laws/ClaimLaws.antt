@@ -17,7 +17,8 @@ use Rattle.quote.specs.Quote.{answerOf}
 use Rattle.quote.specs.Demand.{Shown, printed, markedOpen, noFigure, figureShown, Demand3}
 use Rattle.quote_two.specs.declared.Same.the-variants.{OtherKind, NotPrinted, Equal, Different}
 use Rattle.quote_two.specs.declared.Steps.the-variants.{None, At}
-use Rattle.quote_two.specs.Claim.{kindNumber, oneKind, stepsShown, OneStepOf, Settled}
+use Rattle.quote_two.specs.Claim.{OneStepOf, Settled}
+use Rattle.quote_two.specs.code.Code.{kindNumber, oneKind, stepsShown}
 
 -- ---- one kind
 

@@ -2,7 +2,8 @@
 use mathlib.Core.List.{List, Forall₂}
 use Prim.Native.Nat.{ℕ, suc}
 use lib.ListN.{length}
-use Rattle.number_fraction.specs.Bracket.{Bracket, NotAbove}
+use Rattle.number_fraction.specs.Bracket.{Bracket}
+use Rattle.number_fraction.specs.laws.RatioTerms.{NotAbove}
 use Rattle.number_fraction.specs.laws.Places.{places-length, places-take}
 use Rattle.set_params.specs.declared.Params.{Params}
 use Rattle.number_exact.specs.Value.{Agrees}

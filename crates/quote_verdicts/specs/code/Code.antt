@@ -1,10 +1,13 @@
--- What the code's contracts say beside the definitions: a column that was read or not, the verdict on one age, and the figures by
--- the factors of a year's cells.
+-- What the code's contracts say beside the definitions: a column that was read or not, the verdict on one age, the figures by the
+-- factors of a year's cells, and what a verdict says.
+use mathlib.Core.Path.{_≡_}
 use mathlib.Core.Bool.{Bool, true, false, cond}
 use mathlib.Core.List.{List, []}
 use Prim.Native.Nat.{ℕ}
+use lib.IntN.{ℤ}
 use lib.ListN.{getD}
 use Rattle.text_tokens.specs.Text.{Parse, malformed, taken}
+use Rattle.set_params.specs.declared.Params.{Params}
 use Rattle.number_exponential.specs.declared.Ends.{Ends}
 use Rattle.number_exponential.specs.Billionths.{billionths}
 use Rattle.number_exact.specs.Figure.{probabilityStep, figureOf}
@@ -13,7 +16,9 @@ use Rattle.quote.specs.Demand.{Shown, shownOf}
 use Rattle.quote_factors.specs.code.Code.{empty}
 use Rattle.quote_verdicts.specs.declared.Verdict.{Verdict}
 use Rattle.quote_verdicts.specs.declared.Verdict.the-variants.{Right, Wrong, Open}
-use Rattle.quote_verdicts.specs.Verdict.{differs, isOpen}
+use Rattle.quote_verdicts.specs.declared.Judged.{Judged}
+use Rattle.quote_verdicts.specs.declared.Judged.the-variants.{Of}
+use Rattle.quote_verdicts.specs.Verdict.{differs, isOpen, EachRounded, SomeOther}
 
 -- a column where the whole of it was read
 unfoldable pub columnRead : Bool → List ℕ → Parse (List ℕ)
@@ -39,3 +44,8 @@ figureBy p = shownOf (figureOf probabilityStep (deathOf billionths p))
 -- that of age x by the factors of its year
 unfoldable pub figureIn : List Ends → ℕ → Shown
 figureIn factors x = figureBy (getD factors x empty)
+
+-- what an answer of a column that was read says
+pub record Honest (p : Params) (year : ℤ) (column : List ℕ) (r : Judged) : Type 0 where
+  pub right : r ≡ Of Right → EachRounded p year column
+  pub wrong : r ≡ Of Wrong → SomeOther p year column

@@ -20,8 +20,8 @@ use Rattle.quote.specs.laws.Theorem.{figure-rounds}
 use Rattle.quote_verdicts.specs.declared.Verdict.the-variants.{Right, Wrong}
 use Rattle.quote_verdicts.specs.declared.Judged.the-variants.{Refused}
 use Rattle.quote_verdicts.specs.Verdict.{columnAges, figureHere, entryAt, differs, isOpen, verdictOf, columnRefusal, entriesIn, judged}
-use Rattle.quote_verdicts.specs.Meaning.{EachRounded, SomeOther, Honest}
-use Rattle.quote_verdicts.specs.code.Code.{figureBy}
+use Rattle.quote_verdicts.specs.Verdict.{EachRounded, SomeOther}
+use Rattle.quote_verdicts.specs.code.Code.{figureBy, Honest}
 use Rattle.quote_verdicts.specs.laws.VerdictLaws.{right-none, wrong-some, verdict-given, all-passed}
 use Rattle.quote_verdicts.specs.laws.Figures.{Worked, figure-here}
 

@@ -16,7 +16,8 @@ use Rattle.run_answer_text.specs.laws.Lengths.{refusal-length, refused-length}
 use Rattle.run_sheets.specs.declared.Front.{Front}
 use Rattle.run_sheets.specs.Front.{frontOf}
 use Rattle.run_line.specs.declared.Mode.{Mode}
-use Rattle.run_line.specs.Line.{lineAnswer, longestLine, mostLine}
+use Rattle.run_line.specs.Line.{lineAnswer, longestLine}
+use Rattle.run_line.specs.code.Sizes.{mostLine}
 use Rattle.run_line.specs.laws.ReplyLaws.{longest-between}
 use Rattle.run.specs.declared.Program.{Program}
 use Rattle.run.specs.declared.Program.the-variants.{Lines, Verdict}

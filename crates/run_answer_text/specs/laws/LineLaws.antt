@@ -7,9 +7,8 @@ use lib.ListN.{length, length-append, length-take}
 use lib.Seq.{take-append-seam}
 use Rattle.text_tokens.specs.Text.{bytesOf, Parse, malformed, taken}
 use Rattle.set_refusal.specs.declared.Refusal.the-variants.{Malformed}
-use Rattle.run_answer_text.specs.AnswerText.{refusalLine}
+use Rattle.run_answer_text.specs.AnswerText.{refusalLine, withoutFeed, answered}
 use Rattle.run_answer_text.specs.laws.Lengths.{malformed-length}
-use Rattle.run_answer_text.specs.Line.{withoutFeed, answered}
 
 -- ---- definitions
 

@@ -7,7 +7,8 @@ use lib.Dec.{eqb}
 use lib.IntN.{ℤ}
 use lib.ListN.{length}
 use lib.Signed.{ltZ}
-use Rattle.number_whole.specs.Listed.{every, listed}
+use Rattle.number_whole.specs.Listed.{listed}
+use Rattle.number_whole.specs.laws.Table.{every}
 use Rattle.text_tokens.specs.Text.{Parse, malformed, taken, andThen}
 use Rattle.quote_table_tests.specs.TableTests.{ageInTable}
 use Rattle.run_column_text.specs.declared.Entry.{Entry}

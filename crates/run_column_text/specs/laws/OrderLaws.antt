@@ -14,8 +14,8 @@ use lib.IntN.{ℤ, pos, negsuc, natAbs}
 use lib.ListN.{length, getD}
 use lib.Seq.{ext-getD}
 use lib.Signed.{ltZ}
-use Rattle.number_whole.specs.Listed.{every, listed}
-use Rattle.number_whole.specs.laws.Table.{at, listed-length, listed-at}
+use Rattle.number_whole.specs.Listed.{listed}
+use Rattle.number_whole.specs.laws.Table.{every, at, listed-length, listed-at}
 use Rattle.text_tokens.specs.Text.{malformed, taken}
 use Rattle.text_tokens.specs.laws.Steps.{goes}
 use Rattle.text_tokens.specs.laws.NumberTrip.{malformed-not-taken}

@@ -1,7 +1,7 @@
 -- `verdict_number` meets its contract, case by case.
 use borrow.Author.Needs.{needs}
 use mathlib.Core.Path.{sym, ap}
-use Rattle.run_column_verdict.specs.SheetVerdict.{verdictNumber}
+use Rattle.run_column_verdict.specs.ColumnVerdict.{verdictNumber}
 use Rattle.run_column_verdict.proofs.verdict_number.Statement.{statement}
 use Rattle.run_column_verdict.proofs.verdict_number.Tie as tie
 

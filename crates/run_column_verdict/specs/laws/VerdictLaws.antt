@@ -1,34 +1,28 @@
 -- What is answered by a sheet that was read, and what an answer leaves behind.
-use mathlib.Core.Path.{_≡_, refl, ap, _∙_}
+use mathlib.Core.Path.{_≡_, refl}
 use mathlib.Core.List.{List}
 use Prim.Native.Nat.{ℕ}
-use borrow.Author.Tests.{ne-eqb}
 use lib.IntN.{ℤ}
 use Rattle.set_refusal.specs.declared.Refusal.{Refusal}
 use Rattle.set_refusal.specs.declared.Refusal.the-variants.{Accepted}
 use Rattle.set_refusal.specs.Refusals.{refusalNumber}
 use Rattle.sheet.specs.declared.Reading.{Reading}
 use Rattle.sheet.specs.Sheet.{readSheet}
+use Rattle.sheet.specs.laws.BySheet.{sheet-refused, sheet-given}
 use Rattle.quote_verdicts.specs.declared.Verdict.{Verdict}
 use Rattle.quote_verdicts.specs.declared.Judged.{Judged}
 use Rattle.quote_verdicts.specs.declared.Judged.the-variants.{Of, Refused}
-use Rattle.run_column_verdict.specs.ColumnVerdict.{columnVerdict}
-use Rattle.run_column_verdict.specs.SheetVerdict.{verdictBy, sheetVerdict, verdictNumber, verdictNo, verdictAfter}
+use Rattle.run_column_verdict.specs.ColumnVerdict.{columnVerdict, sheetVerdict, verdictNumber, verdictNo, verdictAfter}
 
 module _ (sheet : List ℕ) (year : ℤ) (column : List ℕ) {got : Reading} (r : got ≡ readSheet sheet) {number : ℕ}
     (n : number ≡ refusalNumber (got .refusal)) where
-  -- the answer is that of what was read
-  of-read : verdictBy got year column ≡ sheetVerdict sheet year column
-  unfolding sheetVerdict
-  of-read = ap (λ (g : Reading). verdictBy g year column) r
-
   pub verdict-refused : (number ≡ 0 → ⊥) → Refused (got .refusal) ≡ sheetVerdict sheet year column
-  unfolding verdictBy
-  verdict-refused h = rw (← of-read, ← n, ne-eqb number 0 h)
+  unfolding sheetVerdict
+  verdict-refused h = sheet-refused Refused (λ p. columnVerdict p year column) sheet r n h
 
   pub verdict-given : number ≡ 0 → {a : Judged} → a ≡ columnVerdict (got .set) year column → a ≡ sheetVerdict sheet year column
-  unfolding verdictBy
-  verdict-given h q = q ∙ rw (← of-read, ← n, h)
+  unfolding sheetVerdict
+  verdict-given h q = sheet-given Refused (λ p. columnVerdict p year column) sheet r n h q
 
 -- the number that a call gives, and the number after it
 abbrev pub PutJudged : Judged → ℕ → ℕ → ℕ → Type 0

@@ -15,8 +15,7 @@ use Rattle.quote_couple.specs.laws.SmallLaws.{couple-small}
 use Rattle.run_couple_query.specs.declared.CoupleQuery.{CoupleQuery}
 use Rattle.run_couple_query.specs.CoupleQuery.{readCouple}
 use Rattle.run_couple_query.specs.laws.CoupleQueryLaws.{coupleText, couple-text, couple-least, couple-most}
-use Rattle.run_answer_text.specs.AnswerText.{kindDecimals, answerText}
-use Rattle.run_answer_text.specs.Line.{withoutFeed}
+use Rattle.run_answer_text.specs.AnswerText.{kindDecimals, answerText, withoutFeed}
 use Rattle.run_answer_text.specs.code.Sizes.{SizedAnswer}
 use Rattle.run_answer_text.specs.laws.SizeLaws.{small-sized}
 use Rattle.run_answer_text.specs.laws.Lengths.{decimals-most, answer-length}

@@ -18,10 +18,9 @@ use Rattle.text_tokens.specs.laws.NumberTrip.{AllDigits, all-append, malformed-
 use Rattle.text_tokens.specs.laws.FixedLaws.{fixed-reads}
 use Rattle.number_exact.specs.declared.Figure.{Figure}
 use Rattle.number_exact.specs.declared.Figure.the-variants.{Printed, Open}
-use Rattle.run_figure_text.specs.FigureText.{lastDigits, stepsText, figureText}
+use Rattle.run_figure_text.specs.FigureText.{lastDigits, stepsText, figureText, readSteps}
 use Rattle.run_figure_text.specs.code.Sizes.{Printable}
 use Rattle.run_figure_text.specs.laws.FigureTextLaws.{last-length, tenth-without}
-use Rattle.run_figure_text.specs.Reading.{readSteps}
 
 -- ---- the decimals
 

@@ -12,8 +12,7 @@ use Rattle.quote_along.specs.declared.Answer.{Answer}
 use Rattle.run_query.specs.declared.Query.{Query}
 use Rattle.run_query.specs.Query.{readQuery}
 use Rattle.run_query.specs.laws.QueryLaws.{queryText, query-text, query-least, query-most}
-use Rattle.run_answer_text.specs.AnswerText.{kindDecimals, answerText}
-use Rattle.run_answer_text.specs.Line.{withoutFeed}
+use Rattle.run_answer_text.specs.AnswerText.{kindDecimals, answerText, withoutFeed}
 use Rattle.run_answer_text.specs.code.Sizes.{SizedAnswer}
 use Rattle.run_answer_text.specs.laws.SizeLaws.{answer-sized}
 use Rattle.run_answer_text.specs.laws.Lengths.{decimals-most, answer-length}
@@ -31,7 +30,8 @@ use Rattle.run_line.specs.declared.Mode.{Mode}
 use Rattle.run_line.specs.declared.Mode.the-variants.{Quotes, Compare, Couples, Targets}
 use Rattle.run_line.specs.declared.Reply.{Reply}
 use Rattle.run_line.specs.declared.Reply.the-variants.{Quote, Compared}
-use Rattle.run_line.specs.Line.{queryAnswer, reply, queryLine, lineAnswer, longestReply, longestLine, mostLine}
+use Rattle.run_line.specs.Line.{queryAnswer, reply, queryLine, lineAnswer, longestReply, longestLine}
+use Rattle.run_line.specs.code.Sizes.{mostLine}
 
 -- ---- a query's line
 

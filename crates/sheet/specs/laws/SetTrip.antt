@@ -12,7 +12,8 @@ use Rattle.set_params.specs.declared.Params.{Params}
 use Rattle.set_params.specs.declared.Table.{Table}
 use Rattle.set_params.specs.declared.Table.the-variants.{Ag2014, LiLee}
 use Rattle.set_params.specs.declared.Sex.{Sex}
-use Rattle.set_params.specs.Set.{A, B, alpha, beta, ages, Whole}
+use Rattle.set_params.specs.Set.{A, B, alpha, beta, ages}
+use Rattle.set_params.specs.code.Runs.{Whole}
 use Rattle.set_params.specs.Limits.{firstStart}
 use Rattle.text_tokens.specs.Text.{bytesOf}
 use Rattle.sheet.specs.Sheet.{sheetLines, forAges, ageKeys, ifLiLee, keys, ageValues, values}

@@ -28,7 +28,8 @@ use Rattle.set_refusal.specs.declared.Refusal.{Refusal}
 use Rattle.set_refusal.specs.declared.Refusal.the-variants.{Accepted, Malformed, OutOfLimits}
 use Rattle.sheet.specs.declared.Reading.{Reading}
 use Rattle.set_refusal.specs.Refusals.{refusalNumber}
-use Rattle.set_params.specs.Set.{A, B, alpha, beta, ages, Whole}
+use Rattle.set_params.specs.Set.{A, B, alpha, beta, ages}
+use Rattle.set_params.specs.code.Runs.{Whole}
 use Rattle.set_params.specs.code.Within.{StartWithin}
 use Rattle.set_params.specs.Limits.{firstStart, within}
 use Rattle.set_limits.specs.InLimits.{lastStartOf, constantLimitOf, tableInLimits, inLimits}

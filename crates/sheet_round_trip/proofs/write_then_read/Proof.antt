@@ -1,7 +1,7 @@
 -- `write_then_read` meets its contract, from what the writer and the reader ensure.
 use mathlib.Core.Path.{sym, _∙_}
 use lib.Seq.{length-take-le}
-use Rattle.set_params.specs.Set.{Whole}
+use Rattle.set_params.specs.code.Runs.{Whole}
 use Rattle.sheet_round_trip.specs.laws.TripLaws.{written-within, read-back}
 use borrow.Author.Needs.{needs}
 use Rattle.sheet_round_trip.proofs.write_then_read.Statement.{statement}

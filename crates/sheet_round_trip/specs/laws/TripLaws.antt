@@ -16,7 +16,7 @@ use Rattle.sheet.specs.declared.Reading.{Reading}
 use Rattle.sheet.specs.declared.Written.{Written}
 use Rattle.set_refusal.specs.Refusals.{refusalNumber}
 use Rattle.set_refusal.specs.laws.RefusalLaws.{accepted as is-accepted}
-use Rattle.set_params.specs.Set.{Whole}
+use Rattle.set_params.specs.code.Runs.{Whole}
 use Rattle.set_limits.specs.InLimits.{inLimits}
 use Rattle.sheet.specs.Sheet.{tableText, sheetText, readEither, readTable, readFront, nothingAfter, readSet, refused, readingOf}
 use Rattle.sheet.specs.Sheet.{readSheet, writeRefusal, writtenLength, writeAnswer, writtenBuffer}

@@ -8,7 +8,8 @@ use lib.ListN.{length, getD, take, set, length-append, length-set, List·getD-ap
 use lib.Seq.{take-all, take-suc-set, getD-append-add}
 use Rattle.text_tokens.specs.Text.{malformed, taken}
 use Rattle.set_params.specs.declared.Params.{Params}
-use Rattle.set_params.specs.Set.{ages, Whole}
+use Rattle.set_params.specs.Set.{ages}
+use Rattle.set_params.specs.code.Runs.{Whole}
 use Rattle.sheet.specs.Sheet.{forAges, ageKeys, readLines}
 use Rattle.sheet_set.specs.code.Ages.{run, withRuns, fromAges}
 use Rattle.text_tokens.specs.laws.Steps.{goes, stops}
