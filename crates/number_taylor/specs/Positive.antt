@@ -4,7 +4,7 @@ use mathlib.Core.Path.{_≡_}
 use mathlib.Core.Logic.{inl, inr}
 use native.Mathlib.Nat.{mul-pos, mul-le-mul-right, zero-lt-suc, one-le-pow, eq-zero-or-pos, le-refl}
 use native.Mathlib.Omega.{arith}
-use Rattle.number_taylor.specs.Taylor.{taylorNum, taylorDen, gap, stretchedNum, factorial}
+use Rattle.number_taylor.specs.Taylor.{taylorNum, taylorDen, gap, stretchedNum}
 
 -- 0 < q^j·j!
 pub taylorDen-positive : (q j : ℕ) → 0 < q → 0 < taylorDen q j
@@ -33,9 +33,3 @@ stretchedNum-positive p q j h = elim (eq-zero-or-pos (gap p q j)) [
   | inl e ↦ omega (arith, one-le-pow (suc j) p (num-without-gap p q j h e))
   | inr k ↦ omega (arith, mul-pos (taylorNum-positive p q j h) k)
 ]
-
--- 0 < j!
-pub factorial-positive : (j : ℕ) → 0 < factorial j
-unfolding factorial
-factorial-positive zero = le-refl 1
-factorial-positive (suc j) = mul-pos (factorial-positive j) (zero-lt-suc j)

@@ -1,3 +1,4 @@
+pub mod Terms
 pub mod AlternatingSums
 pub mod Meaning
 pub mod Cross

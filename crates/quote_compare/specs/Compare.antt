@@ -1,5 +1,5 @@
 -- Two quotes compared by their ends: the first is below the second or above it, with the least and the most between them,
--- or near, with the most that they can differ by. Beside it stand the two figures.
+-- or near, with the most that they can differ by. Beside it stand the two figures. And what that says of the exact values.
 use mathlib.Core.Bool.{cond}
 use Prim.Native.Nat.{ℕ, _-_, _≤_, _<_, max}
 use lib.Dec.{ltb}

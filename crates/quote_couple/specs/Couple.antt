@@ -1,5 +1,5 @@
 -- The quote of a couple (paper 02, E8): "two lives, each with its own sheet, age and one common quote year". Its refusal, and else
--- its ends and figure.
+-- its ends and figure; and what is promised of it.
 use mathlib.Core.Path.{_≡_}
 use mathlib.Core.Logic.{_↔_}
 use mathlib.Core.Bool.{Bool, _&&_}

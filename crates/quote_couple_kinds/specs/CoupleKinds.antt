@@ -1,5 +1,6 @@
 -- The kinds of a couple's figures (paper 02, E8): "the chances that both live and that at least one lives after a span, and the
--- expectancy of each of these two states". Of each the kind of a single life that it follows.
+-- expectancy of each of these two states": joint life where both live, last survivor where at least one does. Of each the kind of
+-- a single life that it follows.
 use Prim.Native.Nat.{ℕ, _*_}
 use Rattle.quote_kinds.specs.declared.Kind.{Kind}
 use Rattle.quote_kinds.specs.declared.Kind.the-variants as kind

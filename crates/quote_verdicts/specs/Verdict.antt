@@ -1,5 +1,5 @@
 -- The verdict on a published column of q for one year (paper 02, E3): "We need a verdict on whoever's column it is." A column
--- that was read is its 121 entries by age, each a number of steps of 0.00001.
+-- that was read is its 121 entries by age, each a number of steps of 0.00001. And what it says of the exact values.
 use mathlib.Core.Bool.{Bool, true, false, cond, not, _||_}
 use mathlib.Core.List.{List, [], _∷_}
 use Prim.Native.Nat.{ℕ, zero, suc, _<_}

@@ -8,7 +8,8 @@ use Rattle.number_fraction.specs.Ratio.{Ratio, _≤/_, _+/_, _*/_, whole/}
 use Rattle.number_fraction.specs.laws.RatioTerms.{_≈/_}
 use Rattle.number_fraction.specs.laws.RatioLaws.{≈/-iff}
 use Rattle.number_taylor.specs.Taylor.{taylorNum, taylorDen, gap, stretchedNum, stretchedDen, factorial}
-use Rattle.number_taylor.specs.Order.{expSum, orderLower, orderUpper, expTerm, expRemainder}
+use Rattle.number_taylor.specs.Order.{orderLower, orderUpper}
+use Rattle.number_taylor.specs.laws.Terms.{expSum, expTerm, expRemainder}
 
 -- the denominator of s is q^j·j!
 pub taylorDen-factorial : (q j : ℕ) → taylorDen q j ≡ q ^ j * factorial j

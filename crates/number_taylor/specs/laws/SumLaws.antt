@@ -5,7 +5,8 @@ use native.Mathlib.Omega.{arith}
 use Rattle.number_fraction.specs.Ratio.{Ratio, _≤/_, _+/_, _*/_}
 use Rattle.number_taylor.specs.Taylor.{taylorNum, taylorDen}
 use Rattle.number_taylor.specs.Positive.{taylorDen-positive}
-use Rattle.number_taylor.specs.Order.{expSum, orderUpper}
+use Rattle.number_taylor.specs.Order.{orderUpper}
+use Rattle.number_taylor.specs.laws.Terms.{expSum}
 use Rattle.number_taylor.specs.laws.Sums.{sum-monotone}
 use Rattle.number_taylor.specs.laws.Products.{sum-of-sum}
 
