@@ -6,18 +6,16 @@ use mathlib.Core.List.{append-nil}
 use native.Mathlib.Omega.{arith}
 use lib.Dec.{T}
 use lib.Ieee.Bits.{is-true}
-use lib.IntN.{ℤ, natAbs}
+use lib.IntN.{ℤ}
 use Rattle.number_fraction.specs.Ratio.{whole/}
 use Rattle.set_params.specs.declared.Params.{Params}
-use Rattle.set_params.specs.code.Within.{StartWithin}
 use Rattle.set_limits.specs.InLimits.{inLimits}
-use Rattle.set_limits.specs.laws.LimitsLaws.{in-limits-start}
 use Rattle.set_refusal.specs.declared.Refusal.{Refusal}
 use Rattle.set_refusal.specs.declared.Refusal.the-variants.{Accepted, OutOfLimits, LogForceOutOfRange, StartsDiffer}
 use Rattle.set_refusal.specs.Refusals.{refusalNumber}
-use Rattle.quote_paths.specs.Path.{pathOf, partYear, pathInRange}
+use Rattle.quote_paths.specs.Path.{partYear, pathInRange}
 use Rattle.quote_walks.specs.code.Code.{PathWithin, pathIs}
-use Rattle.quote_kinds.specs.Kinds.{ruleOf, countOf, spanOf, partOf}
+use Rattle.quote_kinds.specs.Kinds.{ruleOf, spanOf, partOf}
 use Rattle.quote_couple_kinds.specs.declared.CoupleKind.{CoupleKind}
 use Rattle.quote_couple_kinds.specs.declared.CoupleKind.the-variants.{JointLife, LastSurvivor, JointExpectancy, LastExpectancy}
 use Rattle.quote_couple_kinds.specs.CoupleKinds.{singleOf}
@@ -30,11 +28,11 @@ use Rattle.quote.specs.Quote.{queryPath, quoteBy, answerBy}
 use Rattle.quote.specs.code.Code.{pathTo}
 use Rattle.quote.specs.laws.Tests.{counted, path-first, path-room, path-in}
 use Rattle.quote.proofs.Steps.{refused, failed-append, first-passed, number-none}
-use Rattle.quote_couple.specs.Couple.{lifePath, coupleEnds, sameStart, coupleTable, coupleRefusal, coupleStep, coupleAnswer}
+use Rattle.quote_couple.specs.Couple.{lifePath, coupleEnds, coupleTable, coupleRefusal, coupleStep, coupleAnswer}
 use Rattle.quote_couple.specs.code.Code.{pathsAnswer}
 use Rattle.quote_couple.specs.Couple.{CoupleDemand3}
 use Rattle.quote_couple.specs.laws.Theorem.{demand-met}
-use Rattle.quote_couple.specs.laws.CoupleTests.{CoupleIn, couple-in, life-in, single-plain, same-starts, other-starts}
+use Rattle.quote_couple.specs.laws.CoupleTests.{CoupleIn, same-starts, other-starts}
 
 -- ---- each life's path, as the code has it
 

@@ -10,7 +10,7 @@ use Rattle.set_refusal.specs.Refusals.{refusalNumber}
 use Rattle.sheet.specs.declared.Written.{Written}
 use Rattle.run_line.specs.Line.{longestLine}
 use Rattle.run.specs.declared.Program.{Program}
-use Rattle.run.specs.Run.{textAnswer, textBuffer}
+use Rattle.run.specs.Run.{textAnswer}
 use Rattle.run.specs.laws.IntoLaws.{Into}
 use Rattle.run.specs.Run.{runOf, runRoom}
 use Rattle.c_set_numbers.specs.code.Code.{toldLength}

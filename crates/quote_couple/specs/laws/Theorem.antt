@@ -2,22 +2,22 @@
 use mathlib.Core.Path.{_≡_, refl, ap, sym, _∙_}
 use mathlib.Core.Bool.{true}
 use mathlib.Core.Logic.{_↔_}
-use Prim.Native.Nat.{ℕ, suc, _+_, _*_, _≤_, _<_}
+use Prim.Native.Nat.{ℕ, _+_, _≤_, _<_}
 use native.Mathlib.Omega.{arith}
 use lib.Dec.{lit<}
 use lib.ListN.{length}
 use lib.IntN.{ℤ, natAbs}
 use Rattle.number_exponential.specs.Billionths.{billionths}
-use Rattle.number_exact.specs.Value.{OneStep, RoundsTo}
+use Rattle.number_exact.specs.Value.{OneStep}
 use Rattle.number_exact.specs.laws.Rounding.{same-step}
 use Rattle.number_folds.specs.code.Code.{mostFactors}
 use Rattle.set_params.specs.declared.Params.{Params}
 use Rattle.set_params.specs.Set.{yearNumber}
 use Rattle.model_closure.specs.Weights.{lastClosed}
-use Rattle.quote_paths.specs.Path.{pathOf, factors}
+use Rattle.quote_paths.specs.Path.{factors}
 use Rattle.quote_paths.specs.laws.Answers.{AnsweredPath, path-length}
 use Rattle.quote_paths.specs.declared.Fold.the-variants.{Survival}
-use Rattle.quote_kinds.specs.Kinds.{ruleOf, mostSpan, longestSpan, yearsOn, countOf, stepOf, foldWidth, widthOf, spanOf}
+use Rattle.quote_kinds.specs.Kinds.{ruleOf, mostSpan, longestSpan, countOf, stepOf, foldWidth, widthOf, spanOf}
 use Rattle.quote_couple_kinds.specs.declared.CoupleKind.{CoupleKind}
 use Rattle.quote_couple_kinds.specs.declared.CoupleKind.the-variants as kind
 use Rattle.quote_couple_kinds.specs.declared.Status.{Status}

@@ -5,7 +5,7 @@ use Prim.Native.Nat.{ℕ, _+_, _*_, _≤_, _<_}
 use native.Mathlib.Decide.{decLt}
 use native.Mathlib.Omega.{arith}
 use borrow.Author.Tests.{eq-eqb, ne-eqb}
-use lib.ListN.{length, length-append}
+use lib.ListN.{length}
 use Rattle.text_tokens.specs.Text.{bytesOf}
 use Rattle.text_tokens.specs.Number.{unsignedText}
 use Rattle.text_tokens.specs.laws.DecimalLaws.{text-small}
@@ -16,7 +16,7 @@ use Rattle.run_answer_text.specs.laws.Lengths.{refusal-length, refused-length}
 use Rattle.run_sheets.specs.declared.Front.{Front}
 use Rattle.run_sheets.specs.Front.{frontOf}
 use Rattle.run_line.specs.declared.Mode.{Mode}
-use Rattle.run_line.specs.Line.{lineAnswer, longestLine}
+use Rattle.run_line.specs.Line.{lineAnswer}
 use Rattle.run_line.specs.code.Sizes.{mostLine}
 use Rattle.run_line.specs.laws.ReplyLaws.{longest-between}
 use Rattle.run.specs.declared.Program.{Program}
