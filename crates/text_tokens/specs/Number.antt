@@ -8,7 +8,7 @@ use lib.IntN.{ℤ, pos, negsuc}
 use lib.ListN.{length, take, drop}
 use Rattle.text_tokens.specs.Text.{Parse, malformed, taken}
 
--- the bytes of `-`, `0` and the line feed
+-- the bytes of `-` and `0`
 abbrev pub minusSign : ℕ
 minusSign = 45
 
