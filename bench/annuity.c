@@ -3,10 +3,9 @@
    compared with the C's first, at several rates, also on a set of the table LILEE. The library reads the sheet in each call: as
    many calls with an age past the last, which read it too and are then refused, are timed in the same turns and taken off. */
 #include <stdio.h>
-#include <string.h>
 
 #include "expectancy.h"
-#include "kulfizan.h"
+#include "same.h"
 #include "timing.h"
 
 /* The year that is timed, counted from the start: of AG2014 2020. */
@@ -67,7 +66,7 @@ static int agree(enum kind kind, unsigned n, unsigned rate) {
         if (annuity(kind, x, n, rate) != KULFIZAN_ACCEPTED) return 0;
         for (int i = 0; i < compilers; i++) {
             if (!in_c[i](&set, kind, x, n, rate, theirs)) return 0;
-            if (memcmp(quotes, theirs, sizeof theirs) != 0) return 0;
+            if (!same(quotes, theirs, PRICE_STEP)) return 0;
         }
     }
     return 1;

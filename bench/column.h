@@ -4,9 +4,6 @@
 #include "compilers.h"
 #include "params.h"
 
-/* The units of a step of a probability's figure. */
-#define PROBABILITY_STEP 10000
-
 /* The grid in plain C: ends[2x] and ends[2x + 1], and the verdict on a column by the figures of these ends; -1 where a cell is
    steep. */
 typedef int column_in_c(const params *p, unsigned n, const uint64_t *entries, uint64_t *ends);
@@ -14,7 +11,4 @@ column_in_c column_by_gcc, column_by_clang;
 
 /* The same values by ball arithmetic at 64 bits. */
 void column_by_arb(const params *p, unsigned n, double *middles);
-
-/* An end rounded half up to a step. */
-static inline uint64_t half_up(uint64_t end) { return (end + PROBABILITY_STEP / 2) / PROBABILITY_STEP; }
 #endif

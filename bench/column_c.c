@@ -1,15 +1,15 @@
 /* A column on the grid in plain C. */
 #include "column.h"
 #include "grid.h"
-#include "kulfizan.h"
+#include "same.h"
 
 /* The ends of q, and the verdict on the ages so far and on its entry. */
 static int put_death(ends force, uint64_t entry, int verdict, uint64_t *out) {
     ends s = exp_between(force);
     out[0] = UNIT - s.upper;
     out[1] = UNIT - s.lower;
-    uint64_t steps = half_up(out[0]);
-    if (steps != half_up(out[1])) return verdict == KULFIZAN_WRONG ? KULFIZAN_WRONG : KULFIZAN_OPEN;
+    uint64_t steps = half_up(out[0], CHANCE_STEP);
+    if (steps != half_up(out[1], CHANCE_STEP)) return verdict == KULFIZAN_WRONG ? KULFIZAN_WRONG : KULFIZAN_OPEN;
     return steps == entry ? verdict : KULFIZAN_WRONG;
 }
 

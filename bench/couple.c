@@ -1,13 +1,13 @@
 /* Times expectancies of couples in one year by kulfizan_couple and by the same grid in C, beside the expectancy of one life of
    the same age by kulfizan_quote, in turns in one run, on two sets: both lives of one age, at all ages, and at 65. The library's
-   ends are compared with the C's first, also at two ages and on sets of the table LILEE. The library reads both sheets in each
-   call: as many calls with ages past the last, which read them too and are then refused, are timed in the same turns and taken
-   off. */
+   ends are compared with the C's first, also at two ages and on sets of the table LILEE. The C works the coarse grid alone: an age
+   of which a quote is worked again is not timed. The library reads both sheets in each call: as many calls with ages past the last,
+   which read them too and are then refused, are timed in the same turns and taken off. */
 #include <stdio.h>
 #include <string.h>
 
 #include "expectancy.h"
-#include "kulfizan.h"
+#include "same.h"
 #include "timing.h"
 
 /* The year that is timed, counted from the start: of AG2014 2020. */
@@ -65,7 +65,7 @@ static void by_c(int which) {
 static int agree(enum status status, int x, int other_x, unsigned n) {
     if (couple(status, x, other_x, n) != KULFIZAN_ACCEPTED) return 0;
     for (int i = 0; i < compilers; i++)
-        if (!in_c[i](&set, &other, status, x, other_x, n, theirs) || memcmp(quotes, theirs, sizeof theirs) != 0) return 0;
+        if (!in_c[i](&set, &other, status, x, other_x, n, theirs) || !same(quotes, theirs, EXPECTANCY_STEP)) return 0;
     return 1;
 }
 
@@ -96,18 +96,32 @@ static runner all[] = {{"ejoint", by_couples, JOINT_LIFE, 0}, {"elast", by_coupl
     {"reading one taken off", by_singles, 1, 0}, EACH_COMPILER(JOINT_RUNNER) EACH_COMPILER(LAST_RUNNER)};
 static const int runners = sizeof all / sizeof all[0];
 
+/* Whether a quote of the age that is timed is worked again. */
+static int worked_again(void) {
+    int found = 0;
+    for (int status = JOINT_LIFE; status <= LAST_SURVIVOR; status++) {
+        couple((enum status)status, age, age, YEAR);
+        found |= again(quotes);
+    }
+    single(age, YEAR);
+    return found | again(quotes);
+}
+
 /* Each runner's mean time for a quote of the load, the library's without reading; the faster C's of each status are given. */
 static void time_load(const load *l, double *took, double *best_c) {
     double sums[MOST_RUNNERS] = {0};
+    int count = 0;
     times = l->times;
     for (age = l->first; age < l->first + l->count; age++) {
+        if (worked_again()) continue;
         take_turns(all, runners, l->turns);
         for (int i = 0; i < runners; i++) sums[i] += all[i].best;
+        count++;
     }
     sums[JOINT] -= sums[READ_COUPLE];
     sums[LAST] -= sums[READ_COUPLE];
     sums[SINGLE] -= sums[READ_SINGLE];
-    for (int i = 0; i < runners; i++) took[i] = all[i].best = sums[i] / (l->count * l->times);
+    for (int i = 0; i < runners; i++) took[i] = all[i].best = sums[i] / (count * l->times);
     for (int s = 0; s < 2; s++) best_c[s] = fastest(all + FIRST_C + s * compilers, compilers);
 }
 

@@ -7,7 +7,7 @@
 #include <string.h>
 
 #include "expectancy.h"
-#include "kulfizan.h"
+#include "same.h"
 #include "timing.h"
 
 /* The year that is timed, counted from the start: of AG2014 2020. */
@@ -72,11 +72,11 @@ static void by_c(int which) {
 
 /* Whether survival to a date is the same by all. */
 static int agree(int age, unsigned n, int whole, int date) {
-    uint64_t ours[2];
+    uint64_t ours[KULFIZAN_QUOTE_LENGTH];
     if (day(age, n, whole, date) != KULFIZAN_ACCEPTED) return 0;
     memcpy(ours, quotes, sizeof ours);
     for (int i = 0; i < compilers; i++)
-        if (!by_one_c(i, age, n, whole, date) || memcmp(ours, theirs, sizeof ours) != 0) return 0;
+        if (!by_one_c(i, age, n, whole, date) || !same(ours, theirs, CHANCE_STEP)) return 0;
     if (date != 101) return 1;
     return cohort(age, n, whole) == KULFIZAN_ACCEPTED && memcmp(ours, quotes, sizeof ours) == 0;
 }

@@ -1,13 +1,13 @@
 /* Times life expectancies in one year by kulfizan_quote, by the same grid in C and by Arb, in turns in one run, on one set:
    cohort ones at all ages, a period one at 65 and a cohort one at 65; and what factors past 120 cost, along the cohort and in
    one year. The library's ends are compared with the C's first, also on a set of the table LILEE, and Arb's middles must lie
-   between them. The library reads the sheet in each call: as many calls with an age past the last, which read it too and are then
-   refused, are timed in the same turns and taken off. */
+   between them; the C works the coarse grid alone, and no expectancy that is timed is worked again. The library reads the sheet in
+   each call: as many calls with an age past the last, which read it too and are then refused, are timed in the same turns and
+   taken off. */
 #include <stdio.h>
-#include <string.h>
 
 #include "expectancy.h"
-#include "kulfizan.h"
+#include "same.h"
 #include "timing.h"
 
 /* Years, counted from the start: of AG2014 2014, 2020 and 2064. */
@@ -28,29 +28,26 @@ static const int compilers = sizeof in_c / sizeof in_c[0];
 static params set;
 static char sheet[65536];
 static size_t length;
-static uint64_t ours[2 * COLUMN], theirs[2 * COLUMN];
+static uint64_t ours[COLUMN][KULFIZAN_QUOTE_LENGTH], theirs[2 * COLUMN];
 static double middles[COLUMN];
 static load work;
 
-/* The two ends of an expectancy by the library; the refusal's number, or 0. */
-static int library(enum kind kind, int age, unsigned n, uint64_t *ends) {
+/* The quote of an expectancy by the library; the refusal's number, or 0. */
+static int library(enum kind kind, int age, unsigned n, uint64_t *quote) {
     static const char *const words[] = {[COHORT] = "ecoh", [PERIOD] = "eper"};
-    uint64_t quote[KULFIZAN_QUOTE_LENGTH] = {0};
-    int no = kulfizan_quote((const uint8_t *)sheet, length, (const uint8_t *)words[kind], 4, age, set.start + n, 0, quote,
+    return kulfizan_quote((const uint8_t *)sheet, length, (const uint8_t *)words[kind], 4, age, set.start + n, 0, quote,
         KULFIZAN_QUOTE_LENGTH);
-    memcpy(ends, quote, 2 * sizeof *ends);
-    return no;
 }
 
 static void by_library(int which) {
     (void)which;
     for (int i = 0; i < work.times; i++)
-        for (int x = 0; x < work.count; x++) library(work.kind, work.first + x, work.n, ours + 2 * x);
+        for (int x = 0; x < work.count; x++) library(work.kind, work.first + x, work.n, ours[x]);
 }
 
 static void by_reading(int which) {
     (void)which;
-    for (int i = 0; i < work.times * work.count; i++) library(work.kind, COLUMN, work.n, ours);
+    for (int i = 0; i < work.times * work.count; i++) library(work.kind, COLUMN, work.n, ours[0]);
 }
 
 static void by_c(int which) {
@@ -66,16 +63,13 @@ static void by_arb(int which) {
 
 /* Whether the expectancies of all ages in year n are the same by all. */
 static int agree(enum kind kind, unsigned n) {
-    if (library(kind, COLUMN, n, ours) != KULFIZAN_NO_SUCH_AGE) return 0;
-    for (int x = 0; x < COLUMN; x++)
-        if (library(kind, x, n, ours + 2 * x) != KULFIZAN_ACCEPTED) return 0;
-    for (int i = 0; i < compilers; i++) {
-        for (int x = 0; x < COLUMN; x++)
-            if (!in_c[i](&set, kind, x, n, theirs + 2 * x)) return 0;
-        if (memcmp(ours, theirs, sizeof ours) != 0) return 0;
+    if (library(kind, COLUMN, n, ours[0]) != KULFIZAN_NO_SUCH_AGE) return 0;
+    for (int x = 0; x < COLUMN; x++) {
+        if (library(kind, x, n, ours[x]) != KULFIZAN_ACCEPTED) return 0;
+        for (int i = 0; i < compilers; i++)
+            if (!in_c[i](&set, kind, x, n, theirs + 2 * x) || !same(ours[x], theirs + 2 * x, EXPECTANCY_STEP)) return 0;
+        if (!between(ours[x], again(ours[x]) ? 1e13 : 1e9, expectancy_by_arb(&set, kind, x, n))) return 0;
     }
-    for (int x = 0; x < COLUMN; x++)
-        if (!between(ours + 2 * x, expectancy_by_arb(&set, kind, x, n))) return 0;
     return 1;
 }
 
@@ -104,6 +98,9 @@ static double time_load(const load *l, double *took) {
     const int reading = runners - 1;
     work = *l;
     take_turns(all, runners, l->turns);
+    for (int x = 0; x < l->count; x++)
+        if (library(l->kind, l->first + x, l->n, ours[x]) != KULFIZAN_ACCEPTED || again(ours[x]))
+            printf("%s is worked again at %d\n", l->name, l->first + x);
     all[LIBRARY].best -= all[reading].best;
     for (int i = 0; i < runners; i++) took[i] = all[i].best / (l->count * l->times);
     return fastest(all + FIRST_C, compilers) / (l->count * l->times);

@@ -26,8 +26,9 @@ void later(params *p);
 /* Writes the set's sheet and returns its length. */
 size_t sheet_of(const params *p, char *text);
 
-/* Whether a middle, as a plain number, lies between two ends in units, but for the last digits of a double. */
-static inline int between(const uint64_t *ends, double middle) {
-    return (double)ends[0] <= 1e9 * middle + 1 && 1e9 * middle - 1 <= (double)ends[1];
+/* Whether a middle, as a plain number, lies between two ends in units of which one has so many, but for the last digits of a
+   double. */
+static inline int between(const uint64_t *ends, double units, double middle) {
+    return (double)ends[0] <= units * middle + 1 && units * middle - 1 <= (double)ends[1];
 }
 #endif

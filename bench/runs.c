@@ -16,18 +16,17 @@
 #include "params.h"
 #include "timing.h"
 
-enum { TURNS = 80, QUERIES = 1000, KINDS = 7, MOST_INPUT = 65536, LONGEST_LINE = 161 };
+enum { TURNS = 80, QUERIES = 1000, KINDS = 7, MOST_INPUT = 65536, LONGEST_LINE = KULFIZAN_RUN_ROOM(0) };
 
-/* A kind: its word, how many years it has, whether it has spans, whether it has rates, and the steps of its figure in one. */
+/* A kind: its word, how many years it has, whether it has spans, whether it has rates, and the decimals of its figure. */
 typedef struct {
     const char *word;
-    int years, spans, rates;
-    uint64_t steps;
+    int years, spans, rates, decimals;
 } kind;
 
-static const kind kinds[KINDS] = {{"q", TABLE_YEARS, 0, 0, 100000}, {"coh", QUOTE_YEARS, 1, 0, 100000},
-    {"per", QUOTE_YEARS, 1, 0, 100000}, {"ecoh", QUOTE_YEARS, 0, 0, 10}, {"eper", QUOTE_YEARS, 0, 0, 10},
-    {"acoh", QUOTE_YEARS, 0, 1, 10}, {"aper", QUOTE_YEARS, 0, 1, 10}};
+static const kind kinds[KINDS] = {{"q", TABLE_YEARS, 0, 0, 5}, {"coh", QUOTE_YEARS, 1, 0, 5}, {"per", QUOTE_YEARS, 1, 0, 5},
+    {"ecoh", QUOTE_YEARS, 0, 0, 2}, {"eper", QUOTE_YEARS, 0, 0, 2}, {"acoh", QUOTE_YEARS, 0, 1, 1},
+    {"aper", QUOTE_YEARS, 0, 1, 1}};
 
 typedef struct {
     const kind *kind;
@@ -126,8 +125,9 @@ static size_t put_answer(const query *q, char *text) {
     if (quoted(q, q->age, quote) != KULFIZAN_ACCEPTED) stop("a query is refused");
     size_t length = put_query(q, text);
     if (quote[2] == 0) return length + (size_t)sprintf(text + length, " fig=open\n");
-    uint64_t one = q->kind->steps;
-    return length + (size_t)sprintf(text + length, " fig=%" PRIu64 ".%0*" PRIu64 "\n", quote[3] / one, one == 10 ? 1 : 5,
+    uint64_t one = 1;
+    for (int i = 0; i < q->kind->decimals; i++) one *= 10;
+    return length + (size_t)sprintf(text + length, " fig=%" PRIu64 ".%0*" PRIu64 "\n", quote[3] / one, q->kind->decimals,
         quote[3] % one);
 }
 

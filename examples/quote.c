@@ -1,6 +1,6 @@
 /* quote SHEET [RATE]: the life expectancy at 65 in 2015 of the cohort, by the parameters of a sheet; with a rate, in units of
-   10^-6, the price of 1 a year for life instead, the first paid at once. Prints its two ends and its figure, or the refusal's
-   number. `make examples` builds it. */
+   10^-6, the price of 1 a year for life instead, the first paid at once. Prints its two ends, with as many decimals as their unit
+   has, and its figure, or the refusal's number. `make examples` builds it. */
 #include <errno.h>
 #include <inttypes.h>
 #include <stdio.h>
@@ -9,14 +9,19 @@
 
 #define AGE 65
 #define YEAR 2015
+#define EXPECTANCY_DECIMALS 2
+#define PRICE_DECIMALS 1
 
 /* A file of more bytes than the longest sheet is torn, however many there are. */
 static uint8_t sheet[KULFIZAN_LONGEST_SHEET + 1];
 
-/* An end in units of 10^-9, with all its decimals. */
-static void print_end(const char *name, uint64_t end)
+/* A number of units, or of steps, with its decimals. */
+static void print_decimal(const char *name, uint64_t number, int decimals)
 {
-    printf("%s %" PRIu64 ".%09" PRIu64 "\n", name, end / 1000000000, end % 1000000000);
+    uint64_t one = 1;
+    for (int i = 0; i < decimals; i++)
+        one *= 10;
+    printf("%s%" PRIu64 ".%0*" PRIu64 "\n", name, number / one, decimals, number % one);
 }
 
 /* The number that a word is, and whether it is one of 64 bits. */
@@ -55,10 +60,10 @@ int main(int argc, char **argv)
         printf("no=%d\n", no);
         return 1;
     }
-    print_end("lower", quote[0]);
-    print_end("upper", quote[1]);
+    print_decimal("lower ", quote[0], (int)quote[4]);
+    print_decimal("upper ", quote[1], (int)quote[4]);
     if (quote[2] == 1)
-        printf("fig=%" PRIu64 ".%" PRIu64 "\n", quote[3] / 10, quote[3] % 10);
+        print_decimal("fig=", quote[3], argc == 2 ? EXPECTANCY_DECIMALS : PRICE_DECIMALS);
     else
         printf("fig=open\n");
     return 0;

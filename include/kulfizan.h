@@ -13,6 +13,19 @@
    2 to 5, and the ages' numbers from place 8 on. A list of 369 numbers is torn to the writer and short to the reader. The calls
    that take a sheet's bytes are as they were; a buffer for any sheet has KULFIZAN_LONGEST_SHEET bytes, 45 more than before.
 
+   A quote is five numbers: the lower end and the upper end, between which the exact value lies; 1 where the figure is printed and
+   0 where it is open; the figure's number of steps, 0 where it is open; and the unit of the ends, 9 for 10^-9 or 13 for 10^-13. The
+   step is 0.00001 for a chance, 0.01 for an expectancy and 0.1 for a price. A quote is worked in units of 10^-9, and where these
+   ends leave its figure open it is worked again in units of 10^-13: the ends and the figure are then those. Ends in units of 10^-13
+   lie at most ten times as many units apart as those of 10^-9 may, a thousandth as far. Where a call is refused no number is
+   written, and the unit is that of 10^-9.
+
+   Earlier a quote had four numbers, without the unit, and expectancies had steps of 0.1. A program that was compiled against that
+   lends four places, which are short now: it makes room for KULFIZAN_QUOTE_LENGTH numbers, takes the ends in the unit that the
+   fifth names, and counts the steps of an expectancy, one life's or a couple's, as hundredths. A figure can be open as before, but
+   seldom is. A run wants no more room than before, and its lines with ends name their unit. The soname is libkulfizan.so.2, so that
+   a program that was linked with the earlier library does not load this one.
+
    A call gives 0, or the number of its refusal and then leaves everything that it is lent as it was. The lowest number
    that applies is given, where 8 comes after 5 and before 6, 9 after 2 and before 4, 10 after 4 and before 5, and 11 after 2 and
    before 3. Of a couple each number is tried on the first life, then on the second, before the next number.
@@ -23,7 +36,8 @@
 
    Threads: the library has no state of its own, neither static nor by thread, and allocates nothing, so that any calls may run at
    once, also over the same sheet, as long as nothing that one of them writes is lent to another. Stack: a call needs less than
-   64 kB; measured on x86-64, read and write need some 20 kB, a verdict 37, a query or a target 44 to 47, a couple or a run 50. */
+   80 kB; measured on x86-64, read and write need some 20 kB, a couple 50, a query or a target 56, a run 59, a verdict 66, where
+   they work both grids. Earlier a call needed less than 64 kB. */
 #ifndef KULFIZAN_H
 #define KULFIZAN_H
 
@@ -31,7 +45,7 @@
 #include <stdint.h>
 
 #define KULFIZAN_SET_LENGTH 372
-#define KULFIZAN_QUOTE_LENGTH 4
+#define KULFIZAN_QUOTE_LENGTH 5
 
 /* No sheet that is written, and none that is accepted, has more bytes. */
 #define KULFIZAN_LONGEST_SHEET 8528
@@ -40,10 +54,14 @@
 #define KULFIZAN_LONGEST_INPUT 65536
 
 /* The room that a run of n bytes of input wants. */
-#define KULFIZAN_RUN_ROOM(n) (5 * (size_t)(n) + 161)
+#define KULFIZAN_RUN_ROOM(n) (5 * (size_t)(n) + 159)
 
 /* The highest rate of an annuity, in units of 10^-6. */
 #define KULFIZAN_HIGHEST_RATE 200000
+
+/* The units of a quote's ends, as its fifth number names them: 10^-9, and 10^-13 where the coarser ends leave the figure open. */
+#define KULFIZAN_COARSE_UNIT 9
+#define KULFIZAN_FINE_UNIT 13
 
 /* The refusals, and none. */
 enum kulfizan_refusal {
@@ -94,10 +112,10 @@ uint8_t kulfizan_write(const int64_t *values, size_t values_length, uint8_t *buf
                        uint64_t *length);
 
 /* Answers one query of a sheet. The kind is one of the words q, coh, per, ecoh and eper, with no byte after it. The year is one
-   from start + 1 to start + 51, for q to start + 171: for AG2014 2014 to 2064, and to 2184. The first four numbers of the quote
-   are then the lower end and the upper end in units of 10^-9, 1 where the figure is printed and 0 where it is open, and the
-   figure's number of steps (of 0.00001, for an expectancy 0.1), 0 where it is open; numbers after them keep their values. Torn
-   where the sheet or the kind is, off scale, no such age, year or span, steep, and short where there are fewer than four
+   from start + 1 to start + 51, for q to start + 171: for AG2014 2014 to 2064, and to 2184. The first five numbers of the quote
+   are then the lower end, the upper end, 1 where the figure is printed and 0 where it is open, the figure's number of steps (of
+   0.00001, for an expectancy 0.01), 0 where it is open, and the unit of the ends, 9 or 13; numbers after them keep their values.
+   Torn where the sheet or the kind is, off scale, no such age, year or span, steep, and short where there are fewer than five
    numbers. */
 uint8_t kulfizan_quote(const uint8_t *sheet, size_t sheet_length, const uint8_t *kind, size_t kind_length, int64_t age,
                        int64_t year, int64_t span, uint64_t *quote, size_t quote_length);
@@ -105,14 +123,14 @@ uint8_t kulfizan_quote(const uint8_t *sheet, size_t sheet_length, const uint8_t 
 /* Prices one annuity of a sheet: 1 paid now and on each 1 January while alive. The kind is one of the words acoh and aper,
    with no byte after it, the year one from start + 1 to start + 51, and the rate is in units of 10^-6. The quote is as above, in
    steps of 0.1. Torn where the sheet or the kind is, off scale, no such age, year, span or rate, steep, and short where there are
-   fewer than four numbers. */
+   fewer than five numbers. */
 uint8_t kulfizan_annuity(const uint8_t *sheet, size_t sheet_length, const uint8_t *kind, size_t kind_length, int64_t age,
                          int64_t year, int64_t span, int64_t rate, uint64_t *quote, size_t quote_length);
 
 /* Survival to a day of one life of a sheet, along the cohort, from 1 January of the year, one from start + 1 to start + 51. The
    date is the number YYYYMMDD, from that day to 31 December of the year in which age 120 is held. The quote is as above, in steps
    of 0.00001. Torn where the sheet is, off scale, no such age or year, no such date, no such span where it is a day outside that
-   term, steep, and short where there are fewer than four numbers. */
+   term, steep, and short where there are fewer than five numbers. */
 uint8_t kulfizan_day(const uint8_t *sheet, size_t sheet_length, int64_t age, int64_t year, int64_t date, uint64_t *quote,
                      size_t quote_length);
 
@@ -120,25 +138,26 @@ uint8_t kulfizan_day(const uint8_t *sheet, size_t sheet_length, int64_t age, int
    the same one. The kind is one of the words joint and last, the chances that both live and that at least one lives after the
    span, and ejoint and elast, the expectancies of these two states, with no byte after it. The sheets have one start year, and the
    year is one from start + 1 to start + 51; the span is one from 0 to 121 less the higher of the two ages, and 0 for ejoint and
-   elast. The quote is as above, in steps of 0.00001, for ejoint and elast 0.1. Torn where a sheet or the kind is, off scale, starts
-   differ, no such age, year or span, steep, and short where there are fewer than four numbers. Where the first sheet is off scale
-   and the second torn, torn is given. */
+   elast. The quote is as above, in steps of 0.00001, for ejoint and elast 0.01. Torn where a sheet or the kind is, off scale,
+   starts differ, no such age, year or span, steep, and short where there are fewer than five numbers. Where the first sheet is off
+   scale and the second torn, torn is given. */
 uint8_t kulfizan_couple(const uint8_t *sheet, size_t sheet_length, const uint8_t *other_sheet, size_t other_sheet_length,
                         const uint8_t *kind, size_t kind_length, int64_t age, int64_t other_age, int64_t year, int64_t span,
                         uint64_t *quote, size_t quote_length);
 
 /* Finds the year in which the period expectancy at an age reaches a target, any number, in units of 10^-9: of the 51 quote years,
-   start + 1 to start + 51, the first whose upper end is at or above the target. Where its lower end is too, `found` is then 0 and
-   the year is named: it is the earliest whose exact expectancy is at least the target. Else `found` is 1, for open, also where a
-   later year is certain. Where no upper end is, `found` is 2, for none: no year's exact expectancy is at least the target. The year
-   is 0 where none is named. Torn where the sheet is, off scale, no such age, and steep where a cell that any of the 51 years needs
-   leaves its range, also where an earlier year would answer. */
+   start + 1 to start + 51, the first whose upper end is at or above the target. The ends are those in units of 10^-9, also of a
+   year whose quote is worked again. Where the lower end is too, `found` is then 0 and the year is named: it is the earliest whose
+   exact expectancy is at least the target. Else `found` is 1, for open, also where a later year is certain. Where no upper end is,
+   `found` is 2, for none: no year's exact expectancy is at least the target. The year is 0 where none is named. Torn where the
+   sheet is, off scale, no such age, and steep where a cell that any of the 51 years needs leaves its range, also where an earlier
+   year would answer. */
 uint8_t kulfizan_target(const uint8_t *sheet, size_t sheet_length, int64_t age, int64_t target, uint64_t *found, int64_t *year);
 
 /* Checks a column of q for one year that somebody published: 121 lines `age=0 q=0.00312`, each ended by a line feed, upward from
    age 0 to 120; in any other order it is torn. The verdict is wrong where some age with a printed figure here has another entry;
-   else open, where some age's figure is open here; else right. Torn where the sheet is, off scale, torn column, no such year where
-   it is none of those of q, start + 1 to start + 171, and steep. */
+   else open, where some age's figure is open here; else right. The figures are those that kulfizan_quote gives. Torn where the
+   sheet is, off scale, torn column, no such year where it is none of those of q, start + 1 to start + 171, and steep. */
 uint8_t kulfizan_verdict(const uint8_t *sheet, size_t sheet_length, int64_t year, const uint8_t *column,
                          size_t column_length, uint64_t *verdict);
 

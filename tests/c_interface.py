@@ -14,7 +14,7 @@ ROOT = pathlib.Path(__file__).resolve().parent.parent
 EXAMPLE = ROOT / "target" / "examples" / "quote"
 LEAST, GREATEST = -(2**63), 2**63 - 1
 GUARD = 0x5A
-SET_LENGTH, QUOTE_LENGTH = 372, 4
+SET_LENGTH, QUOTE_LENGTH = 372, 5
 
 
 def built():

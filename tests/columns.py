@@ -1,13 +1,13 @@
 """The verdict on a column of q that somebody else published, written from paper 02, E3 and E10.
 
 A column is 121 lines `age=0 q=0.00312`, each ended by a line feed, upward from age 0 to 120, and nothing else. It is wrong
-where it differs from a printed figure, else open where a figure is open, else right. Refusals are those of the sheet, then 9
-for a torn column, and then those of q.
+where it differs from a printed figure, else open where a figure is open, else right; figures are those of a quote, so that an
+open one is worked again. Refusals are those of the sheet, then 9 for a torn column, and then those of q.
 """
 import functools
 import re
 
-from quotes import OLDEST, OPEN, Quotes, figure
+from quotes import OLDEST, OPEN, Quotes
 from reader import NUMBER, params_of, read
 
 RIGHT, WRONG = "right", "wrong"
@@ -38,7 +38,7 @@ class Columns:
         """The refusal of a year, 0 where it is accepted, and its figures at ages 0 to 120."""
         queries = [("q", age, year, 0) for age in AGES]
         no = next(filter(None, (self.quotes.refusal(*query) for query in queries)), 0)
-        return (no, None) if no else (0, [figure(self.quotes.ends(*query), "q") for query in queries])
+        return (no, None) if no else (0, [self.quotes.quote(*query).steps for query in queries])
 
     def verdict(self, year, column):
         """The refusal of a column, 0 where it is accepted, and the verdict on it."""

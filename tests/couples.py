@@ -1,10 +1,10 @@
 """Quotes of couples, written from paper 02, E8: two lives, each with its own set and age, and one common year, along the cohort.
-Their refusals, their ends on the grid, and their exact values to many digits. A query is a kind, two ages, a year and a span; the
+Their refusals, their ends on each grid, and their exact values to many digits. A query is a kind, two ages, a year and a span; the
 lives are the single ones of quotes.py."""
 from decimal import Decimal
 
-from grid import UNIT, down, up
-from quotes import NO_AGE, NO_SPAN, NO_YEAR, OFF_SCALE, STEEP, path
+from grid import COARSE, UNIT
+from quotes import NO_AGE, NO_SPAN, NO_YEAR, OFF_SCALE, STEEP, WIDER, path, quoted
 
 JOINT, LAST, JOINT_YEARS, LAST_YEARS = "joint", "last", "ejoint", "elast"
 COUPLES = (JOINT, LAST, JOINT_YEARS, LAST_YEARS)
@@ -14,27 +14,17 @@ STARTS_DIFFER = 11
 ORDER = (OFF_SCALE, STARTS_DIFFER, NO_AGE, NO_YEAR, NO_SPAN, STEEP)
 
 
-def widest(kind):
-    """How far apart the ends may be: twice as far as those of one life."""
-    return 60_000 if kind in (JOINT, LAST) else 20_000_000
+def widest(unit, kind):
+    """How far apart the ends may be, in units of 10^-unit: twice as far as those of one life."""
+    return (60_000 if kind in (JOINT, LAST) else 20_000_000) * WIDER[unit]
 
 
-def over_both(one, other):
-    """The ends of a product of two chances."""
-    return down(one[0] * other[0], UNIT), up(one[1] * other[1], UNIT)
-
-
-def against(chance):
-    """The ends of the chance that something does not happen."""
-    return UNIT - chance[1], UNIT - chance[0]
-
-
-def alive(kind, one, other):
+def alive(grid, kind, one, other):
     """The ends of the chance that both live, or at least one, from those of each: the latter is 1 less the product of the two
     death chances."""
     if kind in (JOINT, JOINT_YEARS):
-        return over_both(one, other)
-    return against(over_both(against(one), against(other)))
+        return grid.times(one, other)
+    return grid.against(grid.times(grid.against(one), grid.against(other)))
 
 
 def exact_alive(kind, one, other):
@@ -42,11 +32,11 @@ def exact_alive(kind, one, other):
     return one * other if kind in (JOINT, JOINT_YEARS) else 1 - (1 - one) * (1 - other)
 
 
-def survivals(factors):
+def survivals(grid, factors):
     """The ends of survival over no year, one and so on."""
-    out = [(UNIT, UNIT)]
+    out = [(grid.unit, grid.unit)]
     for factor in factors:
-        out.append(over_both(out[-1], factor))
+        out.append(grid.times(out[-1], factor))
     return out
 
 
@@ -55,6 +45,20 @@ def exact_survivals(factors):
     for factor in factors:
         out.append(out[-1] * factor)
     return out
+
+
+def grid_ends(grid, kind, factors):
+    """The ends of a quote of a kind from those of the factors of each life."""
+    chances = [alive(grid, kind, one, other) for one, other in zip(*(survivals(grid, life) for life in factors))]
+    if kind in (JOINT, LAST):
+        return chances[-1]
+    return tuple(grid.unit // 2 + sum(chance[i] for chance in chances[1:]) for i in (0, 1))
+
+
+def exact_value(kind, factors):
+    """The same with nothing rounded, in units of 10^-9."""
+    chances = [exact_alive(kind, one, other) for one, other in zip(*map(exact_survivals, factors))]
+    return (chances[-1] if kind in (JOINT, LAST) else Decimal(1) / 2 + sum(chances[1:])) * UNIT
 
 
 class Couple:
@@ -78,18 +82,16 @@ class Couple:
         """Each life with the cells of its path."""
         return [(life, path(life.start, *query)) for life, query in self.singles(kind, ages, year, span)]
 
-    def ends(self, kind, age, other_age, year, span):
-        """The two ends of an accepted quote."""
+    def ends(self, kind, age, other_age, year, span, grid=COARSE):
+        """The two ends of an accepted quote on a grid."""
         cells = self.cells(kind, (age, other_age), year, span)
-        lives = [survivals(life.grid.p(*cell) for cell in along) for life, along in cells]
-        chances = [alive(kind, one, other) for one, other in zip(*lives)]
-        if kind in (JOINT, LAST):
-            return chances[-1]
-        return UNIT // 2 + sum(lower for lower, _ in chances[1:]), UNIT // 2 + sum(upper for _, upper in chances[1:])
+        return grid_ends(grid, kind, [[life.on[grid].p(*cell) for cell in along] for life, along in cells])
+
+    def quote(self, *query):
+        """The quote of an accepted query."""
+        return quoted(lambda grid: self.ends(*query, grid=grid), SINGLE[query[0]])
 
     def value(self, kind, age, other_age, year, span):
-        """The exact value of an accepted quote, in units."""
+        """The exact value of an accepted quote, in units of 10^-9."""
         cells = self.cells(kind, (age, other_age), year, span)
-        lives = [exact_survivals(life.exact.p(*cell) for cell in along) for life, along in cells]
-        chances = [exact_alive(kind, one, other) for one, other in zip(*lives)]
-        return (chances[-1] if kind in (JOINT, LAST) else Decimal(1) / 2 + sum(chances[1:])) * UNIT
+        return exact_value(kind, [[life.exact.p(*cell) for cell in along] for life, along in cells])

@@ -1,19 +1,19 @@
-"""Quotes of all eight kinds, written from paper 01 and, for annuities, lives past 120 and survival to a day, paper 02: their
-refusals, their ends on the grid, their figures, and their exact values to many digits. A query is a kind, an age, a year and a
-span, and for an annuity a rate; survival to a day has a date, a number YYYYMMDD, in the span's place. The years count from the
-start year of the set. The calendar is that of Python's datetime."""
+"""Quotes of all eight kinds, written from paper 01 and, for annuities, lives past 120, survival to a day and finer working, paper
+02: their refusals, their ends on each grid, their figures, and their exact values to many digits. A query is a kind, an age, a
+year and a span, and for an annuity a rate; survival to a day has a date, a number YYYYMMDD, in the span's place. The years count
+from the start year of the set. The calendar is that of Python's datetime."""
+import collections
 import datetime
 from decimal import Decimal
-from functools import cache
+from functools import cache, cached_property
 
 import exact
-import grid
-from grid import START, UNIT, down, up
+from grid import COARSE, FINE, START, UNIT, down, in_range, up
 from reader import YEARS, in_limits, set_from
 
 SURVIVALS, EXPECTANCIES, ANNUITIES = ("coh", "per"), ("ecoh", "eper"), ("acoh", "aper")
 DAY = "day"
-TENTHS = EXPECTANCIES + ANNUITIES
+SUMS = EXPECTANCIES + ANNUITIES
 CHANCES = SURVIVALS + (DAY,)
 COHORT = ("coh", "ecoh", "acoh", DAY)
 UNRATED = ("q",) + SURVIVALS + EXPECTANCIES
@@ -25,6 +25,9 @@ RATE_UNIT, MOST_RATE = 10**6, 200_000
 FIRST_DATED, LAST_DATED = 1000, 9999
 OPEN = "open"
 
+# The two ends in units of 10^-unit, and the number of steps that both round to, or open.
+Quote = collections.namedtuple("Quote", "lower upper unit steps")
+
 
 def years_of(start):
     """The first and the last year of a quote, and the last year of the table, of sets with a start year."""
@@ -35,9 +38,14 @@ def years_of(start):
 FIRST_YEAR, LAST_YEAR, LAST_CELL = years_of(START)
 
 
-def step(kind):
-    """A figure's step, in units: 0.1 for expectancies and annuities, else 0.00001."""
-    return UNIT // 10 if kind in TENTHS else UNIT // 10**5
+def decimals(kind):
+    """A figure's: two for expectancies (E11), one for annuities, else five."""
+    return 2 if kind in EXPECTANCIES else 1 if kind in ANNUITIES else 5
+
+
+def step(kind, grid=COARSE):
+    """A figure's step, in a grid's units."""
+    return grid.unit // 10 ** decimals(kind)
 
 
 def day_of(date):
@@ -67,13 +75,16 @@ def term(age, year):
     return datetime.date(year, 1, 1), datetime.date(year + OLDEST - age, 12, 31)
 
 
-def width(kind, age, year, span, *_):
-    """How far apart the ends may be; those of survival to a day by the age held on it."""
+# How many times as many units fine ends may be apart: a thousandth as far.
+WIDER = {COARSE.digits: 1, FINE.digits: 10}
+
+
+def width(unit, kind, age, year, span, *_):
+    """How far apart the ends may be, in units of 10^-unit; those of survival to a day by the age held on it."""
     held = age + day_of(span).year - year if kind == DAY else age
     last = 100 if held <= LAST_FITTED else 600
-    if kind == "q":
-        return last
-    return 10_000_000 if kind in TENTHS else 30_000 + last if kind == DAY else 30_000
+    most = last if kind == "q" else 10_000_000 if kind in SUMS else 30_000 + last if kind == DAY else 30_000
+    return most * WIDER[unit]
 
 
 def factors_from(start, year):
@@ -100,39 +111,54 @@ def path(start, kind, age, year, span):
     return [(min(age + s, OLDEST), year + on * s) for s in range(count)]
 
 
-def rounded(value, kind):
-    """A value in units, rounded half up to a number of steps."""
-    size = step(kind)
+def rounded(value, kind, grid=COARSE):
+    """A value in a grid's units, rounded half up to a number of steps."""
+    size = step(kind, grid)
     return int((value + size // 2) // size)
 
 
-def figure(ends, kind):
+def figure(ends, kind, grid=COARSE):
     """The number of steps that both ends round to, or open."""
-    lower, upper = (rounded(end, kind) for end in ends)
+    lower, upper = (rounded(end, kind, grid) for end in ends)
     return lower if lower == upper else OPEN
 
 
-def grid_price(factors, rate):
-    """The ends of 1 paid now and after each factor: discount and survival start at 10^9 and take a step a year, outward, and
-    each payment is their product over 10^9, outward."""
-    discount = alive = total = (UNIT, UNIT)
-    for lower, upper in factors:
+def quoted(ends_on, kind):
+    """The quote of a kind's step by its ends on each grid: those of the fine one where the coarse ones leave it open (E11)."""
+    for grid in (COARSE, FINE):
+        ends = ends_on(grid)
+        steps = figure(ends, kind, grid)
+        if steps != OPEN:
+            break
+    return Quote(*ends, grid.digits, steps)
+
+
+def in_units(value, unit):
+    """An exact value, in units of 10^-9, in those of 10^-unit."""
+    return value * 10 ** (unit - COARSE.digits)
+
+
+def grid_price(grid, factors, rate):
+    """The ends of 1 paid now and after each factor: discount and survival start at 1 and take a step a year, outward, and each
+    payment is their product, outward."""
+    discount = alive = total = (grid.unit, grid.unit)
+    for factor in factors:
         discount = down(discount[0] * RATE_UNIT, RATE_UNIT + rate), up(discount[1] * RATE_UNIT, RATE_UNIT + rate)
-        alive = down(alive[0] * lower, UNIT), up(alive[1] * upper, UNIT)
-        total = total[0] + down(discount[0] * alive[0], UNIT), total[1] + up(discount[1] * alive[1], UNIT)
+        alive = grid.times(alive, factor)
+        payment = grid.times(discount, alive)
+        total = total[0] + payment[0], total[1] + payment[1]
     return total
 
 
-def grid_ends(kind, factors, rate=None):
+def grid_ends(grid, kind, factors, rate=None):
     """The ends of a quote of a kind from those of its factors."""
     if kind == "q":
-        ((lower, upper),) = factors
-        return UNIT - upper, UNIT - lower
+        return grid.against(*factors)
     if kind in ANNUITIES:
-        return grid_price(factors, rate)
-    alive, total = (UNIT, UNIT), (UNIT // 2, UNIT // 2)
-    for lower, upper in factors:
-        alive = down(alive[0] * lower, UNIT), up(alive[1] * upper, UNIT)
+        return grid_price(grid, factors, rate)
+    alive, total = (grid.unit, grid.unit), (grid.unit // 2, grid.unit // 2)
+    for factor in factors:
+        alive = grid.times(alive, factor)
         total = total[0] + alive[0], total[1] + alive[1]
     return alive if kind in CHANCES else total
 
@@ -143,6 +169,19 @@ def exact_price(factors, rate):
     for p in reversed(factors):
         total = 1 + total * p * RATE_UNIT / (RATE_UNIT + rate)
     return total
+
+
+def exact_value(kind, factors, rate=None):
+    """The exact value of a quote of a kind from its factors, in units of 10^-9."""
+    if kind == "q":
+        return (1 - factors[0]) * UNIT
+    if kind in ANNUITIES:
+        return exact_price(factors, rate) * UNIT
+    alive, total = Decimal(1), Decimal(1) / 2
+    for p in factors:
+        alive *= p
+        total += alive
+    return (alive if kind in CHANCES else total) * UNIT
 
 
 class Cells:
@@ -168,21 +207,27 @@ class Cells:
 
 
 class GridCells(Cells):
-    arithmetic = grid
+    """The p of cells on a grid, as pairs of ends."""
 
-    def __init__(self, params):
+    def __init__(self, params, grid):
         super().__init__(params)
-        self.kappas, self.steep = grid.kappas(params, YEARS), cache(self.steep)
+        self.grid = self.arithmetic = grid
+        self.steep = cache(self.steep)
+
+    @cached_property
+    def kappas(self):
+        return self.grid.kappas(self.params, YEARS)
 
     def m(self, age, year):
         period = self.params["K"] + (year - self.start) * self.params["theta"]
-        return grid.log_force(self.params, age, period, self.kappas[year - self.start])
+        return self.grid.log_force(self.params, age, period, self.kappas[year - self.start])
 
     def p(self, age, year, *part):
-        return grid.exp_between(self.passed(age, year, part))
+        return self.grid.exp_between(self.passed(age, year, part))
 
     def steep(self, age, year, *_):
-        return not all(grid.in_range(self.m(y, year)) for y in (CLOSURE if age > LAST_FITTED else [age]))
+        """Whether a needed cell's log force is out of range, which the coarse grid tells."""
+        return not all(in_range(self.m(y, year)) for y in (CLOSURE if age > LAST_FITTED else [age]))
 
 
 class ExactCells(Cells):
@@ -205,7 +250,8 @@ class Quotes:
     def __init__(self, params):
         self.start, self.in_limits = params["start"], in_limits(set_from(params))
         if self.in_limits:
-            self.grid, self.exact = GridCells(params), ExactCells(params)
+            self.on = {grid: GridCells(params, grid) for grid in (COARSE, FINE)}
+            self.coarse, self.exact = self.on[COARSE], ExactCells(params)
 
     def refusal(self, kind, age, year, span, rate=None):
         """The lowest number of the paper's table that applies, where 8 comes after 5 and before 6, and 10 after 4 and before
@@ -227,21 +273,16 @@ class Quotes:
             return NO_SPAN
         if kind in ANNUITIES and not 0 <= rate <= MOST_RATE:
             return NO_RATE
-        return STEEP if any(self.grid.steep(*cell) for cell in path(self.start, kind, age, year, span)) else 0
+        return STEEP if any(self.coarse.steep(*cell) for cell in path(self.start, kind, age, year, span)) else 0
 
-    def ends(self, kind, age, year, span, rate=None):
-        """The two ends of an accepted quote."""
-        return grid_ends(kind, [self.grid.p(*cell) for cell in path(self.start, kind, age, year, span)], rate)
+    def ends(self, kind, age, year, span, rate=None, grid=COARSE):
+        """The two ends of an accepted quote on a grid."""
+        return grid_ends(grid, kind, [self.on[grid].p(*cell) for cell in path(self.start, kind, age, year, span)], rate)
+
+    def quote(self, *query):
+        """The quote of an accepted query."""
+        return quoted(lambda grid: self.ends(*query, grid=grid), query[0])
 
     def value(self, kind, age, year, span, rate=None):
-        """The exact value of an accepted quote, in units."""
-        factors = [self.exact.p(*cell) for cell in path(self.start, kind, age, year, span)]
-        if kind == "q":
-            return (1 - factors[0]) * UNIT
-        if kind in ANNUITIES:
-            return exact_price(factors, rate) * UNIT
-        alive, total = Decimal(1), Decimal(1) / 2
-        for p in factors:
-            alive *= p
-            total += alive
-        return (alive if kind in CHANCES else total) * UNIT
+        """The exact value of an accepted quote, in units of 10^-9."""
+        return exact_value(kind, [self.exact.p(*cell) for cell in path(self.start, kind, age, year, span)], rate)

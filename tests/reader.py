@@ -4,7 +4,7 @@ import collections
 import functools
 import re
 
-from grid import AG2014, LILEE, START, kappas
+from grid import AG2014, COARSE, LILEE, START
 
 ACCEPTED, TORN, OFF_SCALE, SHORT = 0, 1, 2, 7
 LONGEST = 65_536
@@ -41,7 +41,7 @@ def params_of(which):
 @functools.lru_cache(10_000)
 def kappa_within(a, k, c):
     """Whether kappa's ends lie within k's limit in all years from the start to 171 years after it."""
-    return all(abs(end) <= SIZES["k"] for ends in kappas({"a": a, "k": k, "c": c}, YEARS) for end in ends)
+    return all(abs(end) <= SIZES["k"] for ends in COARSE.kappas({"a": a, "k": k, "c": c}, YEARS) for end in ends)
 
 
 def table_within(which):

@@ -1,5 +1,5 @@
 """Parameter sets and their sheets, for the tests: written from paper 01, "Parameter sheet", and from paper 02."""
-from grid import HIGHEST, LILEE, LOWEST, OF_AG2014, RATE, START, flat, kappas
+from grid import COARSE, HIGHEST, LILEE, LOWEST, OF_AG2014, RATE, START, flat
 from reader import SIZES, kappa_within, set_from, sheet_of
 
 AGES = 91
@@ -85,7 +85,7 @@ def extreme_lilee(draw, a, start, year, spread, margin=40):
     """As `extreme`, of the table LILEE, with a constant as large as kappa's limit allows, or some halves of it."""
     out, n = large(draw, a, spread), year - start
     out = of_lilee(out, start, any_constant(draw, a, out["k"]))
-    return centred(draw, out, out["K"] + n * out["theta"], kappas(out, n)[n][0], margin)
+    return centred(draw, out, out["K"] + n * out["theta"], COARSE.kappas(out, n)[n][0], margin)
 
 
 def at_edge(draw, year, offset):

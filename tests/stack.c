@@ -1,5 +1,6 @@
 /* How many bytes of a thread's stack each call of the library needs: a stack is painted, the call runs on it, and what is no longer
-   painted was used. The arguments are two sheets, an input of queries and a column. */
+   painted was used. The arguments are two sheets, an input of queries and a column: examples/women.sheet and men.sheet, by which the
+   quotes below are worked on both grids, and so are some of the input and of the column. */
 #include "kulfizan.h"
 
 #include <pthread.h>
@@ -14,6 +15,13 @@ static size_t first_length, second_length, input_length, column_length;
 static int64_t set[KULFIZAN_SET_LENGTH];
 static uint8_t number;
 
+enum { NOT_FINE = 100 };
+
+/* The number of a call that quoted, or another where it did not work the fine grid. */
+static uint8_t fine(uint8_t no, const uint64_t *quote) {
+    return no != KULFIZAN_ACCEPTED || quote[4] == KULFIZAN_FINE_UNIT ? no : NOT_FINE;
+}
+
 static void nothing(void) {}
 static void reading(void) { number = kulfizan_read(first, first_length, set, KULFIZAN_SET_LENGTH); }
 static void writing(void) {
@@ -22,20 +30,25 @@ static void writing(void) {
 }
 static void quoting(void) {
     uint64_t quote[KULFIZAN_QUOTE_LENGTH];
-    number = kulfizan_quote(first, first_length, (const uint8_t *)"ecoh", 4, 0, 2022, 0, quote, KULFIZAN_QUOTE_LENGTH);
+    uint8_t no = kulfizan_quote(first, first_length, (const uint8_t *)"ecoh", 4, 17, 2036, 0, quote, KULFIZAN_QUOTE_LENGTH);
+    number = fine(no, quote);
 }
 static void pricing(void) {
     uint64_t quote[KULFIZAN_QUOTE_LENGTH];
-    number = kulfizan_annuity(first, first_length, (const uint8_t *)"aper", 4, 0, 2022, 0, 30000, quote, KULFIZAN_QUOTE_LENGTH);
+    uint8_t no = kulfizan_annuity(first, first_length, (const uint8_t *)"acoh", 4, 34, 2048, 0, 30000, quote,
+                                  KULFIZAN_QUOTE_LENGTH);
+    number = fine(no, quote);
 }
 static void to_a_day(void) {
     uint64_t quote[KULFIZAN_QUOTE_LENGTH];
-    number = kulfizan_day(first, first_length, 0, 2022, 21420615, quote, KULFIZAN_QUOTE_LENGTH);
+    uint8_t no = kulfizan_day(first, first_length, 65, 2020, 20301201, quote, KULFIZAN_QUOTE_LENGTH);
+    number = fine(no, quote);
 }
 static void of_two(void) {
     uint64_t quote[KULFIZAN_QUOTE_LENGTH];
-    number = kulfizan_couple(first, first_length, second, second_length, (const uint8_t *)"elast", 5, 0, 0, 2022, 0, quote,
-                             KULFIZAN_QUOTE_LENGTH);
+    uint8_t no = kulfizan_couple(first, first_length, second, second_length, (const uint8_t *)"elast", 5, 15, 18, 2045, 0, quote,
+                                 KULFIZAN_QUOTE_LENGTH);
+    number = fine(no, quote);
 }
 static void aiming(void) {
     uint64_t found;

@@ -1,5 +1,5 @@
 """The year in which the period expectancy at an age reaches a target, written from paper 02, E9: its refusals, the answer by the
-ends of the 51 quote years, and the earliest year by the exact values. The expectancies are the quotes `eper` of quotes.py."""
+coarse ends of the 51 quote years, and the earliest year by the exact values. The expectancies are those of `eper` in quotes.py."""
 import functools
 
 from quotes import Quotes, years_of
@@ -21,7 +21,7 @@ class Targets:
         return next(filter(None, (self.quotes.refusal(PERIOD, age, year, 0) for year in self.years)), 0)
 
     def ends(self, age):
-        """The two ends at an accepted age, year by year."""
+        """The two coarse ends at an accepted age, year by year."""
         return [self.quotes.ends(PERIOD, age, year, 0) for year in self.years]
 
     def values(self, age):

@@ -22,11 +22,14 @@ import c_interface
 import sheets
 import test_quotes
 from c_interface import GREATEST, LEAST, QUOTE_LENGTH, ROOT, SET_LENGTH, listed
+from edges import Edges
 from grid import flat
-from quotes import ANNUITIES, DAY, KINDS, OPEN, TENTHS, UNRATED, Quotes, figure
+from quotes import ANNUITIES, DAY, KINDS, OPEN, UNRATED, Quotes, decimals
 from reader import KEYS, LIMITS, LONGEST, OFF_SCALE, SHORT, SIZES, TORN, Set, params_of, read, set_from
 
 SEED = 20142065
+# What a run wants beside five bytes for each of its input.
+RUN_ROOM = 159
 PLACES = (QUOTE_LENGTH, QUOTE_LENGTH, QUOTE_LENGTH, QUOTE_LENGTH + 1, 9, QUOTE_LENGTH - 1, 2, 1, 0)
 
 
@@ -74,16 +77,18 @@ def cases(draw):
     yield from itertools.islice(test_quotes.steep_once_cases(draw), 4)
     for kind in KINDS:
         yield from test_quotes.searched((kind, 2, draw.random()))
+        yield from test_quotes.opened((kind, draw.random()))
 
 
 def answer(given, no, query):
-    """The refusal of a query, and the four numbers of its quote."""
+    """The refusal of a query, and the five numbers of its quote."""
     no = no or given.refusal(*query)
-    if no:
-        return no, None
-    ends = given.ends(*query)
-    steps = figure(ends, query[0])
-    return 0, [*ends, 0, 0] if steps == OPEN else [*ends, 1, steps]
+    return (no, None) if no else (0, numbers_of(given.quote(*query)))
+
+
+def numbers_of(quote):
+    """A quote as the library has it: both ends, whether it is printed, the number of steps and the ends' unit."""
+    return [quote.lower, quote.upper, *((0, 0) if quote.steps == OPEN else (1, quote.steps)), quote.unit]
 
 
 def lent(draw, places):
@@ -183,7 +188,7 @@ def compare_couples(count, draw, module):
         for sheet, other_sheet in (pair, pair[::-1]):
             wanted = sheets_refusal(sheet, other_sheet)
             met[wanted] += 1
-            for kind, places in itertools.product(COUPLES, (*PLACES, 4, 4)):
+            for kind, places in itertools.product(COUPLES, (*PLACES, QUOTE_LENGTH, QUOTE_LENGTH)):
                 asked, before = draw.choice(numbers), lent(draw, places)
                 got = c_interface.couple(module.LIBRARY, sheet, other_sheet, kind.encode(), *asked, before=before)
                 count.take(got == (wanted, before), f"{kind} {asked}, {places} places: {got} and not {wanted}")
@@ -229,12 +234,13 @@ def target_sheets(draw):
 
 
 def period_ends(module, sheet, age):
-    """The refusal that some of the 51 quotes has, and the ends of each year's."""
+    """The refusal that some of the 51 quotes has, and the coarse ends of each year's."""
     no, which = read(sheet)
     first = 2014 if no else which.start + 1
     quotes = {year: raised(module.quote, sheet, "eper", age, year) for year in range(first, first + 51)}
     refused = next(filter(None, quotes.values()), 0)
-    return refused, {} if refused else {year: module.quote(sheet, "eper", age, year)[:2] for year in quotes}
+    given = None if refused else Quotes(params_of(which))
+    return refused, {} if refused else {year: given.ends("eper", age, year, 0) for year in quotes}
 
 
 def reached(ends, target):
@@ -321,7 +327,7 @@ def compare_runs(count, draw, module):
         for ends in (0, draw.choice((1, 2, 128, 255))):
             wanted = whole_run.run(data, ends != 0)
             count.take(module.run(data, ends != 0) == wanted, f"a run of {len(data)} bytes gives something else")
-            need = 5 * len(data) + 161
+            need = 5 * len(data) + RUN_ROOM
             for room in (need, need - 1, need + draw.randrange(1, 300), draw.randrange(need)):
                 before, length = draw.randbytes(room), draw.getrandbits(64)
                 got = c_interface.run(module.LIBRARY, data, ends, before, length)
@@ -365,7 +371,7 @@ def compare_days(count, module, sheet, given):
     for year, month, day in ((2020, 1, 1), (2041, 3, 15), (2060, 12, 31), (2020, 2, 29), (2075, 12, 31), (2076, 1, 1)):
         date = year * 10**4 + month * 100 + day
         no, numbers = answer(given, 0, (DAY, 65, 2020, date))
-        wanted = no or (*numbers[:2], numbers[3] if numbers[2] else None, 5)
+        wanted = no or (*numbers[:2], numbers[3] if numbers[2] else None, 5, numbers[4])
         for asked in (date, datetime.date(year, month, day)):
             got = raised(module.day, sheet, 65, 2020, asked) or module.day(sheet, 65, 2020, asked)
             count.take(got == wanted, f"day to {asked} gives {got} and not {wanted}")
@@ -383,13 +389,13 @@ def compare_module(count, draw, module):
     asked = [("q", 65, 2020, 0), ("ecoh", 65, 2020, 0), ("per", 30, 2064, 0)]
     for query in asked + [("acoh", 65, 2020, 0, 30_000), ("aper", 119, 2064, 0, 0), ("acoh", 120, 2014, 0, 200_000)]:
         no, numbers = answer(given, 0, query)
-        wanted = None if no else (*numbers[:2], numbers[3] if numbers[2] else None, 1 if query[0] in TENTHS else 5)
+        wanted = None if no else (*numbers[:2], numbers[3] if numbers[2] else None, decimals(query[0]), numbers[4])
         got = raised(module.quote, sheet, *query) or module.quote(sheet, *query)
         count.take(got == (no or wanted), f"quote gives {got} and not {no or wanted}")
     compare_days(count, module, sheet, given)
-    lower, upper, steps, decimals = module.quote(sheets.text(flat()), "ecoh", 120, 2064)
-    wanted = lower + 5 * 10**8, upper + 5 * 10**8, steps + 5, decimals
-    count.take(steps == 27, "the flat sheet's expectancy at 120 is not 2.7")
+    lower, upper, steps, *_ = module.quote(sheets.text(flat()), "ecoh", 120, 2064)
+    wanted = lower + 5 * 10**8, upper + 5 * 10**8, 32, 1, 9
+    count.take(steps == 275, "the flat sheet's expectancy at 120 is not 2.75")
     got = module.quote(sheets.text(flat()), "acoh", 120, 2064, rate=0)
     count.take(got == wanted, "an annuity at rate 0 is not the expectancy and a half")
     off_scale, steep = sheets.text(dict(flat(), a=SIZES["a"] + 1)), sheets.text(dict(flat(), A=[0] * 91))
@@ -454,15 +460,26 @@ def shown(data, *rate):
     no, numbers = answer(None if no else Quotes(params_of(which)), no, ("acoh" if rate else "ecoh", 65, 2015, 0, *rate))
     if no:
         return 1, f"no={no}\n"
-    lower, upper, printed, steps = numbers
-    ends = [f"{name} {end // 10**9}.{end % 10**9:09}" for name, end in (("lower", lower), ("upper", upper))]
-    return 0, "\n".join([*ends, f"fig={steps // 10}.{steps % 10}" if printed else "fig=open"]) + "\n"
+    lower, upper, printed, steps, unit = numbers
+    ends = [f"{name} {end // 10**unit}.{end % 10**unit:0{unit}}" for name, end in (("lower", lower), ("upper", upper))]
+    figure = whole_run.figure_text(steps if printed else OPEN, "acoh" if rate else "ecoh")
+    return 0, "\n".join([*ends, f"fig={figure}"]) + "\n"
+
+
+def at_half_step(draw, query, beyond):
+    """A sheet with a quote so many units of 10^-13 beyond a half step."""
+    while True:
+        edges = Edges(test_quotes.mild(draw))
+        if edges.place(query, beyond) and not Quotes(edges.params).refusal(*query):
+            return sheets.text(edges.params)
 
 
 def compare_example(count, draw):
     sheet = sheets.text(flat())
     inputs = [sheet, sheets.text(sheets.realistic(draw)), sheets.text(test_quotes.mild(draw)), b"", sheet[:-1], sheet * 20]
     inputs += [sheets.text(dict(flat(), a=SIZES["a"] + 1)), sheets.text(dict(flat(), A=[0] * 91)), sheet.ljust(2**20, b"\n")]
+    asked = (("ecoh", 65, 2015, 0), ("acoh", 65, 2015, 0, 30_000))
+    inputs += [at_half_step(draw, query, beyond) for query in asked for beyond in (0, 10**5)]
     with tempfile.NamedTemporaryFile() as file:
         for data in inputs:
             pathlib.Path(file.name).write_bytes(data)

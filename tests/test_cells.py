@@ -1,6 +1,6 @@
 """Every end of q against two implementations of its own: the grid in whole numbers, end for end, and the exact value to many
 digits, which must lie between the ends. Asks the program `ends` for every age in some years of flat, realistic and extreme
-sheets, steep cells too."""
+sheets, steep cells too. Cells whose figure the coarse ends leave open have fine ones."""
 import concurrent.futures
 import random
 import re
@@ -10,14 +10,14 @@ import exact
 import grid
 import programs
 import sheets
-from quotes import OLDEST, STEEP
+from quotes import OLDEST, STEEP, Quotes, quoted, width
 from reader import LONGEST
 
 SEED = 20142184
 FIRST, LAST = 2014, 2184
 COLUMNS = 1680
 AGES = range(OLDEST + 1)
-ANSWER = re.compile(r" lo=([0-9]+) hi=([0-9]+) fig=.*")
+ANSWER = re.compile(r" lo=([0-9]+) hi=([0-9]+) unit=(9|13) fig=.*")
 
 
 def plan():
@@ -56,19 +56,23 @@ def asked(params, years):
 
 
 def cell_complaints(answer, want, exactly, age):
-    """What is wrong with the answer for a cell, given the grid's ends, None where it is steep, and the exact value."""
+    """What is wrong with the answer for a cell, given the quote, None where it is steep, and the exact value."""
     if want is None:
         if answer != f" no={STEEP}":
             yield "not steep"
         return
     got = ANSWER.fullmatch(answer)
-    if not got or (int(got[1]), int(got[2])) != want:
-        yield f"ends are not {want}"
-    lower, upper = want
-    if not lower <= exactly * grid.UNIT <= upper:
-        yield f"{exactly} is not between {lower} and {upper}"
-    if upper - lower > (100 if age <= 90 else 600):
-        yield f"{upper - lower} units wide"
+    if not got or tuple(map(int, got.groups())) != want[:3]:
+        yield f"ends are not those of {want}"
+    if not want.lower <= exactly * 10**want.unit <= want.upper:
+        yield f"{exactly} is not between the ends of {want}"
+    if want.upper - want.lower > width(want.unit, "q", age, None, 0):
+        yield f"{want.upper - want.lower} units wide"
+
+
+def with_fine(given, q, age, year):
+    """The quote of a cell with coarse ends of q, and fine ones where these leave it open."""
+    return quoted(lambda on: q if on is grid.COARSE else given.ends("q", age, year, 0, grid=on), "q")
 
 
 def compare(job):
@@ -78,9 +82,10 @@ def compare(job):
     answers, said = asked(params, years)
     if said:
         return 0, 0, [said]
-    kappas = grid.kappas(params, max(years) - params["start"])
+    kappas, given = grid.COARSE.kappas(params, max(years) - params["start"]), Quotes(params)
     for i, year in enumerate(years):
-        want = grid.column(params, year, kappas[year - params["start"]])
+        ends = grid.column(params, year, kappas[year - params["start"]])
+        want = [q and with_fine(given, q, x, year) for x, q in enumerate(ends)]
         digits = exact.column(params, year)
         steep += want.count(None)
         for x, answer in zip(AGES, answers[i * len(AGES) :]):

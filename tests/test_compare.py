@@ -3,9 +3,9 @@ against the exact values to 80 digits.
 
 It runs the program on some thousand inputs: two sheets that are whole, torn or off scale, the first, the second or both; too
 few lines; torn queries; queries refused for one sheet or both; open figures on either side; ends that touch or lie one unit
-apart; inputs up to, at and past the longest, in pieces. Of each compared query of some hundred pairs of sheets, `below` and
-`above` must be true of the exact values, and their difference at least `least=` and at most `most=`; `near`, at most `most=`.
-An argument is taken as the seed.
+apart; ends in either unit, and one in each; inputs up to, at and past the longest, in pieces. Of each compared query of some hundred
+pairs of sheets, `below` and `above` must be true of the exact values, and their difference at least `least=` and at most `most=`, in
+the unit that is told; `near`, at most `most=`. An argument is taken as the seed.
 """
 import collections
 import concurrent.futures
@@ -18,12 +18,12 @@ import whole_run
 import programs
 import sheets
 from grid import HIGHEST, flat
-from quotes import COHORT, FIRST_YEAR, KINDS, LAST_YEAR, OPEN, TENTHS, Quotes, rounded
+from quotes import COHORT, FIRST_YEAR, KINDS, LAST_YEAR, OPEN, SUMS, Quotes, in_units, rounded
 from reader import KEYS, LONGEST, SIZES
 from test_runs import DATED, EXAMPLES, FIXED, FLAT, LINE_ENDS, RATED, TORN_DATES, TORN_RATES, Input, closes_early, compared
 from test_runs import complaint, damaged, endless, from_file, full_device, off_scale, one_of_each, padded, piecewise, pool, some
 from test_runs import torn_lines, with_value
-from test_quotes import any_rate, at_limits, lasting, line_of, mild, moved, moving, searched, usual
+from test_quotes import any_rate, at_limits, lasting, line_of, mild, moved, moving, opened, searched, usual
 
 SEED = 20142015
 LEAST_INPUTS, LEAST_PAIRS, LEAST_TOLD = 500, 48, 400
@@ -32,15 +32,16 @@ LOWER = sheets.text(dict(flat(), A=[-2 * 10**9] * 91))
 OFF = with_value("k", b"%d" % (SIZES["k"] + 1))
 COMPARED = re.compile(
     rb"(kind=(\w+) .*) fig=([0-9.]+|open) fig=([0-9.]+|open) values=(?:(below|above) least=([1-9][0-9]*)|(near)) most=([0-9]+)"
+    rb" unit=(9|13)"
 )
 # Queries, their figures with the flat sheet and with every A at −2000000000, the values in that order, and by how much.
 APART = {
     b"kind=q age=65 year=2020 span=0": (b" fig=0.30780", b" fig=0.12658", b"above", b" least=181222377 most=181222403"),
     b"kind=coh age=119 year=2020 span=2": (b" fig=0.47914", b" fig=0.76287", b"below", b" least=283725976 most=283726142"),
-    b"kind=ecoh age=120 year=2064 span=0": (b" fig=2.7", b" fig=7.4", b"below", b" least=4651457989 most=4651462684"),
+    b"kind=ecoh age=120 year=2064 span=0": (b" fig=2.75", b" fig=7.40", b"below", b" least=4651457989 most=4651462684"),
     b"kind=acoh age=65 year=2020 span=0 rate=30000": (b" fig=3.0", b" fig=6.6", b"below", b" least=3529085938 most=3529087268"),
     b"kind=aper age=119 year=2064 span=0 rate=0": (b" fig=3.2", b" fig=7.9", b"below", b" least=4651457992 most=4651462682"),
-    b"kind=eper age=120 year=2014 span=0": (b" fig=2.7", b" fig=7.4", b"below", b" least=4651458255 most=4651463471"),
+    b"kind=eper age=120 year=2014 span=0": (b" fig=2.75", b" fig=7.40", b"below", b" least=4651458255 most=4651463471"),
     b"kind=acoh age=120 year=2014 span=0 rate=0": (b" fig=3.2", b" fig=7.9", b"below", b" least=4651458255 most=4651463471"),
     b"kind=day age=65 year=2020 date=20210701": (b" fig=0.57677", b" fig=0.81673", b"below", b" least=239957422 most=239957466"),
     b"kind=day age=119 year=2020 date=20211231": (b" fig=0.47962", b" fig=0.76315", b"below", b" least=283525720 most=283525887"),
@@ -61,20 +62,20 @@ def fixed_rows():
     """Two sheets, and what is printed after each query, whatever the second implementation says; nothing after a torn one."""
     same = {query: end for query, end in FIXED.items() if end.startswith(b" no=")}
     ones = [query for query, end in FIXED.items() if end == b" fig=1.00000"]
-    same |= {query: FIXED[query] * 2 + b" values=near most=0" for query in ones}
+    same |= {query: FIXED[query] * 2 + b" values=near most=0 unit=9" for query in ones}
     yield "flat twice", FLAT * 2, same
     apart, exchanged = {}, {}
     for query, (one, other, word, by) in APART.items():
-        apart[query] = one + other + b" values=" + word + by
-        exchanged[query] = other + one + b" values=" + EXCHANGED[word] + by
+        apart[query] = one + other + b" values=" + word + by + b" unit=9"
+        exchanged[query] = other + one + b" values=" + EXCHANGED[word] + by + b" unit=9"
     yield "flat, lower", FLAT + LOWER, apart
     yield "lower, flat", LOWER + FLAT, exchanged
     yield "flat, lower, torn", FLAT + LOWER, dict.fromkeys(TORN_RATES + TORN_DATES, b"")
     steep = dict.fromkeys(APART, b" no=6") | {b"kind=q age=121 year=2020 span=0": b" no=3"}
     steep |= {RATED + b" rate=200001": b" no=8", b"kind=aper age=65 year=2020 span=1 rate=-1": b" no=5"}
     steep |= {DATED + b" date=21000229": b" no=10", DATED + b" date=20760101": b" no=5"}
-    steep[DATED + b" date=20200101"] = b" fig=1.00000 fig=1.00000 values=near most=0"
-    steep[b"kind=per age=120 year=2014 span=0"] = b" fig=1.00000 fig=1.00000 values=near most=0"
+    steep[DATED + b" date=20200101"] = b" fig=1.00000 fig=1.00000 values=near most=0 unit=9"
+    steep[b"kind=per age=120 year=2014 span=0"] = b" fig=1.00000 fig=1.00000 values=near most=0 unit=9"
     for name, data in (("flat, steep", FLAT + STEEP), ("steep, flat", STEEP + FLAT), ("steep twice", STEEP * 2)):
         yield name, data, steep
 
@@ -272,9 +273,14 @@ def example_pairs(draw):
 
 
 def open_pairs(job):
-    """Sheets with an open figure, or as near to it as can be: each with the next, and with another sheet, on either side."""
+    """Sheets with a figure that is open on the coarse grid, or as near to it as can be, and on the fine one too: each with the
+    next, and with another sheet, on either side."""
     kind, seed = job
     found = searched((kind, 2, seed))
+    for one, other in itertools.permutations(opened(job), 2):
+        yield Pair(f"open, {kind}", one.data, other.data, one.queries, None)
+        yield Pair(f"open, {kind}, first", one.data, found[0].data, one.queries, None)
+        yield Pair(f"open, {kind}, second", FLAT, one.data, one.queries, None)
     for one, other in zip(found, found[1:] + found[:1]):
         yield Pair(f"half step, {kind}", one.data, other.data, one.queries, None)
     for one in found:
@@ -293,7 +299,7 @@ def met_pairs(job):
     out = {}
     while not out.keys() >= {0, 1}:
         params = mild(draw)
-        age = draw.randint(60, 79 if kind in TENTHS and kind in COHORT else 88)
+        age = draw.randint(60, 79 if kind in SUMS and kind in COHORT else 88)
         year = draw.randint(FIRST_YEAR, LAST_YEAR)
         query = (kind, age, year, lasting(draw, kind, age, year), *any_rate(draw, kind))
         ends_at, kept = moving(params, "A", query), {}
@@ -339,13 +345,13 @@ def word_of(line):
     return (line[5] or line[7]).decode()
 
 
-def false_words(kind, figures, word, least, most, one, other):
-    """What a line says that is not true of the two exact values, which are in units."""
+def false_words(kind, figures, word, least, most, unit, one, other):
+    """What a line says in units of 10^-unit that is not true of the two exact values, which are in units of 10^-9."""
     for shown, value in zip(figures, (one, other)):
         if shown != OPEN and shown != whole_run.figure_text(rounded(value, kind), kind):
             yield f"the exact value {value:.20f} rounds to {whole_run.figure_text(rounded(value, kind), kind)}"
     over = {"below": other - one, "above": one - other, "near": abs(one - other)}[word]
-    if not least <= over <= most:
+    if not least <= in_units(over, unit) <= most:
         yield f"the exact values are {one:.20f} and {other:.20f}"
 
 
@@ -365,7 +371,7 @@ def told(pair):
         checks += 1
         exact = [one.value(*query) for one in given]
         figures = (got[3].decode(), got[4].decode())
-        for said in false_words(query[0], figures, word_of(got), int(got[6] or 0), int(got[8]), *exact):
+        for said in false_words(query[0], figures, word_of(got), int(got[6] or 0), int(got[8]), int(got[9]), *exact):
             wrong.append(f"{pair.name}: {line.decode()}: {said}")
     return [said for said in wrong if said], counts, checks
 
@@ -381,6 +387,7 @@ def tally(pair, want, counts):
             continue
         kind, what = got[2].decode(), word_of(got)
         counts[f"{kind} {what}"] += 1
+        counts[f"{kind} in fine units"] += got[9] == b"13"
         sides = got[3] == b"open", got[4] == b"open"
         if any(sides):
             counts[f"{kind} open {'first' if sides == (True, False) else 'second' if sides == (False, True) else 'both'}"] += 1
@@ -391,7 +398,7 @@ def tally(pair, want, counts):
 
 
 MET = {0: "touching", 1: "a unit apart"}
-TOLD = ("below", "above", "near", "equal", "touching", "a unit apart", "open first", "open second", "open both")
+TOLD = ("below", "above", "near", "equal", "touching", "a unit apart", "open first", "open second", "open both", "in fine units")
 REFUSALS = (1, 3, 4, 10, 5, 8, 6)
 
 

@@ -24,11 +24,13 @@ import test_compare
 import whole_run
 from c_interface import QUOTE_LENGTH
 from couples import COUPLES, JOINT, JOINT_YEARS, LAST, SINGLE, STARTS_DIFFER, Couple, widest
-from grid import START, UNIT, flat
-from quotes import NO_AGE, NO_SPAN, NO_YEAR, OFF_SCALE, OLDEST, OPEN, STEEP, GridCells, Quotes, figure, rounded, step, years_of
+from edges import Edges
+from grid import COARSE, START, UNIT, flat
+from quotes import NO_AGE, NO_SPAN, NO_YEAR, OFF_SCALE, OLDEST, OPEN, STEEP, GridCells, Quotes, decimals, figure, in_units
+from quotes import rounded, step, years_of
 from reader import LAST_START, LONGEST, SHORT, SIZES, TORN, read
 from sheets import of_lilee
-from test_c_interface import PLACES, after, any_number, lent, raised
+from test_c_interface import PLACES, after, any_number, lent, numbers_of, raised
 from test_quotes import GREATEST, LEAST, mild, moved
 from test_runs import EXAMPLES, FLAT, Input, compared, complaint, damaged, from_file, piecewise, some, torn_bytes, torn_fields
 from test_runs import with_value
@@ -39,7 +41,7 @@ LEAST_LINES, LEAST_CALLS = 2000, 300
 BETWEEN = 2021
 SORTS = ("flat", "realistic", "example", "extreme", "LILEE", START, BETWEEN, LAST_START)
 CHANCES = (JOINT, LAST)
-ANSWER = re.compile(rb"(.*) lo=([0-9]+) hi=([0-9]+) fig=([0-9.]+|open)")
+ANSWER = re.compile(rb"(.*) lo=([0-9]+) hi=([0-9]+) unit=(9|13) fig=([0-9.]+|open)")
 
 # A life's sheet: what sort it is, its start year, its ages in the first year of quotes, each the start of a cohort, and years in
 # which its cells are not steep, if there are others.
@@ -335,8 +337,8 @@ def span_jobs(draw):
         yield shown_as, "past it", FLAT * 2, (kind, age, other_age, year, most + 1), b" no=5"
         yield shown_as, "below 0", FLAT * 2, (kind, age, other_age, year, -1), b" no=5"
         for head in (FLAT * 2, STEEP_SHEET * 2, FLAT + STEEP_SHEET):
-            query = (kind, age, other_age, year, 0)
-            yield known_run, "no span", head + line_of(query), line_of(query)[:-1] + b" lo=%d hi=%d fig=1.00000\n" % (UNIT, UNIT)
+            line, certain = line_of((kind, age, other_age, year, 0)), b" lo=%d hi=%d unit=9 fig=1.00000\n" % (UNIT, UNIT)
+            yield known_run, "no span", head + line, line[:-1] + certain
         for kind_of_years in COUPLES[2:]:
             yield shown_as, "a span of years", FLAT * 2, (kind_of_years, age, other_age, year, most), b" no=5"
 
@@ -360,21 +362,22 @@ class Moved:
     """A life with A moved at an age that is in no closure, so that its cell alone moves."""
 
     def __init__(self, rest, age, by):
-        self.start, self.grid, self.age = rest.start, self, age
-        self.moved, self.rest = GridCells(moved(rest.params, "A", age, by)), rest
+        self.start, self.on, self.age = rest.start, {COARSE: self}, age
+        self.moved, self.rest = GridCells(moved(rest.params, "A", age, by), COARSE), rest
 
     def p(self, *cell):
         return (self.moved if cell[0] == self.age else self.rest).p(*cell)
 
 
 def searched(draw, kind, first):
-    """A couple with a quote whose middle is brought to a half step by A of one life, or the other, so that it is open."""
+    """A couple with a quote whose middle is brought to a half step by A of one life, or the other, so that it is open on the coarse
+    grid."""
     size = step(SINGLE[kind])
     while True:
         params, other = mild(draw), mild(draw)
         ages, year = (draw.randint(50, 79), draw.randint(50, 79)), draw.randint(2014, 2064)
         query = (kind, *ages, year, draw.randint(1, OLDEST + 1 - max(ages)) if kind in CHANCES else 0)
-        age, rest, still = ages[0 if first else 1], GridCells(params), Quotes(other)
+        age, rest, still = ages[0 if first else 1], GridCells(params, COARSE), Quotes(other)
 
         def ends(by):
             one = Moved(rest, age, by)
@@ -395,17 +398,28 @@ def searched(draw, kind, first):
             return Pair(f"half step, {kind}", *(data if first else data[::-1]), [query])
 
 
+def opened(draw, kind):
+    """A couple with a quote that lies at a half step, by A and B of the first life, so near that the fine grid leaves it open."""
+    while True:
+        edges, other = Edges(mild(draw)), mild(draw)
+        ages, year = (draw.randint(50, 79), draw.randint(50, 79)), draw.randint(2014, 2064)
+        query = (kind, *ages, year, draw.randint(1, OLDEST + 1 - max(ages)) if kind in CHANCES else 0)
+        given = Couple(Quotes(edges.params), Quotes(other)) if edges.place(query, 0, Edges(other)) else None
+        if given and not given.refusal(*query) and given.quote(*query).steps == OPEN:
+            return Pair(f"open, {kind}", sheets.text(edges.params), sheets.text(other), [query])
+
+
 # ---- comparing
 
 def false_words(given, query, line):
     """What the line of an accepted query says that is not true of its exact value, or not allowed."""
     got, single, value = ANSWER.fullmatch(line), SINGLE[query[0]], given.value(*query)
-    lower, upper = int(got[2]), int(got[3])
-    if not lower <= value <= upper:
+    lower, upper, unit = map(int, got.groups()[1:4])
+    if not lower <= in_units(value, unit) <= upper:
         yield f"the exact value {value:.20f} is not between the ends"
-    if got[4] != b"open" and got[4].decode() != figure_text(rounded(value, single), single):
+    if got[5] != b"open" and got[5].decode() != figure_text(rounded(value, single), single):
         yield f"the exact value {value:.20f} rounds to {figure_text(rounded(value, single), single)}"
-    if upper - lower > widest(query[0]):
+    if upper - lower > widest(unit, query[0]):
         yield f"{upper - lower} units apart"
 
 
@@ -418,12 +432,16 @@ def unlike_singles(given, query):
     return None if abs(both - each) < Decimal(10) ** -58 else f"{query}: the couple has {both:.70f}, the lives {each:.70f}"
 
 
+# A figure that is printed by its coarse ends, and by its fine ones.
+TOLD = ("printed", "fine")
+
+
 def tally(lines, counts):
     """Counts what the second implementation says of the lines."""
     for line in lines:
         got = ANSWER.fullmatch(line)
         kind = line.partition(b" ")[0].decode().removeprefix("kind=")
-        what = line.rpartition(b" ")[2].decode() if not got else "open" if got[4] == b"open" else "printed"
+        what = line.rpartition(b" ")[2].decode() if not got else "open" if got[5] == b"open" else TOLD[got[4] == b"13"]
         counts[f"{kind} {what}" if line.startswith(b"kind=") else line.decode()] += 1
 
 
@@ -449,7 +467,7 @@ def told(pair, counts):
 
 def pairs(draw, every):
     out = [*same_start(draw, every), *other_starts(draw, every, 12)]
-    out += [searched(draw, kind, first) for kind in COUPLES for first in (True, False)]
+    out += [searched(draw, kind, first) for kind in COUPLES for first in (True, False)] + [opened(draw, kind) for kind in COUPLES]
     for start in (START, BETWEEN, LAST_START):
         sheet = sheets.text(of_lilee(flat(), start, 3))
         out.append(Pair(f"limits from {start}", sheet, sheet, draw.sample(at_limits(start), 300)))
@@ -551,15 +569,12 @@ WORDS = (
 
 
 def wanted_quote(first, second, query):
-    """The refusal of a call, and the four numbers of its quote."""
+    """The refusal of a call, and the five numbers of its quote."""
     no = min((no for no in (read(first)[0], read(second)[0]) if no), default=0)
     if no:
         return no, None
-    no, ends = whole_run.couple_of(whole_run.sheet_of(first), whole_run.sheet_of(second))(query)
-    if no:
-        return no, None
-    steps = figure(ends, SINGLE[query[0]])
-    return 0, [*ends, 0, 0] if steps == OPEN else [*ends, 1, steps]
+    no, quote = whole_run.couple_of(whole_run.sheet_of(first), whole_run.sheet_of(second))(query)
+    return (no, None) if no else (0, numbers_of(quote))
 
 
 def compare_call(count, counts, draw, module, first, second, query, given=None):
@@ -567,7 +582,7 @@ def compare_call(count, counts, draw, module, first, second, query, given=None):
     kind, *numbers = query
     no, quoted = wanted_quote(first, second, query)
     count.take(given is None or given == no, f"{query}: the second implementation gives {no} and not {given}")
-    wanted = no or (*quoted[:2], quoted[3] if quoted[2] else None, 5 if kind in CHANCES else 1)
+    wanted = no or (*quoted[:2], quoted[3] if quoted[2] else None, decimals(SINGLE[kind]), quoted[4])
     got = raised(module.couple, first, second, *query) or module.couple(first, second, *query)
     count.take(got == wanted, f"couple {query} gives {got} and not {wanted}")
     counts["calls"] += 1
@@ -636,7 +651,7 @@ RUNS_REFUSED = [f"sheet={sheet} no={no}" for sheet in (1, 2) for no in (1, 2)]
 
 def missing(counts):
     """What should have been met and has not."""
-    wanted = [f"{kind} {what}" for kind in COUPLES for what in ("printed", "open", *(f"no={no}" for no in REFUSALS))]
+    wanted = [f"{kind} {what}" for kind in COUPLES for what in (*TOLD, "open", *(f"no={no}" for no in REFUSALS))]
     out = [what for what in wanted + RUNS_REFUSED + ["no=1", "no=1 alone"] if not counts[what]]
     out += [f"{size} bytes" for size in (LONGEST, LONGEST + 1) if not counts["longest", size]]
     out += [f"{LEAST_LINES} lines held against exact values"] if counts["exact"] < LEAST_LINES else []
@@ -649,7 +664,7 @@ def report(counts, all_pairs, jobs):
     print(f"{len(all_pairs)} pairs with {counts['lines']} lines, {counts['exact']} held against exact values; {jobs} runs and facts")
     print(f"{len(MUST_MEET)} named cases of refusals; runs refused:", *(f"{what}, {counts[what]};" for what in RUNS_REFUSED))
     for kind in COUPLES:
-        print(f"{kind}:", *(f"{what} {counts[f'{kind} {what}']}" for what in ("printed", "open", *(f"no={no}" for no in REFUSALS))))
+        print(f"{kind}:", *(f"{what} {counts[f'{kind} {what}']}" for what in (*TOLD, "open", *(f"no={no}" for no in REFUSALS))))
 
 
 def main():

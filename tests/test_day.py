@@ -235,7 +235,7 @@ def cases(draw):
 
 def missing(counts):
     """What the cases should have met and have not."""
-    wanted = ["day printed", "day open", "1 January", "31 December", "first of the term", "last of the term", *SORTS]
+    wanted = ["day printed", "day fine", "1 January", "31 December", "first of the term", "last of the term", *SORTS]
     wanted += [f"refused {no}" for no in REFUSALS] + [("held", held) for held in HELD] + [("leap", 2096), ("leap", 2104)]
     out = [str(what) for what in wanted if not counts[what]]
     if sum(counts[sort] for sort in SORTS) < LEAST_DAYS:
@@ -246,7 +246,7 @@ def missing(counts):
 
 def report(counts, total):
     by_sort = ", ".join(f"{counts[sort]} of {sort} sheets" for sort in SORTS)
-    print(f"{total} quotes; {accepted(counts, [DAY])} to a day, of which {counts['day open']} are open: {by_sort}")
+    print(f"{total} quotes; {accepted(counts, [DAY])} to a day, of which {counts['day fine']} are printed by the fine grid: {by_sort}")
     print(f"{counts['1 January']} on 1 January held against the cohort's; {counts['every day']} days of one sheet")
     print("refused:", *(f"no={no} {counts[f'refused {no}']}" for no in REFUSALS))
 

@@ -30,9 +30,9 @@ import test_verdict
 import whole_run
 from c_interface import SET_LENGTH, listed
 from columns import RIGHT, TORN_COLUMN, WRONG
-from grid import HIGHEST, LILEE, LOWEST, START, UNIT, flat
+from grid import COARSE, HIGHEST, LILEE, LOWEST, START, UNIT, flat
 from quotes import ANNUITIES, COHORT, DAY, EXPECTANCIES, KINDS, LAST_YEAR, MOST_RATE, NO_YEAR, OFF_SCALE, OLDEST, OPEN, STEEP
-from quotes import SURVIVALS, TENTHS, number_of, rounded, step, term, years_of
+from quotes import SUMS, SURVIVALS, number_of, rounded, step, term, years_of
 from reader import ACCEPTED, FIRST_START, LAST_START, LONGEST, SIZES, TORN, YEARS
 from reader import kappa_within, lines_of, read, set_from, sheet_of, text
 from sheets import of_lilee
@@ -68,7 +68,7 @@ def flat_rows(start):
     rows = {("q", 65, start, 0): "no=4", ("q", 65, first, 0): "fig=0.30780", ("q", 65, last + 1, 0): "fig=0.30780"}
     rows |= {("q", 120, end, 0): "fig=0.30780", ("q", 120, end + 1, 0): "no=4"}
     rows |= {("coh", 119, first, 2): "fig=0.47914", ("per", 119, last, 2): "fig=0.47914", ("coh", 119, last, 3): "no=5"}
-    rows |= {(kind, 120, year, 0): "fig=2.7" for kind in EXPECTANCIES for year in (first, last)}
+    rows |= {(kind, 120, year, 0): "fig=2.75" for kind in EXPECTANCIES for year in (first, last)}
     rows |= {(kind, 120, year, 0, 0): "fig=3.2" for kind in ANNUITIES for year in (first, last)}
     rows |= {(kind, 120, year, 0, MOST_RATE): "fig=2.4" for kind in ANNUITIES for year in (first, last)}
     for year in (start, last + 1):
@@ -140,7 +140,7 @@ def even_cases(draw):
         alive_in = {year: (-(log / UNIT).exp()).exp() for year, log in logs.items()}
         steep, rows = not LOWEST <= logs[end] <= HIGHEST, even_days(draw, start, logs)
         asked_of = itertools.product((0, draw.randint(1, 90), 119, OLDEST), (first, draw.randint(first, last), last))
-        for (age, year), kind in itertools.product(asked_of, TENTHS):
+        for (age, year), kind in itertools.product(asked_of, SUMS):
             rate = any_rate(draw, kind)
             shown = even_figure(even_sum(alive_in, kind, year, *rate), kind)
             rows[kind, age, year, 0, *rate] = "no=6" if steep and kind in COHORT else shown
@@ -172,10 +172,6 @@ def extreme_cases(draw, count):
             params.update(theta=0, K=sheets.clamp(params["K"] + params["theta"] * (year - start), SIZES["K"]), be=[0] * 91)
         queries = usual(draw, [year - start + START], 5)
         yield case(f"extreme {i}, from {start}", params, all_on(queries, start))
-
-
-def searched(job):
-    return test_quotes.searched(job)
 
 
 # ---- sheets at each limit and one past it
@@ -219,7 +215,7 @@ def kappa_rows():
 def last_year_alone():
     """What is wrong where kappa, from one too many, is not past its limit in the last year alone, by a unit."""
     for a, c in RISING:
-        series = test_quotes.kappas({"a": a, "k": greatest_kappa(a, c) + 1, "c": c}, YEARS)
+        series = COARSE.kappas({"a": a, "k": greatest_kappa(a, c) + 1, "c": c}, YEARS)
         past = [n for n, ends in enumerate(series) if max(map(abs, ends)) > MOST_K]
         if past != [YEARS] or series[-1][1] != MOST_K + 1:
             yield f"a {a} and c {c}: kappa is past its limit in {past}, {series[-1]}"
@@ -263,14 +259,16 @@ def quote_cases(draw, pool):
     out += list(realistic_cases(draw, 14)) + list(extreme_cases(draw, 12))
     jobs = [(kind, i % 3, draw.random(), STARTS[i % len(STARTS)]) for i, kind in enumerate(KINDS)]
     jobs += [(kind, 2, draw.random(), draw.randint(FIRST_START, LAST_START)) for kind in KINDS]
-    for found in pool.map(searched, jobs):
+    for found in pool.map(test_quotes.searched, jobs):
+        out += found
+    for found in pool.map(test_quotes.opened, [(kind, draw.random(), draw.choice(STARTS)) for kind in KINDS]):
         out += found
     return out
 
 
 def missing(counts):
     """What the quotes should have met and have not."""
-    wanted = [f"{kind} {what}" for kind in KINDS for what in ("printed", "open")]
+    wanted = [f"{kind} {what}" for kind in KINDS for what in test_quotes.TOLD]
     out = [what for what in wanted + [f"refused {no}" for no in (2, 3, 4, 10, 5, 8, 6)] if not counts[what]]
     total = test_quotes.accepted(counts, KINDS)
     out += [f"{LEAST_QUOTES} accepted quotes"] if total < LEAST_QUOTES else []
@@ -397,7 +395,7 @@ def compared_rows():
     for start in (FIRST_START, LAST_START):
         first, second = (sheets.text(of_lilee(params, start, c)) for params, c in ((flat(), -5), (low, SIZES["c"])))
         rows = {line_on(query, start - START): said for query, said in test_compare.APART.items()}
-        told = {query: one + other + b" values=" + word + by for query, (one, other, word, by) in rows.items()}
+        told = {query: one + other + b" values=" + word + by + b" unit=9" for query, (one, other, word, by) in rows.items()}
         yield f"both from {start}", first + second, told
         if start == START:
             yield "AG2014 first", FLAT + second, told
@@ -471,18 +469,10 @@ def pairs_found(draw):
 
 # ---- published columns
 
-def open_table(draw, start):
-    """A sheet and a year in which age 85 is open."""
-    while True:
-        year = draw.randint(*years_of(start)[:2])
-        one = test_verdict.table("open", sheets.text(test_verdict.opened(mild(draw, start), year, 85)), year)
-        if one and one.figures[85] == OPEN:
-            return one
-
-
 def column_cases(draw):
     """Columns of sheets in the first, the last and other years of their tables, and their refusals."""
-    tables = [open_table(draw, draw.choice(STARTS))]
+    tables = [test_verdict.table_with(draw, (85,), OPEN, 0, draw.choice(STARTS))]
+    tables.append(test_verdict.table_with(draw, (85, 40), test_verdict.FINE, 2000, draw.choice(STARTS)))
     for start in STARTS:
         sheet, (first, last, end) = sheets.text(mild(draw, start)), years_of(start)
         tables += [test_verdict.table(f"from {start}", sheet, year) for year in (first, last, end)]

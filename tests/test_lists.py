@@ -1,12 +1,13 @@
 """The commands `list`, `compare` and `judge` of the package, against the built programs.
 
-Every row of a list of each example sheet, of all kinds and with refused cells among them, must be the answer of the programs
-`ends` and `quotes` to the query that the row names, and those of one whole list of expectancies too. More decimals are held
-against the rule, worked here from the ends, and against exact values to many digits; wide lists and those for a Dutch
-spreadsheet against the plain ones. Each row of a comparison must be the line of the program `compare`, and its summary what is
-counted in these lines. Tables of q that are right, have digits changed or an open figure are written in several forms, and each
-year must have the verdict of the program `verdict`, with the ages that differ. Whatever is wrong with an option or a file must
-be told with its name, status 2.
+Every row of a list of each example sheet, and of a sheet with quotes at half steps, of all kinds and with refused cells among
+them, must be the answer of the programs `ends` and `quotes` to the query that the row names, in its unit, and those of one whole
+list of expectancies too. More decimals are held against the rule, worked here from the ends, and against exact values to many
+digits; wide lists and those for a Dutch spreadsheet against the plain ones. Each row of a comparison must be the line of the
+program `compare`, and its summary what is counted in these lines. Tables of q that are right, have digits changed, an open figure
+or one that only the fine grid settles are written in several forms, and each year must have the verdict of the program `verdict`,
+with the ages that differ or that the fine grid settles. Whatever is wrong with an option or a file must be told with its name,
+status 2.
 
 The library is that of KULFIZAN_LIBRARY, else the one that make builds. An argument is taken as the seed.
 """
@@ -29,20 +30,25 @@ from decimal import ROUND_HALF_UP, Context, Decimal
 import c_interface
 import programs
 import sheets
-from grid import flat
-from quotes import Quotes
+from edges import Edges
+from grid import COARSE, FINE, flat
+from quotes import OPEN, Quotes, decimals as decimals_of
 from reader import params_of, read
+from test_quotes import mild
 
 SEED = 20152064
 EXAMPLES = programs.ROOT / "examples"
 NAMES = ("women", "men", "women-b", "women-c", "research", "flat")
 KINDS = ("q", "coh", "per", "ecoh", "eper", "acoh", "aper")
-SPANNED, RATED, TENTHS = ("coh", "per"), ("acoh", "aper"), ("ecoh", "eper", "acoh", "aper")
+SPANNED, RATED = ("coh", "per"), ("acoh", "aper")
 SPANS, RATES = (0, 1, 20, 61), {"0%": 0, "1.25%": 12_500, "30000ppm": 30_000, "20%": 200_000, "20.0001%": 200_001}
 SHOWN_RATES = {"0%": 0, "1.25%": 12_500, "3%": 30_000, "20%": 200_000, "20.0001%": 200_001}
-PAIRS = (("women", "women-b"), ("women", "women-c"), ("women", "research"), ("men", "women"), ("flat", "flat"), ("flat", "men"))
-LEAST_ROWS, LEAST_OPEN, LEAST_EXACT = 2000, 20, 150
-UNIT = 10**9
+PAIRS = (("women", "women-b"), ("women", "women-c"), ("women", "research"), ("men", "women"), ("flat", "flat"), ("flat", "men"),
+         ("edges", "women"), ("men", "edges"))
+LEAST_ROWS, LEAST_CLOSED, LEAST_EXACT = 2000, 20, 150
+# A sheet whose q in a year lies at half steps at some ages, open on the fine grid too, or closed by it.
+EDGES, EDGE_YEAR, OPEN_AGES, CLOSED_AGES = "edges", 2025, (70, 40, 6), (65, 30, 2)
+BEYOND = 10**4
 # So many queries after two sheets are no longer than a run.
 AT_ONCE = 900
 HELP_LINES, HELP_WIDTH = 40, 100
@@ -89,7 +95,24 @@ def started(*words, **given):
 
 
 def file_of(name):
-    return EXAMPLES / f"{name}.sheet"
+    return MADE[name] if name in MADE else EXAMPLES / f"{name}.sheet"
+
+
+MADE = {}
+
+
+def made(folder, draw):
+    """Writes the sheet of half steps: q of the ages, in one year, is open on the fine grid too, or closed by it."""
+    while True:
+        edges = Edges(mild(draw))
+        ages = sorted(OPEN_AGES + CLOSED_AGES, reverse=True)
+        placed = all(edges.place(("q", age, EDGE_YEAR, 0), BEYOND * (age in CLOSED_AGES)) for age in ages)
+        given = Quotes(edges.params)
+        found = placed and {age: given.quote("q", age, EDGE_YEAR, 0) for age in ages}
+        if found and all(found[age].unit == FINE.digits and (found[age].steps == OPEN) == (age in OPEN_AGES) for age in ages):
+            MADE[EDGES] = folder / f"{EDGES}.sheet"
+            MADE[EDGES].write_bytes(sheets.text(edges.params))
+            return
 
 
 def answers(program, front, lines):
@@ -128,10 +151,10 @@ def every(kinds, ages, years, spans=SPANS, rates=tuple(RATES.values())):
     return out
 
 
-def units(text):
-    """A decimal with nine places in units of 10^-9."""
+def units(text, unit):
+    """A decimal with so many places as the number of its last."""
     whole, part = text.split(".")
-    assert len(part) == 9, text
+    assert len(part) == int(unit) and unit in ("9", "13"), text
     return int(whole + part)
 
 
@@ -167,17 +190,24 @@ def start_of(name):
 
 def lists(draw):
     """The sheets with a selection each that has refused cells."""
-    for name in NAMES:
-        ages = sorted({0, 60, 65, 90, 91, 119, 120, 121, *draw.sample(range(121), 12)})
-        offsets = sorted({0, 1, 2, 13, 27, 50, 51, 52, *draw.sample(range(3, 50), 3), 171, 172})
+    for name in (*NAMES, EDGES):
+        ages = sorted({0, 60, 65, 90, 91, 119, 120, 121, *OPEN_AGES, *CLOSED_AGES, *draw.sample(range(121), 9)})
+        offsets = sorted({0, 1, 2, 12, 27, 50, 51, 52, *draw.sample(range(3, 50), 3), 171, 172})
         yield List(name, file_of(name), KINDS, ages, [start_of(name) + offset for offset in offsets])
 
 
 def short_lists(draw):
-    """Some sheets with fewer cells, for lists that are written in several ways; the years have an open expectancy and q."""
-    for name in ("women", "men", "research"):
-        ages = sorted({6, 69, 120, 121, *draw.sample(range(121), 4)})
-        yield List(name, file_of(name), KINDS, ages, [start_of(name) + 1, 2022, 2029, draw.randrange(2030, 2064), 2090])
+    """Some sheets with fewer cells, for lists that are written in several ways; the years have an expectancy and q that the fine
+    grid closes, and q that is open."""
+    for name in ("women", "men", "research", EDGES):
+        ages = sorted({6, 55, 65, 120, 121, *draw.sample(range(121), 3)})
+        years = [start_of(name) + 1, 2022, EDGE_YEAR, 2030, draw.randrange(2031, 2064), 2090]
+        yield List(name, file_of(name), KINDS, ages, years)
+
+
+def ends_of(row):
+    """What the program `ends` prints of a row's ends."""
+    return f"lo={units(row[6], row[8])} hi={units(row[7], row[8])} unit={row[8]} " if any(row[6:9]) else ""
 
 
 def row_faults(one, rows):
@@ -185,9 +215,8 @@ def row_faults(one, rows):
     if [asked_of(row[:5]) for row in rows] != one.asked:
         return "other cells than those asked"
     for row, asked, ends, figure in zip(rows, one.asked, one.ends, one.figures):
-        low = f"lo={units(row[6])} hi={units(row[7])} " if row[6] else ""
         shown = row[5] if row[5].startswith("no=") else f"fig={row[5]}"
-        if f"{line_of(asked)} {low}{shown}" != ends or f"{line_of(asked)} {shown}" != figure:
+        if f"{line_of(asked)} {ends_of(row)}{shown}" != ends or f"{line_of(asked)} {shown}" != figure:
             return f"{row}, and the programs print {ends} and {figure}"
     return None
 
@@ -198,8 +227,9 @@ def listed(one, counts):
     head, *rows = table(done.out)
     refused = sum(row[5].startswith("no=") for row in rows)
     counts.update(row[5] for row in rows if row[5].startswith("no=") or row[5] == "open")
+    counts["closed"] += sum(row[8] == "13" and row[5] != "open" for row in rows)
     counts[one.name] = len(rows)
-    yield head == ["kind", "age", "year", "span", "rate", "figure", "low", "high"], f"{one.name}: {head}"
+    yield head == ["kind", "age", "year", "span", "rate", "figure", "low", "high", "unit"], f"{one.name}: {head}"
     fault = row_faults(one, rows)
     yield fault is None, f"{one.name}: {fault}"
     told = f"{refused:,} of {len(rows):,} refused" in done.err if refused else not done.err
@@ -208,9 +238,10 @@ def listed(one, counts):
     yield table(plain.out) == [row[:6] for row in [head, *rows]], f"{one.name}: the list without ends differs"
 
 
-def half_up(lower, upper, decimals):
-    """The figure with so many decimals where both ends round half up to it, else open."""
-    first, second = ((2 * end * 10**decimals + UNIT) // (2 * UNIT) for end in (lower, upper))
+def half_up(lower, upper, unit, decimals):
+    """The figure with so many decimals where both ends, in units of 10^-unit, round half up to it, else open."""
+    one = 10 ** int(unit)
+    first, second = ((2 * end * 10**decimals + one) // (2 * one) for end in (lower, upper))
     if first != second:
         return "open"
     digits = f"{first:0{decimals + 1}d}"
@@ -222,9 +253,9 @@ def decimals_listed(one, counts):
     with_ends = table(one.run("--ends").out)[1:]
     for decimals in range(1, 10):
         rows, wrong = table(one.run("--decimals", decimals).out)[1:], None
-        for row, (kind, *_, figure, low, high) in zip(rows, with_ends):
-            own = 1 if kind in TENTHS else 5
-            want = half_up(units(low), units(high), max(own, decimals)) if low else figure
+        for row, (kind, *_, figure, low, high, unit) in zip(rows, with_ends):
+            own = decimals_of(kind)
+            want = half_up(units(low, unit), units(high, unit), unit, max(own, decimals)) if low else figure
             wrong = wrong or (row, want) if row[5] != want else wrong
             counts[decimals, "open" if row[5] == "open" else "told"] += not want.startswith("no=")
         yield len(rows) == len(with_ends) and not wrong, f"{one.name} with {decimals} decimals: {wrong}"
@@ -237,7 +268,7 @@ def exact_listed(one, draw, counts):
     for row in draw.sample(rows, min(60, len(rows))):
         kind, age, year, span, rate = asked_of(row[:5])
         value = values.value(kind, age, year, span, *([rate] if kind in RATED else []))
-        shown = (value / UNIT).quantize(Decimal("1e-6"), ROUND_HALF_UP, Context(prec=60))
+        shown = value.scaleb(-9).quantize(Decimal("1e-6"), ROUND_HALF_UP, Context(prec=60))
         counts["exact"] += 1
         yield f"{shown:f}" == row[5], f"{one.name}: {row}, and the exact value is {value} units"
 
@@ -263,7 +294,7 @@ def name_of(row):
 
 def wide_listed(one):
     """Wide lists, and those for a Dutch spreadsheet, against the long one."""
-    for more, step in (([], 1), (["--ends"], 3), (["--decimals", 4], 1)):
+    for more, step in (([], 1), (["--ends"], 4), (["--decimals", 4], 1)):
         rows = table(one.run(*more).out)[1:]
         want = {(name_of(row), row[1], row[2]): row[5:] for row in rows}
         text = one.run("--wide", *more).out
@@ -285,7 +316,7 @@ def whole_list():
             text = file.read()
     rows, lines = table(text)[1:], [line_of(one) for one in asked]
     ends = answers("ends", file_of("women").read_bytes(), lines)
-    got = [f"{line_of(asked_of(row[:5]))} lo={units(row[6])} hi={units(row[7])} fig={row[5]}" for row in rows]
+    got = [f"{line_of(asked_of(row[:5]))} {ends_of(row)}fig={row[5]}" for row in rows]
     yield done == Done(0, "", "") and "\r" not in text, f"the whole list: {done}"
     yield got == ends and len(ends) == 6171, f"the whole list: {first_other(got, ends)}"
 
@@ -314,43 +345,48 @@ def module_rows():
     from kulfizan.lists import Row, rows
     from kulfizan.selections import Selection
 
-    sheet, asked, steps = Sheet.load(file_of("men")), Selection(KINDS, [67, 130], range(2019, 2022), [15_000], [0, 7]), Steps()
+    sheet, steps = Sheet.load(file_of(EDGES)), Steps()
+    asked = Selection(KINDS, [*OPEN_AGES, *CLOSED_AGES, 67, 130], range(EDGE_YEAR - 1, EDGE_YEAR + 2), [15_000], [0, 7])
     found = list(rows(sheet, asked, steps))
     yield found == list(rows(sheet.data, asked)) and len(found) == asked.count() == steps.done, "rows of bytes, and progress"
     for row in found:
         try:
             want = sheet.quote(*row[:5])
-            good = row.quote == want and (row.lower, row.upper, row.text, row.no) == (want.lower, want.upper, want.text, 0)
+            good = row.quote == want and row[5:] == (want.lower, want.upper, want.text, 0, want.unit)
+            good &= row.closed == (want.unit == 13 and want.steps is not None)
         except Refused as refused:
-            good = row[5:] == (None, None, f"no={refused.number}", refused.number) and row.quote is None
+            good = row[5:] == (None, None, f"no={refused.number}", refused.number, 9) and row.quote is None and not row.closed
         yield good, f"a row of the module: {row}"
+    yield {row.closed for row in found if row.unit == 13} == {True, False}, "rows of the module that the fine grid closes and leaves"
     torn = list(rows(sheet, Selection(["foo"], [65], [2020])))
-    yield torn == [Row("foo", 65, 2020, 0, None, None, None, "no=1", 1)], f"a kind that is none: {torn}"
+    yield torn == [Row("foo", 65, 2020, 0, None, None, None, "no=1", 1, 9)], f"a kind that is none: {torn}"
 
 
 # ---- comparisons
 
-COMPARED = re.compile(r"(.*) fig=(\S+) fig=(\S+) values=(\w+)(?: least=([0-9]+))? most=([0-9]+)")
+COMPARED = re.compile(r"(.*) fig=(\S+) fig=(\S+) values=(\w+)(?: least=([0-9]+))? most=([0-9]+) unit=(9|13)")
 
 
 def compare_line(row):
     """The line of the program `compare` that a row stands for."""
-    first, second, _, values, least, most = row[5:11]
+    first, second, _, values, least, most, unit = row[5:12]
     if values.startswith("no="):
         return f"{line_of(asked_of(row[:5]))} {values}"
-    between = f" least={units(least)}" if least else ""
-    return f"{line_of(asked_of(row[:5]))} fig={first} fig={second} values={values}{between} most={units(most)}"
+    between = f" least={units(least, unit)}" if least else ""
+    both = f"fig={first} fig={second} values={values}{between} most={units(most, unit)} unit={unit}"
+    return f"{line_of(asked_of(row[:5]))} {both}"
 
 
 def sort_of(line):
-    """What a line of the program `compare` counts as in the summary, and its most."""
+    """What a line of the program `compare` counts as in the summary, and its most, exactly."""
     got = COMPARED.fullmatch(line)
     if not got:
         return "refused", 0
-    _, first, second, values, _, most = got.groups()
+    _, first, second, values, _, most, unit = got.groups()
+    most = Decimal(most).scaleb(-int(unit))
     if "open" in (first, second):
-        return "open", int(most)
-    return ("differently" if first != second else "near" if values == "near" else "different"), int(most)
+        return "open", most
+    return ("differently" if first != second else "near" if values == "near" else "different"), most
 
 
 def summary_of(lines):
@@ -375,15 +411,26 @@ def summary_shown(text):
             out[kind] = (int(head[2].replace(",", "")), [])
         elif count:
             most = re.search(r", at most ([0-9.]+) apart$", line)
-            out[kind][1].append((int(count[1].replace(",", "")), units(most[1]) if most else None))
+            out[kind][1].append((int(count[1].replace(",", "")), Decimal(most[1]) if most else None))
     return out
+
+
+def closed_shown(text):
+    """How many cells of each kind have a figure that the fine grid closed, by the summary."""
+    found = re.findall(r"(?m)^  of all these, ([0-9,]+) with a figure that the fine grid closed$", text)
+    return [int(count.replace(",", "")) for count in found]
+
+
+def closed_in(lines):
+    """Which of some lines of the program `ends` have a figure that the fine grid closed."""
+    return [" unit=13 " in line and not line.endswith("fig=open") for line in lines]
 
 
 def compared(first, second, draw, counts):
     """Two sheets compared, line by line as the program, with the summary of its lines."""
     paths = file_of(first), file_of(second)
-    ages = sorted({0, 65, 120, 121, *draw.sample(range(121), 9)})
-    years = [2013, 2014, 2022, *sorted(draw.sample(range(2023, 2064), 4)), 2064, 2072, 2184]
+    ages = sorted({0, 6, 65, 120, 121, *draw.sample(range(121), 8)})
+    years = [2013, 2014, 2022, EDGE_YEAR, *sorted(draw.sample(range(EDGE_YEAR + 1, 2064), 3)), 2064, 2072, 2184]
     asked = every(KINDS, ages, years)
     want = answers("compare", b"".join(path.read_bytes() for path in paths), [line_of(one) for one in asked])
     done = command("compare", *paths, *options(KINDS, ages, years))
@@ -398,14 +445,19 @@ def compared(first, second, draw, counts):
     yield summary_shown(summary) == shown, f"{name}: {summary}, not {shown}"
     prints = {"refused": "refused", "open": "open", "differently": "differ", "near": "alike", "different": "alike"}
     yield [row[7] for row in rows] == [prints[sort_of(line)[0]] for line in want], f"{name}: how figures print"
-    single = [answers("quotes", path.read_bytes(), [line_of(one) for one in asked]) for path in paths]
+    single = [answers("ends", path.read_bytes(), [line_of(one) for one in asked]) for path in paths]
     both = [[line.rpartition("fig=")[2] if "fig=" in line else line.rpartition(" ")[2] for line in lines] for lines in single]
     yield [row[5:7] for row in rows] == [list(pair) for pair in zip(*both)], f"{name}: the figures of each sheet"
+    closed = [any(pair) for pair in zip(*map(closed_in, single))]
+    counts["compared closed"] += sum(closed)
+    by_kind = [sum(one for one, cell in zip(closed, asked) if cell.kind == kind) for kind in KINDS]
+    yield closed_shown(summary) == by_kind, f"{name}: closed by the fine grid are {by_kind}, not {closed_shown(summary)}"
 
 
 def within_of(line, most):
-    """Whether a line of the program proves that the values are within so many units, past them, or neither."""
+    """Whether a line of the program proves that the values are within so many units of 10^-9, past them, or neither."""
     got = COMPARED.fullmatch(line)
+    most *= 10 ** (int(got[7]) - 9)
     return "yes" if int(got[6]) <= most else "no" if got[5] and int(got[5]) > most else "open"
 
 
@@ -417,14 +469,15 @@ def tolerated(folder):
     want = answers("compare", first.read_bytes() + second.read_bytes(), lines)
     edges = {int(COMPARED.fullmatch(want[5])[i]) + by for i in (5, 6) for by in (-1, 0, 1)}
     for most in sorted(edges):
-        for text in (f"{most}units", f"{Decimal(most) / UNIT:f}years"):
+        for text in (f"{most}units", f"{Decimal(most).scaleb(-9):f}years"):
             done = command("compare", first, second, *words, "--tolerance", text, "--exit-code")
             summary, _, cells = done.out.partition("\n\n")
             said = [within_of(line, most) for line in want]
             yes, no, neither = map(said.count, ("yes", "no", "open"))
             told = f"tolerance {text}: {yes} proved within it, {no} proved past it, {neither} neither"
-            good = [row[11] for row in table(cells)[1:]] == said and told in summary
+            good = [row[12] for row in table(cells)[1:]] == said and told in summary
             yield good and done.status == (set(said) != {"yes"}) and not done.err, f"tolerance {text}: {done}"
+    yield from tolerated_finely()
     for other, more, status in (
         (second, [], 0), (second, ["--exit-code"], 1), (third, ["--exit-code"], 0), (second, ["--tolerance", "0units"], 0),
         (first, ["--exit-code", "--tolerance", "1years"], 0), (second, ["--exit-code", "--tolerance", "1years"], 0),
@@ -446,19 +499,34 @@ def tolerated(folder):
     yield found == [str(year) for year in range(2022, 2065)] and common.status == 0, f"the years that both have: {found}"
 
 
+def tolerated_finely():
+    """Tolerances in units of 10^-9 beside differences in those of 10^-13: within them and past them by less than one."""
+    paths, asked = (file_of(EDGES), file_of("women")), every(["q"], sorted(CLOSED_AGES), [EDGE_YEAR])
+    want = answers("compare", b"".join(path.read_bytes() for path in paths), [line_of(one) for one in asked])
+    words = ["--kinds", "q", "--ages", ",".join(str(one.age) for one in asked), "--years", EDGE_YEAR]
+    for line in want:
+        got = COMPARED.fullmatch(line)
+        yield got[7] == "13" and got[4] != "near", f"a comparison in fine units: {line}"
+        for most in {int(got[i]) // 10**4 + by for i in (5, 6) for by in (0, 1)}:
+            done = command("compare", *paths, *words, "--tolerance", f"{most}units")
+            said = [within_of(one, most) for one in want]
+            cells = table(done.out.partition("\n\n")[2])[1:]
+            yield [row[12] for row in cells] == said and not done.err, f"a tolerance of {most} units: {done}, not {said}"
+
+
 # ---- tables of q
 
 def q_of(name, years):
-    """The program's figure and ends of q by year and age; the lower end's rounding stands for an open figure in a table."""
+    """The program's figure, ends and unit of q by year and age; the lower end's rounding stands for an open figure in a table."""
     lines = [line_of(Asked("q", age, year, 0, None)) for year in years for age in range(121)]
-    got = [re.fullmatch(r"kind=q age=(\d+) year=(\d+) span=0 lo=(\d+) hi=(\d+) fig=(\S+)", line)
+    got = [re.fullmatch(r"kind=q age=(\d+) year=(\d+) span=0 lo=(\d+) hi=(\d+) unit=(\d+) fig=(\S+)", line)
            for line in answers("ends", file_of(name).read_bytes(), lines)]
-    return {(int(one[2]), int(one[1])): (one[5], int(one[3]), int(one[4])) for one in got}
+    return {(int(one[2]), int(one[1])): (one[6], int(one[3]), int(one[4]), int(one[5])) for one in got}
 
 
 def entry_of(found):
-    figure, lower, _ = found
-    return half_up(lower, lower, 5) if figure == "open" else figure
+    figure, lower, _, unit = found
+    return half_up(lower, lower, unit, 5) if figure == "open" else figure
 
 
 def written(years, entries, form):
@@ -486,17 +554,21 @@ def program_verdict(name, year, entries):
 
 
 def told_of(found, year, entries):
-    """The ages that are wrong or open, each with the figure and its ends, that must be told of a year."""
+    """The ages that are wrong or open, or right by the fine grid alone, each with its entry and its ends, that must be told of a
+    year."""
     out = []
     for age in range(121):
-        figure, lower, upper = found[year, age]
-        if figure != entries[year, age]:
-            low, high = (f"{Decimal(end).scaleb(-9):.9f}" for end in (lower, upper))
-            out.append((age, "open" if figure == "open" else "wrong", entries[year, age], low, high))
+        figure, lower, upper, unit = found[year, age]
+        if figure != entries[year, age] or unit == FINE.digits:
+            low, high = (f"{Decimal(end).scaleb(-unit):.{unit}f}" for end in (lower, upper))
+            sort = "open" if figure == "open" else "right" if figure == entries[year, age] else "wrong"
+            out.append((age, sort, entries[year, age], low, high, unit != COARSE.digits))
     return out
 
 
-TOLD = re.compile(r"  age (\d+): (wrong|open), the table has (\S+), the sheet .*: between (\S+) and (\S+)")
+TOLD = re.compile(
+    r"  age (\d+): (right|wrong|open), the table has (\S+), the sheet .*: between ([0-9.]+) and ([0-9.]+)(, by the fine grid)?"
+)
 
 
 def judgements(text):
@@ -505,7 +577,7 @@ def judgements(text):
     for line in text.splitlines():
         told = TOLD.fullmatch(line)
         if told:
-            out[year][1].append((int(told[1]), *told.groups()[1:]))
+            out[year][1].append((int(told[1]), *told.groups()[1:5], bool(told[6])))
         elif re.match(r"\d", line):
             year, verdict = line.split()
             out[year] = (verdict, [])
@@ -521,45 +593,73 @@ def changed(draw, entry):
 def judged(folder, draw, counts):
     """Tables that are right, open or have digits changed, in several forms."""
     path = folder / "table.csv"
-    for name, first in (("women", 2014), ("research", 2022), ("men", 2014), ("flat", 2014)):
-        years = sorted({first, 2022, first + 170, *draw.sample(range(first, first + 171), 9)})
+    for name, first in (("women", 2014), ("research", 2022), ("men", 2014), ("flat", 2014), (EDGES, 2014)):
+        years = sorted({first, 2022, EDGE_YEAR, first + 170, *draw.sample(range(first, first + 171), 9)})
         found = q_of(name, years)
         for form in ("plain", "Dutch", "mixed", "quoted", "spaced"):
             entries = {cell: entry_of(got) for cell, got in found.items()}
-            for year in draw.sample(years, 4) if form != "plain" else []:
+            for year in draw.sample([year for year in years if name != EDGES or year != EDGE_YEAR], 4) if form != "plain" else []:
                 for age in draw.sample(range(121), draw.choice((1, 1, 2))):
                     entries[year, age] = changed(draw, entries[year, age])
             path.write_bytes(written(years, entries, form))
-            want = {str(year): (program_verdict(name, year, entries), told_of(found, year, entries)) for year in years}
-            done = command("judge", file_of(name), path)
-            wrong = any(verdict == "wrong" for verdict, _ in want.values())
-            counts.update(f"judged {verdict}" for verdict, _ in want.values())
-            yield judgements(done.out) == want and done.status == wrong and not done.err, f"{name}, {form}: {done}, not {want}"
+            yield judged_as(name, path, found, years, entries, counts)
+    for age in CLOSED_AGES:
+        found = q_of(EDGES, [EDGE_YEAR])
+        entries = {cell: entry_of(got) for cell, got in found.items()}
+        entries[EDGE_YEAR, age] = f"{Decimal(entries[EDGE_YEAR, age]) - Decimal('0.00001'):.5f}"
+        path.write_bytes(written([EDGE_YEAR], entries, "plain"))
+        yield judged_as(EDGES, path, found, [EDGE_YEAR], entries, counts)
     yield from judged_alone(folder)
 
 
+def judged_as(name, path, found, years, entries, counts):
+    """A table's verdicts by the program, with the ages that must be told."""
+    want = {str(year): (program_verdict(name, year, entries), told_of(found, year, entries)) for year in years}
+    done = command("judge", file_of(name), path)
+    wrong = any(verdict == "wrong" for verdict, _ in want.values())
+    counts.update(f"judged {verdict}" for verdict, _ in want.values())
+    counts.update(f"judged {told[1]}, by the fine grid" for _, ages in want.values() for told in ages if told[5])
+    return judgements(done.out) == want and done.status == wrong and not done.err, f"{name}: {done}, not {want}"
+
+
 def judged_alone(folder):
-    """One column with its year, an open one, a year that is refused, and a year chosen of several."""
+    """One column with its year, one that the fine grid settles, a year that is refused, and a year chosen of several; and an open
+    age."""
     found, path = q_of("women", [2020, 2022]), folder / "column.csv"
-    for year, want, status in ((2020, "right", 0), (2022, "open", 0), (2013, "no=4", 1), (2185, "no=4", 1)):
+    for year, want, status in ((2020, "right", 0), (2022, "right", 0), (2013, "no=4", 1), (2185, "no=4", 1)):
         entries = {age: entry_of(found[year if year == 2022 else 2020, age]) for age in range(121)}
         path.write_text("leeftijd;q\n" + "".join(f"{age};{q}\n" for age, q in entries.items()))
         done = command("judge", file_of("women"), path, "--year", year)
         lines = done.out.splitlines()
         program = program_verdict("women", year, {(year, age): q for age, q in entries.items()})
         yield lines[0] == f"{year} {want}" and want == program and done.status == status, f"a column of {year}: {done}"
-        if want == "open":
-            said = "  age 6: open, the table has 0.00001, the sheet 0.00001 or 0.00002: between 0.000014994 and 0.000015008"
-            yield lines[1:] == [said], f"an open age: {lines}"
+        if year == 2022:
+            between = "between 0.0000150013286 and 0.0000150013304, by the fine grid"
+            yield lines[1:] == [f"  age 6: right, the table has 0.00002, the sheet 0.00002: {between}"], f"a fine age: {lines}"
     entries = {cell: entry_of(got) for cell, got in found.items()}
+    entries[2022, 6] = "0.00001"
     path.write_bytes(written([2020, 2022], entries, "plain"))
     done = command("judge", file_of("women"), path, "--year", 2022, "-o", folder / "verdict.txt")
     text = (folder / "verdict.txt").read_text()
-    yield done == Done(0, "", "") and text.startswith("2022 open\n  age 6"), f"one year chosen: {done}"
-    entries[2022, 6] = "0.00003"
-    path.write_bytes(written([2022], entries, "plain"))
-    done = command("judge", file_of("women"), path)
-    yield done.status == 0 and "0.00001 or 0.00002, and neither is 0.00003" in done.out, f"neither rounding: {done}"
+    said = "  age 6: wrong, the table has 0.00001, the sheet 0.00002: between 0.0000150013286 and 0.0000150013304, by the fine grid\n"
+    yield done == Done(1, "", "") and text == f"2022 wrong\n{said}", f"one year chosen: {done}, {text}"
+    yield from open_age(folder)
+
+
+def open_age(folder):
+    """An open age with its lower rounding and with neither, and the ages that the fine grid settles beside it."""
+    found, path = q_of(EDGES, [EDGE_YEAR]), folder / "open.csv"
+    entries, age = {cell: entry_of(got) for cell, got in found.items()}, OPEN_AGES[0]
+    for more, neither in ((0, ""), (2, ", and neither is {}")):
+        figure, lower, upper, unit = found[EDGE_YEAR, age]
+        low, high = (half_up(end, end, unit, 5) for end in (lower, upper))
+        entries[EDGE_YEAR, age] = f"{Decimal(low) + Decimal(more).scaleb(-5):.5f}"
+        path.write_bytes(written([EDGE_YEAR], entries, "plain"))
+        done = command("judge", file_of(EDGES), path)
+        said = f"  age {age}: open, the table has {entries[EDGE_YEAR, age]}, the sheet {low} or {high}{neither}: between "
+        told = [line.split()[1].rstrip(":") for line in done.out.splitlines()[1:]]
+        good = done.status == 0 and said.format(entries[EDGE_YEAR, age]) in done.out and done.out.startswith(f"{EDGE_YEAR} open")
+        yield good and {str(one) for one in OPEN_AGES + CLOSED_AGES} <= set(told), f"an open age: {done}, not {said}"
 
 
 def torn_tables():
@@ -704,6 +804,7 @@ def helps(folder):
 # ---- all
 
 def checks(draw, counts, folder):
+    made(folder, draw)
     for one in lists(draw):
         yield from listed(one, counts)
     for one in short_lists(draw):
@@ -717,14 +818,17 @@ def checks(draw, counts, folder):
 
 def missing(counts):
     """What was not met, though it must be."""
-    out = [f"{LEAST_ROWS} rows of {name}" for name in NAMES if counts[name] < LEAST_ROWS]
+    out = [f"{LEAST_ROWS} rows of {name}" for name in (*NAMES, EDGES) if counts[name] < LEAST_ROWS]
     out += [f"no={no}" for no in (3, 4, 5, 8) if not counts[f"no={no}"]]
-    out += [f"{LEAST_OPEN} open figures"] if counts["open"] < LEAST_OPEN else []
+    out += [f"{LEAST_CLOSED} figures that the fine grid closed"] if counts["closed"] < LEAST_CLOSED else []
+    out += ["open figures"] if counts["open"] < len(OPEN_AGES) else []
     told = itertools.product(range(1, 10), ("open", "told"))
     out += [f"{what} with {decimals} decimals" for decimals, what in told if not counts[decimals, what]]
     out += [f"{LEAST_EXACT} exact values"] if counts["exact"] < LEAST_EXACT else []
-    sorts = ("refused", "open", "differently", "near", "different")
+    sorts = ("refused", "open", "differently", "near", "different", "closed")
     out += [f"compared {what}" for what in sorts if not counts[f"compared {what}"]]
+    fine = [f"judged {what}, by the fine grid" for what in ("right", "wrong", "open")]
+    out += [what for what in fine if not counts[what]]
     return out + [f"judged {what}" for what in ("right", "wrong", "open") if counts[f"judged {what}"] < 5]
 
 
@@ -741,8 +845,8 @@ def main():
             count.take(good, said)
     absent = missing(counts)
     count.take(not absent, f"no case of: {', '.join(absent)}")
-    print(", ".join(f"{name} {counts[name]} rows" for name in NAMES))
-    print(f"{counts['open']} open figures, {counts['exact']} exact values")
+    print(", ".join(f"{name} {counts[name]} rows" for name in (*NAMES, EDGES)))
+    print(f"{counts['closed']} figures that the fine grid closed, {counts['open']} open, {counts['exact']} exact values")
     print(", ".join(f"{what} {counts[what]}" for what in sorted(map(str, counts)) if what.startswith(("compared", "judged"))))
     return count.close()
 

@@ -26,6 +26,7 @@ import quotes
 import sheets
 import whole_run
 from c_interface import ROOT
+from edges import Edges
 from reader import LONGEST
 
 SEED = 20142065
@@ -123,6 +124,36 @@ def compare_sheet(count, module):
     count.take(isinstance(error_of(module.Sheet.load, "/no/such/file"), OSError), "a missing file is no OSError")
 
 
+def edge_sheet(draw, module):
+    """A sheet with expectancies of two ages at half steps: the figure at 60 is open, and that at 50 the fine grid closes."""
+    while True:
+        edges = Edges(sheets.realistic(draw))
+        if all(edges.place(("ecoh", age, 2020, 0), beyond) for age, beyond in ((60, 0), (50, 10**6))):
+            sheet = module.Sheet(sheets.text(edges.params))
+            answers = [error_of(sheet.quote, "ecoh", age, 2020) or sheet.quote("ecoh", age, 2020) for age in (60, 50)]
+            if [getattr(one, "unit", 9) for one in answers] == [13, 13] and [one.steps is None for one in answers] == [True, False]:
+                return sheet
+
+
+def compare_fine(count, draw, module):
+    """Quotes that are worked again: their unit, ends, figure and decimals, against the second implementation and the run."""
+    sheet = edge_sheet(draw, module)
+    given = quotes.Quotes(whole_run.params_of(whole_run.read(sheet.data)[1]))
+    for age in (60, 50):
+        quote, wanted = sheet.quote("ecoh", age, 2020), given.quote("ecoh", age, 2020, 0)
+        steps = None if wanted.steps == quotes.OPEN else wanted.steps
+        count.take(quote == (wanted.lower, wanted.upper, steps, 2, 13), f"worked again: {quote}, not {wanted}")
+        line = f"kind=ecoh age={age} year=2020 span=0"
+        count.take(list(sheet.run([line])) == [f"{line} lo={quote.lower} hi={quote.upper} unit=13 fig={quote.text}"], f"run of {line}")
+        ends = tuple(Decimal(end).scaleb(-13) for end in quote[:2])
+        count.take((quote.low, quote.high) == ends, f"the ends of {quote} as decimals")
+        for decimals in range(16):
+            compare_rounded(count, quote, decimals)
+    count.take(sheet.quote("ecoh", 60, 2020).text == "open", "no open figure")
+    status, out, _ = command("list", "-", "--help")
+    count.take(status == 0 and "13" in out, "the help of `list` does not tell the finer unit")
+
+
 def compare_quotes(count, draw, module):
     """Figures as the programs print them, ends as decimals, and figures with any decimals where both ends round alike."""
     sheet = module.Sheet(WOMEN)
@@ -134,18 +165,21 @@ def compare_quotes(count, draw, module):
         line = f"kind={kind} age={age} year={year} span={span}" + ("" if rate is None else f" rate={rate}")
         quote = sheet.quote(kind, age, year, span, rate)
         (answer,) = sheet.run([line])
-        wanted = f"{line} lo={quote.lower} hi={quote.upper} fig={quote.text}"
+        wanted = f"{line} lo={quote.lower} hi={quote.upper} unit={quote.unit} fig={quote.text}"
         count.take(answer == wanted, f"the run says {answer} and not {wanted}")
         (answer,) = sheet.run(iter([line]), ends=False)
         count.take(answer == f"{line} fig={quote.text}", f"the run without ends says {answer}")
-        ends = tuple(Decimal(end).scaleb(-9) for end in quote[:2])
+        ends = tuple(Decimal(end).scaleb(-quote.unit) for end in quote[:2])
         count.take((quote.low, quote.high) == ends, f"the ends of {quote} as decimals")
         for decimals in range(12):
             compare_rounded(count, quote, decimals)
-    count.take(sheet.quote("ecoh", 69, 2029).text == "open" and sheet.quote("ecoh", 69, 2029).rounded(1) is None, "no open figure")
+    closed = sheet.quote("ecoh", 55, 2030)
+    count.take(closed == (317050008753657, 317050008764842, 3171, 2, 13) and closed.text == "31.71", f"worked again: {closed}")
+    tenth = sheet.quote("ecoh", 69, 2029)
+    count.take((tenth.text, tenth.unit, tenth.rounded(1)) == ("18.65", 9, None), f"open to a tenth alone: {tenth}")
     count.take(isinstance(error_of(sheet.quote("q", 65, 2020).rounded, -1), ValueError), "-1 decimals are no ValueError")
     for kind, words in {**module.KINDS, **module.COUPLE_KINDS}.items():
-        count.take(words.decimals == (1 if kind[0] in "ea" else 5) and words.title, f"{kind} has the words {words}")
+        count.take(words.decimals == {"e": 2, "a": 1}.get(kind[0], 5) and words.title, f"{kind} has the words {words}")
 
 
 def compare_rounded(count, quote, decimals):
@@ -160,11 +194,16 @@ def compare_rounded(count, quote, decimals):
 def compare_comparisons(count, draw, module):
     """Two quotes compared, as the second implementation of the program `compare` does."""
     for _ in range(TRIES):
-        ends = [sorted(draw.randrange(12) for _ in range(2)) for _ in range(2)]
-        relation, least, most = module.compare(*(module.Quote(lower, upper, None, 5) for lower, upper in ends))
-        got = f" values={relation}" + ("" if least is None else f" least={least}") + f" most={most}"
-        count.take(got == whole_run.values(*ends), f"{ends}: {got} and not {whole_run.values(*ends)}")
-    one, other = module.Quote(1, 1, 0, 5), module.Quote(1, 1, 0, 1)
+        units = [draw.choice((9, 13)) for _ in range(2)]
+        ends = [sorted(draw.randrange(12 * 10 ** (unit - 9)) for _ in range(2)) for unit in units]
+        if draw.randrange(3) == 0:
+            ends[1][0] = ends[1][1] = ends[0][1] * 10 ** (13 - units[0]) + draw.randrange(-1, 2)
+            units[1] = 13
+        relation, least, most, unit = module.compare(*(module.Quote(*pair, None, 5, one) for pair, one in zip(ends, units)))
+        got = f" values={relation}" + ("" if least is None else f" least={least}") + f" most={most} unit={unit}"
+        wanted = whole_run.values(*(quotes.Quote(*pair, one, quotes.OPEN) for pair, one in zip(ends, units)))
+        count.take(got == wanted, f"{ends} in {units}: {got} and not {wanted}")
+    one, other = module.Quote(1, 1, 0, 5, 9), module.Quote(1, 1, 0, 1, 9)
     count.take(isinstance(error_of(module.compare, one, other), ValueError), "a probability is compared with years")
     count.take(isinstance(error_of(module.compare, one, (1, 1)), TypeError), "a pair is taken as a quote")
 
@@ -195,6 +234,20 @@ def compare_missing(count):
         count.take(given[0] == "-c" or done.stderr.count("\n") == 1, f"a missing library says {done.stderr}")
     done = subprocess.run([sys.executable, "-B", "-m", "kulfizan", "--help"], env=environment, capture_output=True, check=False)
     count.take(done.returncode == 0, "the help wants the library")
+
+
+CALLS = ("read", "write", "quote", "annuity", "day", "couple", "target", "verdict", "run")
+
+
+def compare_earlier(count, here, module):
+    """A library that wants other room for a run, as the one before units did, is not taken."""
+    for number in (0, 7):
+        source, library = here / f"earlier{number}.c", here / f"earlier{number}.so"
+        source.write_text("".join(f"unsigned char kulfizan_{name}(void) {{ return {number}; }}\n" for name in CALLS))
+        done = subprocess.run(["gcc", "-shared", "-fPIC", "-o", library, source], capture_output=True, text=True, check=False)
+        count.take(done.returncode == 0, f"an earlier library: {done.stderr}")
+        error = error_of(module.load, library)
+        count.take(isinstance(error, module.Missing) and "another version" in str(error), f"an earlier library raises {error!r}")
 
 
 # ---- fits
@@ -680,11 +733,11 @@ def compare_steep(count, draw, module):
 
 def steep_cell(params, asked):
     """The first cell out of range on a query's path."""
-    kappas = grid.kappas(params, 171)
+    kappas = grid.COARSE.kappas(params, 171)
     for age, year, *_ in quotes.path(params["start"], *asked[:4]):
         for needed in (age,) if age <= 90 else quotes.CLOSURE:
             passed = year - params["start"]
-            force = grid.log_force(params, needed, params["K"] + passed * params["theta"], kappas[passed])
+            force = grid.COARSE.log_force(params, needed, params["K"] + passed * params["theta"], kappas[passed])
             if not grid.in_range(force):
                 return needed, year
     return None
@@ -790,7 +843,7 @@ def compare_install(count, here, library):
     count.take(done.returncode == 0 and "accepted" in done.stdout, f"the installed command says {done.stdout} {done.stderr}")
     script = "import kulfizan, sys; print(kulfizan.Sheet.load(sys.argv[1]).quote('ecoh', 65, 2015).text, kulfizan.path())"
     done = subprocess.run([here / "venv" / "bin" / "python", "-c", script, EXAMPLES / "women.sheet"], **run)
-    count.take(done.stdout.startswith(f"21.4 {here / 'venv'}"), f"the module says {done.stdout} {done.stderr}")
+    count.take(done.stdout.startswith(f"21.38 {here / 'venv'}"), f"the module says {done.stdout} {done.stderr}")
 
 
 # ---- the stack
@@ -825,9 +878,11 @@ def main():
         compare_types(count, module)
         compare_sheet(count, module)
         compare_quotes(count, draw, module)
+        compare_fine(count, draw, module)
         compare_comparisons(count, draw, module)
         compare_runs(count, draw, module)
         compare_missing(count)
+        compare_earlier(count, here, module)
         compare_fits(count, draw, here)
         compare_faults(count, here)
         compare_slips(count, here)

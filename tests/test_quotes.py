@@ -1,13 +1,13 @@
-"""Every answer to a quote against a second implementation: the refusal, both ends and the figure, number for number, and the
-exact value to many digits, which must lie between the ends and round to the printed figure.
+"""Every answer to a quote against a second implementation: the refusal, both ends, their unit and the figure, number for number,
+and the exact value to many digits, which must lie between the ends and round to the printed figure.
 
-It hands sheets and query lines to the program `ends`: the flat sheet, realistic and extreme ones, steep ones, refused ones,
-and some that are searched for an end at a half step. Annuities are asked at each end of the rates and past it, and at rate 0
-held against the expectancy of the same age. Survival to a day is asked at and past both ends of its term and of numbers that are
-no day; its own dates are tests/test_day.py. Expectancies and annuities are asked at 120 in each year; where all ages have one
-force they are held against a plain sum over the years to 2184; and some sheets have a steep cell in one year alone, which a
-life may reach past 120. A line has no number of more than 15 digits, so the least and greatest numbers are those of 15 digits.
-An argument is taken as the seed.
+It hands sheets and query lines to the program `ends`: the flat sheet, realistic and extreme ones, steep ones, refused ones, some
+that are searched for a coarse end at a half step, and some whose figure the fine grid leaves open, of which tests/test_fine.py has
+many. Annuities are asked at each end of the rates and past it, and at rate 0 held against the expectancy of the same age. Survival
+to a day is asked at and past both ends of its term and of numbers that are no day; its own dates are tests/test_day.py.
+Expectancies and annuities are asked at 120 in each year; where all ages have one force they are held against a plain sum over the
+years to 2184; and some sheets have a steep cell in one year alone, which a life may reach past 120. A line has no number of more
+than 15 digits, so the least and greatest numbers are those of 15 digits. An argument is taken as the seed.
 """
 import collections
 import concurrent.futures
@@ -21,19 +21,22 @@ from decimal import Decimal
 import programs
 import sheets
 from whole_run import figure_text
-from grid import HIGHEST, LOWEST, RATE, START, UNIT, down, flat, kappas, log_force, up
+from edges import Edges
+from grid import COARSE, GRIDS, HIGHEST, LOWEST, RATE, START, UNIT, down, flat, up
 from quotes import ANNUITIES, CLOSURE, COHORT, DAY, EXPECTANCIES, FIRST_YEAR, KINDS, LAST_CELL, LAST_FITTED, LAST_YEAR
-from quotes import MOST_RATE, OLDEST, OPEN, RATE_UNIT, STEEP, SURVIVALS, TENTHS, UNRATED, GridCells, Quotes, day_of, figure
-from quotes import grid_ends, number_of, part_year, path, rounded, step, term, width, years_of
+from quotes import MOST_RATE, OLDEST, OPEN, RATE_UNIT, STEEP, SUMS, SURVIVALS, UNRATED, GridCells, Quotes, day_of
+from quotes import grid_ends, in_units, number_of, part_year, path, rounded, step, term, width, years_of
 from reader import LONGEST, SIZES, params_of, read
 
 SEED = 20142064
 LEAST, GREATEST = 1 - 10**15, 10**15 - 1
 NEAR = 5
+# What an accepted query is told: a figure by its coarse ends, one by its fine ends, or none.
+TOLD = ("printed", "fine", OPEN)
 REFUSALS = (1, 2, 3, 4, 10, 5, 8, 6)
 SORTS = ("flat", "realistic", "extreme")
 LEAST_ANNUITIES, LEAST_TENTHS = 3000, 3000
-ANSWER = re.compile(r"lo=([0-9]+) hi=([0-9]+) fig=([0-9.]+|open)")
+ANSWER = re.compile(r"lo=([0-9]+) hi=([0-9]+) unit=(9|13) fig=([0-9.]+|open)")
 
 # A sheet, its queries (kind, age, year, span, and the rate of an annuity; the date of a day in the span's place), and what some
 # of the lines must end in, whatever the second implementation says.
@@ -128,7 +131,7 @@ def usual(draw, years, each):
             out += [any_query(draw, kind, start, begun) for kind in COHORT]
         out += [any_query(draw, DAY, 0, year), any_query(draw, DAY, OLDEST, year)]
         out += [("ecoh", 0, year, 0), ("coh", 0, year, draw.randint(1, OLDEST + 1)), any_query(draw, "acoh", 0, year)]
-        out += [any_query(draw, kind, OLDEST, year) for kind in TENTHS]
+        out += [any_query(draw, kind, OLDEST, year) for kind in SUMS]
     return sorted(set(out))
 
 
@@ -137,14 +140,14 @@ def usual(draw, years, each):
 def fixed_cases():
     """The paper's three lines, and its edges, with what they print."""
     rows = {
-        ("q", 65, 2020, 0): "fig=0.30780", ("coh", 119, 2020, 2): "fig=0.47914", ("ecoh", 120, 2064, 0): "fig=2.7",
+        ("q", 65, 2020, 0): "fig=0.30780", ("coh", 119, 2020, 2): "fig=0.47914", ("ecoh", 120, 2064, 0): "fig=2.75",
         ("coh", 120, 2064, 0): "fig=1.00000", ("per", 120, 2014, 0): "fig=1.00000", ("coh", 120, 2064, 1): "fig=0.69220",
         ("per", 120, 2064, 1): "fig=0.69220", ("coh", 120, 2064, 2): "no=5", ("per", 120, 2064, 2): "no=5",
         ("coh", 119, 2014, 3): "no=5", ("per", 0, 2014, 122): "no=5", ("q", 121, 2014, 0): "no=3",
         ("ecoh", 121, 2014, 0): "no=3", ("acoh", 121, 2014, 0, 0): "no=3", ("q", 0, 2184, 0): "fig=0.30780",
         ("q", 0, 2185, 0): "no=4", ("ecoh", 0, 2065, 0): "no=4", ("q", 65, 2020, 1): "no=5",
         ("eper", 121, 2065, 1): "no=3", ("eper", 120, 2065, 1): "no=4",
-        ("ecoh", 120, 2014, 0): "fig=2.7", ("eper", 120, 2014, 0): "fig=2.7", ("acoh", 120, 2064, 0, 0): "fig=3.2",
+        ("ecoh", 120, 2014, 0): "fig=2.75", ("eper", 120, 2014, 0): "fig=2.75", ("acoh", 120, 2064, 0, 0): "fig=3.2",
         ("aper", 120, 2064, 0, 0): "fig=3.2", ("acoh", 120, 2014, 0, MOST_RATE): "fig=2.4",
         (DAY, 65, 2020, 20200101): "fig=1.00000", (DAY, 119, 2020, 20210101): "fig=0.69220",
         (DAY, 119, 2020, 20211231): "fig=0.47962", (DAY, 119, 2020, 20220101): "no=5", (DAY, 0, 2064, 21850101): "no=5",
@@ -217,7 +220,7 @@ def even_cases(draw):
         asked_of = [(OLDEST, year) for year in range(FIRST_YEAR, LAST_YEAR + 1)]
         asked_of += itertools.product((0, draw.randint(1, 89), 90, 91, 119), (FIRST_YEAR, LAST_YEAR))
         steep, rows = not LOWEST <= logs[LAST_CELL] <= HIGHEST, {}
-        for (age, year), kind in itertools.product(asked_of, TENTHS):
+        for (age, year), kind in itertools.product(asked_of, SUMS):
             rate = any_rate(draw, kind)
             shown = even_figure(even_sum(alive_in, kind, year, *rate), kind)
             rows[kind, age, year, 0, *rate] = "no=6" if steep and kind in COHORT else shown
@@ -339,13 +342,13 @@ def steep_once(draw, year):
     while True:
         params, age = dict(sheets.realistic(draw), a=97 * 10**6, k=10**10), draw.choice(CLOSURE)
         end, beyond = draw.choice(((HIGHEST, 1), (LOWEST, -1)))
-        series = kappas(params, LAST_CELL + 1 - START)
+        series = COARSE.kappas(params, LAST_CELL + 1 - START)
         params["be"][age], params["A"][age], params["al"][age] = -beyond * 10**7, 0, 0
         pull = params["be"][age] * (series[n + 1][0] - series[n - 1][0])
         params["B"][age] = -round(pull / (2 * params["theta"]))
-        log = log_force(params, age, params["K"] + n * params["theta"], series[n])
+        log = COARSE.log_force(params, age, params["K"] + n * params["theta"], series[n])
         params["A"][age] = end + beyond - log[beyond == 1]
-        cells = Quotes(params).grid
+        cells = Quotes(params).coarse
         if all(cells.steep(OLDEST, now) == (now == year) for now in range(FIRST_YEAR, LAST_CELL + 1)):
             return params, age
 
@@ -354,12 +357,12 @@ def needs(query, fitted, when):
     """Whether a quote needs the closure of a year, or a fitted age's cell in it."""
     kind, age, year, span = query[:4]
     if kind not in COHORT:
-        return year == when and (kind in TENTHS or span == OLDEST + 1 - age)
+        return year == when and (kind in SUMS or span == OLDEST + 1 - age)
     held = age + when - year
     if kind == DAY:
         day = day_of(span)
         span = day.year - year + (part_year(day)[0] > 0)
-    return held >= age and (held == fitted or held > LAST_FITTED) and (kind in TENTHS or held < age + span)
+    return held >= age and (held == fitted or held > LAST_FITTED) and (kind in SUMS or held < age + span)
 
 
 def steep_once_cases(draw):
@@ -375,7 +378,7 @@ def steep_once_cases(draw):
             ages = {0, draw.randint(1, 119), fitted, 91, 119, OLDEST}
             ages |= {before - 1, before, before + 1, before + draw.randint(2, 60)}
             for age in sorted(x for x in ages if 0 <= x <= OLDEST):
-                queries += [any_query(draw, kind, age, year) for kind in TENTHS]
+                queries += [any_query(draw, kind, age, year) for kind in SUMS]
                 queries += [(kind, age, year, OLDEST + 1 - age) for kind in SURVIVALS]
                 first, last = term(age, year)
                 days = [datetime.date(when, 1, 1) + by * ONE_DAY for by in (-1, 0, 1)] + [datetime.date(when, 12, 31), last]
@@ -394,14 +397,14 @@ def moved(params, key, age, by):
 
 
 def moving(params, key, query):
-    """The ends of a quote over how far K, or A at its age, is moved. A of an age below 80 moves that age's cell alone, which
+    """The coarse ends of a quote over how far K, or A at its age, is moved. A of an age below 80 moves that age's cell alone, which
     is the quote's first, so that its other factors are worked once."""
     kind, age, year, span, *rate = query
     if key == "K" or age in CLOSURE:
         return lambda by: Quotes(moved(params, key, age, by)).ends(*query)
-    cells, (first, *others) = GridCells(params), path(params["start"], kind, age, year, span)
+    cells, (first, *others) = GridCells(params, COARSE), path(params["start"], kind, age, year, span)
     later = [cells.p(*cell) for cell in others]
-    return lambda by: grid_ends(kind, [GridCells(moved(params, key, age, by)).p(*first), *later], *rate)
+    return lambda by: grid_ends(COARSE, kind, [GridCells(moved(params, key, age, by), COARSE).p(*first), *later], *rate)
 
 
 def lasting(draw, kind, age, year):
@@ -413,17 +416,17 @@ def lasting(draw, kind, age, year):
 
 
 def searched(job):
-    """Sheets in which a quote's lower end (side 0), upper end (1) or middle (2) lies at a half step, or as near as can be on
+    """Sheets in which a quote's coarse lower end (side 0), upper end (1) or middle (2) lies at a half step, or as near as can be on
     either side of it: by secants over K, or A at an age, and then by some tries close by. A job may have a start year."""
     kind, side, seed, *start = job
     draw = random.Random(seed)
     out = []
     while not out:
-        params, long = mild(draw, *start), kind in TENTHS and kind in COHORT
+        params, long = mild(draw, *start), kind in SUMS and kind in COHORT
         first, last, _ = years_of(params["start"])
         age, year = draw.randint(40, 79 if long else 105), draw.randint(first, last)
         query = (kind, age, year, lasting(draw, kind, age, year), *any_rate(draw, kind))
-        key = "A" if long or age <= 79 and kind not in TENTHS and draw.randrange(2) else "K"
+        key = "A" if long or age <= 79 and kind not in SUMS and draw.randrange(2) else "K"
         ends_at, kept = moving(params, key, query), {}
 
         def end(by):
@@ -455,12 +458,28 @@ def searched(job):
     return out
 
 
+# ---- figures that stay open
+
+def opened(job):
+    """Two sheets in which one quote lies at a half step, so near that the fine grid leaves it open. A job may have a start year."""
+    kind, seed, *start = job
+    draw, out = random.Random(seed), []
+    age, year = draw.randint(40, 79), draw.randint(*years_of(*(start or [START]))[:2])
+    query = (kind, age, year, lasting(draw, kind, age, year), *any_rate(draw, kind))
+    while len(out) < 2:
+        edges = Edges(mild(draw, *start))
+        given = Quotes(edges.params) if edges.place(query, 0) else None
+        if given and not given.refusal(*query) and given.quote(*query).steps == OPEN:
+            out.append(case(f"open: {kind}", edges.params, [query]))
+    return out
+
+
 # ---- comparing
 
 def steep_to_120(given, query):
     """Whether a cell of an expectancy or annuity is steep on the way to 120."""
     kind, age, year, span = query[:4]
-    return any(given.grid.steep(*cell) for cell in path(given.start, kind, age, year, span)[: OLDEST + 1 - age])
+    return any(given.coarse.steep(*cell) for cell in path(given.start, kind, age, year, span)[: OLDEST + 1 - age])
 
 
 def complaints(given, no, query, line, counts):
@@ -470,42 +489,46 @@ def complaints(given, no, query, line, counts):
     if no:
         counts[f"refused {no}"] += 1
         counts["annuities refused"] += kind in ANNUITIES
-        counts["steep past 120 alone"] += no == STEEP and kind in TENTHS and not steep_to_120(given, query)
+        counts["steep past 120 alone"] += no == STEEP and kind in SUMS and not steep_to_120(given, query)
         if line != f"no={no}":
             yield f"not no={no}"
         return
-    ends, value = given.ends(*query), given.value(*query)
-    shown = figure(ends, kind)
-    counts[f"{kind} {'open' if shown == OPEN else 'printed'}"] += 1
+    quote, value = given.quote(*query), given.value(*query)
+    counts[f"{kind} {sort_of(quote)}"] += 1
     counts[kind, query[2]] += age == OLDEST
     size = step(kind)
-    if any(min((end + size // 2) % size, -(end + size // 2) % size) <= NEAR for end in ends):
+    if any(min((end + size // 2) % size, -(end + size // 2) % size) <= NEAR for end in given.ends(*query)):
         counts[f"{kind} near"] += 1
     got = ANSWER.fullmatch(line)
     if not got:
-        yield f"not two ends and a figure, {ends} and {shown}"
+        yield f"not two ends, a unit and a figure: {quote}"
         return
-    lower, upper = int(got[1]), int(got[2])
-    if (lower, upper) != ends:
-        yield f"ends are not {ends}"
-    if got[3] != figure_text(shown, kind):
-        yield f"figure is not {figure_text(shown, kind)}"
-    if not lower <= value <= upper:
+    lower, upper, unit = map(int, got.groups()[:3])
+    if (lower, upper, unit) != quote[:3]:
+        yield f"ends are not {quote[:2]} in units of 10^-{quote.unit}"
+    if got[4] != figure_text(quote.steps, kind):
+        yield f"figure is not {figure_text(quote.steps, kind)}"
+    if not lower <= in_units(value, unit) <= upper:
         yield f"the exact value {value:.20f} is not between the ends"
-    if got[3] != OPEN and got[3] != figure_text(rounded(value, kind), kind):
+    if got[4] != OPEN and got[4] != figure_text(rounded(value, kind), kind):
         yield f"the exact value {value:.20f} rounds to {figure_text(rounded(value, kind), kind)}"
-    if upper - lower > width(*query):
+    if upper - lower > width(unit, *query):
         yield f"{upper - lower} units apart"
 
 
+def sort_of(quote):
+    """Whether a quote is printed by its coarse ends or by its fine ones, or is open."""
+    return OPEN if quote.steps == OPEN else "printed" if quote.unit == COARSE.digits else "fine"
+
+
 def unlike_expectancies(asked_of, counts):
-    """Which annuities at rate 0 are not, end for end, the expectancy and a half."""
-    ends = {query: tuple(map(int, got.groups()[:2])) for query, line in asked_of if (got := ANSWER.fullmatch(line))}
+    """Which annuities at rate 0 are not, end for end in one unit, the expectancy and a half."""
+    ends = {query: tuple(map(int, got.groups()[:3])) for query, line in asked_of if (got := ANSWER.fullmatch(line))}
     for (kind, age, year, _, *rate), own in ends.items():
         expectancy = ends.get((f"e{kind[1:]}", age, year, 0))
-        if rate == [0] and expectancy:
+        if rate == [0] and expectancy and expectancy[2] == own[2]:
             counts["at rate 0"] += 1
-            if any(own[i] != expectancy[i] + UNIT // 2 for i in (0, 1)):
+            if any(own[i] != expectancy[i] + GRIDS[own[2]].step for i in (0, 1)):
                 yield f"{kind} {age} {year} at rate 0: {own}, with the expectancy {expectancy}"
 
 
@@ -548,7 +571,7 @@ def compare(one):
         if bad:
             wrong.append(f"{one.name}, {' '.join(map(str, query))}: {line!r}: {', '.join(bad)}")
     wrong += [f"{one.name}, {said}" for said in unlike_expectancies(zip(one.queries, answers), counts)]
-    counts[one.name.split()[0].rstrip(",")] += accepted(counts, TENTHS)
+    counts[one.name.split()[0].rstrip(",")] += accepted(counts, SUMS)
     return counts, len(answers), wrong
 
 
@@ -559,29 +582,31 @@ def cases(draw, pool):
     jobs = [(kind, side, draw.random()) for kind in KINDS for side in (0, 1, 2) for _ in range(3)]
     for found in pool.map(searched, jobs):
         out += found
+    for found in pool.map(opened, [(kind, draw.random()) for kind in KINDS]):
+        out += found
     return out
 
 
 def missing(counts):
     """What the cases should have met and have not."""
-    wanted = [f"{kind} {what}" for kind in KINDS for what in ("printed", "open", "near")]
+    wanted = [f"{kind} {what}" for kind in KINDS for what in (*TOLD, "near")]
     wanted += [f"refused {no}" for no in REFUSALS] + ["at rate 0", "steep past 120 alone", *SORTS]
     few = [f"{LEAST_ANNUITIES} annuities"] if accepted(counts, ANNUITIES) < LEAST_ANNUITIES else []
     few += [f"{LEAST_TENTHS} expectancies and annuities"] if sum(counts[sort] for sort in SORTS) < LEAST_TENTHS else []
-    at_120 = itertools.product(TENTHS, range(FIRST_YEAR, LAST_YEAR + 1))
+    at_120 = itertools.product(SUMS, range(FIRST_YEAR, LAST_YEAR + 1))
     few += [f"{kind} at 120 in {year}" for kind, year in at_120 if not counts[kind, year]]
     return [what for what in wanted if not counts[what]] + few
 
 
 def accepted(counts, kinds):
     """How many quotes of some kinds were accepted, and so held against the exact value."""
-    return sum(counts[f"{kind} {what}"] for kind in kinds for what in ("printed", "open"))
+    return sum(counts[f"{kind} {what}"] for kind in kinds for what in TOLD)
 
 
 def report(counts, total):
     print(f"{total} quotes")
-    for what in ("printed", "open", "near"):
-        name = f"an end within {NEAR} units of a half step" if what == "near" else what
+    names = ("printed by coarse ends", "printed by fine ends", "open", f"a coarse end within {NEAR} units of a half step")
+    for what, name in zip((*TOLD, "near"), names):
         each = [counts[f"{kind} {what}"] for kind in KINDS]
         print(f"{name}: {sum(each)},", *(f"{kind} {count}" for kind, count in zip(KINDS, each)))
     print("refused:", *(f"no={no} {counts[f'refused {no}']}" for no in REFUSALS))
@@ -589,7 +614,7 @@ def report(counts, total):
     own = accepted(counts, ANNUITIES)
     print(f"annuities: {own} accepted, {free} of them held against expectancies at rate 0; {refused} refused")
     by_sort = ", ".join(f"{counts[sort]} of {sort} sheets" for sort in SORTS)
-    print(f"expectancies and annuities: {accepted(counts, TENTHS)} accepted, {by_sort};", end=" ")
+    print(f"expectancies and annuities: {accepted(counts, SUMS)} accepted, {by_sort};", end=" ")
     print(f"{counts['steep past 120 alone']} refused for a cell past 120 alone")
 
 

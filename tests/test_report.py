@@ -1,8 +1,9 @@
 """The command `report` of the package: the page as it is written, and as a real browser shows it.
 
 The page must be well formed and need nothing from elsewhere. Every figure on it is held against the programs `ends` and
-`compare` and against the command `list`: the list, survival, q, the differences with their marks, what is open and how wide
-ends are. Pictures are read back: each point of a curve, each square's colour by the key, each mark, against the ends.
+`compare` and against the command `list`: the list, survival, q, the differences with their marks, what is open, what the fine
+grid closed and how wide ends are. Pictures are read back: each point of a curve, each square's colour by the key, each mark,
+against the ends.
 Headless Chromium, which tests/browser installs where it is missing, must load the page with nothing said on its console; the
 figures are then read again from its document, and the sizes of pictures and texts and the squares' colours from what it has
 drawn.
@@ -19,6 +20,7 @@ import io
 import json
 import os
 import pathlib
+import random
 import re
 import struct
 import subprocess
@@ -27,9 +29,13 @@ import tempfile
 import traceback
 import types
 import zlib
+from decimal import Decimal
 
 import c_interface
 import programs
+import sheets
+from edges import Edges
+from test_quotes import mild
 
 EXAMPLES = programs.ROOT / "examples"
 BROWSER = programs.ROOT / "tests" / "browser"
@@ -40,11 +46,14 @@ LONGEST, ONE = 65_536, 10**9
 VOID = ("meta", "br", "col", "hr", "img", "input", "link")
 PATIENCE = 60
 WIDTH = 900
-TOLD = re.compile(r"(?:lo=([0-9]+) hi=([0-9]+) )?(?:fig=(\S+)|(no=[0-9]+))")
-COMPARED = re.compile(r"fig=(\S+) fig=(\S+) values=(\w+)(?: least=([0-9]+))? most=([0-9]+)")
+TOLD = re.compile(r"(?:lo=([0-9]+) hi=([0-9]+) unit=(9|13) )?(?:fig=(\S+)|(no=[0-9]+))")
+COMPARED = re.compile(r"fig=(\S+) fig=(\S+) values=(\w+)(?: least=([0-9]+))? most=([0-9]+) unit=(9|13)")
+# A sheet with q at half steps in a year: open on the fine grid too, or closed by it.
+EDGE_YEAR, OPEN_AGES, CLOSED_AGES = 2025, (70, 6), (65, 30)
 
-Told = collections.namedtuple("Told", "lower upper text")
-Compared = collections.namedtuple("Compared", "first second values least most")
+# The ends in units of 10^-9, as exact decimals, how they are written, their unit, and the figure or the refusal.
+Told = collections.namedtuple("Told", "lower upper low high unit text")
+Compared = collections.namedtuple("Compared", "first second values least most unit")
 Count = c_interface.Count
 
 
@@ -106,9 +115,17 @@ def told(path, queries):
     """The ends and the figure of each query by the program `ends`."""
     out = {}
     for line, answer in answered("ends", [path], queries).items():
-        lower, upper, figure, refusal = TOLD.fullmatch(answer).groups()
-        out[line] = Told(int(lower or 0), int(upper or 0), figure or refusal)
+        lower, upper, unit, figure, refusal = TOLD.fullmatch(answer).groups()
+        unit = int(unit or 9)
+        ends = [int(end or 0) for end in (lower, upper)]
+        shown = [amount(end, unit) for end in ends]
+        out[line] = Told(*(Decimal(end).scaleb(9 - unit) for end in ends), *shown, unit, figure or refusal)
     return out
+
+
+def closed(one):
+    """Whether the fine grid closed a figure."""
+    return one.unit == 13 and one.text != "open"
 
 
 def compared(paths, queries):
@@ -116,7 +133,7 @@ def compared(paths, queries):
     out = {}
     for line, answer in answered("compare", paths, queries).items():
         got = COMPARED.fullmatch(answer)
-        out[line] = got and Compared(got[1], got[2], got[3], got[4] and int(got[4]), int(got[5]))
+        out[line] = got and Compared(got[1], got[2], got[3], got[4] and int(got[4]), int(got[5]), int(got[6]))
     return out
 
 
@@ -125,8 +142,15 @@ def hidden(pair):
     return bool(pair) and pair.first == pair.second != "open" and pair.values != "near"
 
 
-def amount(units):
-    return f"{units // ONE}.{units % ONE:09}"
+def amount(units, unit):
+    """A number of units of 10^-unit as a decimal."""
+    return f"{units // 10**unit}.{units % 10**unit:0{unit}}"
+
+
+def furthest(pairs):
+    """The most that any of some values differ by, as a decimal."""
+    most = max(pairs, key=lambda pair: Decimal(pair.most).scaleb(-pair.unit))
+    return amount(most.most, most.unit)
 
 
 # ---- reading a page
@@ -344,47 +368,63 @@ def differences_shown(name, root, paths, ages, years):
             pair = want[line]
             said = "prints alike, differs" if hidden(pair) else "open" if "open" in pair[:2] else \
                 "prints alike, near" if pair.first == pair.second else "prints differently"
-            least = "–" if pair.least is None else amount(pair.least)
-            good = [line, pair.first, pair.second, said, pair.values, least, amount(pair.most)]
+            least = "–" if pair.least is None else amount(pair.least, pair.unit)
+            good = [line, pair.first, pair.second, said, pair.values, least, amount(pair.most, pair.unit)]
             if [query(kind, *row[:2]), *row[2:]] != good:
                 wrong.append(f"{row}, and compare says {line} {pair}")
         yield not wrong, f"{name}: differences of {kind}: {wrong[:3]}"
 
 
-def summary_shown(name, root, pairs):
+def summary_shown(name, root, paths, pairs):
     """How many cells print alike and so on, counted in the answers of `compare`, for some of the kinds."""
     rows = {row[0].text(): row[1:] for row in rows_of(root.one("table", id="differences-all"))[1:]}
     for kind, found in pairs.items():
+        singles = [told(path, found) for path in paths]
         printed = [pair for pair in found.values() if pair and "open" not in pair[:2]]
         alike = [pair for pair in printed if pair.first == pair.second]
         sorts = [[pair for pair in alike if hidden(pair)], [pair for pair in alike if not hidden(pair)],
                  [pair for pair in printed if pair.first != pair.second]]
-        mosts = [f"≤ {amount(max(pair.most for pair in sort))}" if sort else "" for sort in sorts]
+        mosts = [f"≤ {furthest(sort)}" if sort else "" for sort in sorts]
         want = [f"{len(found):,}"] + [f"{len(sort):,}{most}" for sort, most in zip(sorts, mosts)]
         given = [pair for pair in found.values() if pair]
         want += [f"{len(given) - len(printed):,}", f"{len(found) - len(given):,}"]
+        count = sum(any(closed(single[line]) for single in singles) for line in found)
+        told_closed = re.search(rf"[ :]{kind} ([0-9,]+)[,.]", root.one("p", id="differences-closed").text())
+        yield count and told_closed and told_closed[1] == f"{count:,}", f"{name}: {told_closed} of {kind} are closed, not {count}"
         got = [cell.text() for cell in rows[kind]]
         yield got == want, f"{name}: the summary of {kind} is {got}, not {want}"
     sizes = [row[0].text() for row in rows.values()]
     yield sizes == ["20,691"] + ["6,171"] * 3, f"{name}: the summary is of {sizes} cells"
 
 
-def open_shown(name, root, whole):
-    """The counts of open figures and the widest ends, and each open figure, of a sheet."""
+def fine_shown(name, root, whole):
+    """The counts of figures that the fine grid closed and of open ones, the widest ends, and each figure that was worked again, the
+    open ones first, of a sheet; the table has 100 of them at most."""
     rows = {}
     for head, *cells in rows_of(root.one("table", id="width-table-1"))[1:]:
         rows[head.text().split()[0]] = [cell.text() for cell in cells]
-    shown = [[cell.text() for cell in row] for row in rows_of(root.one("table", id="open-table-1"))[1:]]
+    shown = [[cell.text() for cell in row] for row in rows_of(root.one("table", id="fine-table-1"))[1:]]
+    again = {line: one for found in whole.values() for line, one in found.items() if one.unit == 13}
+    want = {line: [one.text, one.low, one.high, width_text(one)] for line, one in again.items()}
+    got = {query(*row[:3]): row[3:] for row in shown}
+    wrong = [line for line in got if got[line] != want.get(line)]
+    opened = [row[3] == "open" for row in shown]
+    yield not wrong and len(got) == len(shown) == min(100, len(want)), f"{name}: worked again are {wrong[:3]}, {len(got)} of {len(want)}"
+    yield opened == sorted(opened, reverse=True), f"{name}: the open figures are not the first"
+    yield sum(opened) == min(100, sum(one.text == "open" for one in again.values())), f"{name}: {sum(opened)} open figures"
     for kind, found in whole.items():
         width = {line: one.upper - one.lower for line, one in found.items()}
-        opened = [line for line, one in found.items() if one.text == "open"]
-        age, year = re.fullmatch(r"age (\d+) in (\d+)", rows[kind][4]).groups()
-        want = [f"{len(found):,}", f"{len(opened):,}", "0", amount(max(width.values()))]
-        good = rows[kind][:4] == want and width[query(kind, age, year)] == max(width.values())
-        yield good, f"{name}: the ends of {kind} are {rows[kind]}, not {want}"
-        told_open = {query(*row[:3]): row[3:] for row in shown if row[0] == kind}
-        ends = {line: [amount(found[line].lower), amount(found[line].upper), amount(width[line])] for line in opened}
-        yield told_open == ends, f"{name}: the open figures of {kind}: {set(told_open) ^ set(ends)}"
+        counts = [len(found), sum(map(closed, found.values())), sum(one.text == "open" for one in found.values()), 0]
+        age, year = re.fullmatch(r"age (\d+) in (\d+)", rows[kind][5]).groups()
+        widest = found[query(kind, age, year)]
+        good = rows[kind][:5] == [*(f"{count:,}" for count in counts), width_text(widest)]
+        good &= width[query(kind, age, year)] == max(width.values())
+        yield good, f"{name}: the ends of {kind} are {rows[kind]}, not {counts}"
+
+
+def width_text(one):
+    """How far ends lie apart, in their unit."""
+    return f"{(one.upper - one.lower).scaleb(-9):.{one.unit}f}"
 
 
 # ---- the pictures
@@ -423,7 +463,7 @@ def curves_drawn(name, root, paths, ages, year):
     want = []
     for path in paths:
         found = told(path, [query("coh", age, year, span) for age in ages for span in range(122 - age)])
-        want += [[found[query("coh", age, year, span)].lower / ONE for span in range(122 - age)] for age in ages]
+        want += [[float(found[query("coh", age, year, span)].lower) / ONE for span in range(122 - age)] for age in ages]
     yield sorted(map(len, drawn)) == sorted(map(len, want)), f"{name}: {len(drawn)} curves of {len(want)}, or with other points"
     pixels = [[(across(span), up(chance)) for span, chance in enumerate(chances)] for chances in want]
     near = lambda one, other: all(abs(a - b) < 0.02 for point in zip(one, other) for a, b in zip(*point))
@@ -454,18 +494,21 @@ def map_drawn(name, picture, found, years):
     yield whole, f"{name}: the squares do not fill the map once, or its axes are wrong"
     key = picture.one("g", class_="key")
     steps, bounds = list(key.all("path", class_="step")), [node.text() for node in key.all("text", class_="tick")]
+    named = [text for text in bounds if not text[0].isdigit()]
     bounds = [float(text) for text in bounds if text[0].isdigit()]
     between = {step.at["fill"]: (low, high) for step, high, low in zip(steps, bounds, bounds[1:])}
     downward = bounds == sorted(set(bounds), reverse=True)
     yield len(between) == len(steps) == len(bounds) - 1 and downward, f"{name}: the key is {bounds}"
     cells = {(age, year): found[query("q", age, year)] for age in range(121) for year in years}
     ranges = {cell: between[painted[cell].at["fill"]] for cell in cells}
-    wrong = [cell for cell, one in cells.items() if not ranges[cell][0] * ONE <= one.lower < ranges[cell][1] * ONE]
+    wrong = [cell for cell, one in cells.items() if not ranges[cell][0] * ONE <= float(one.lower) < ranges[cell][1] * ONE]
     yield not wrong, f"{name}: {len(wrong)} squares have another colour than their lower ends, as {wrong[:3]}"
-    marks = re.findall(r"M([\d.]+) ([\d.]+)l", picture.one("path", class_="open").at["d"])
-    want = sorted((round(across(year), 1), round(up(age) - 3.5, 1)) for (age, year), one in cells.items() if one.text == "open")
-    got = sorted((round(float(x), 1), round(float(y), 1)) for x, y in marks)
-    yield got == want and want, f"{name}: the open figures' marks, {len(got)} of {len(want)}"
+    for word, is_marked in (("open", lambda one: one.text == "open"), ("closed", closed)):
+        path = "".join(node.at["d"] for node in picture.all("path", class_=word))
+        marks = re.findall(r"M([\d.]+) ([\d.]+)l", path)
+        want = sorted((round(across(year), 1), round(up(age) - 3.5, 1)) for (age, year), one in cells.items() if is_marked(one))
+        got = sorted((round(float(x), 1), round(float(y), 1)) for x, y in marks)
+        yield got == want and bool(want) == (word in named), f"{name}: the marks of {word} figures, {len(got)} of {len(want)}"
     colours = [bytes.fromhex(step.at["fill"][1:]) for step in steps]
     light = [0.2126 * red + 0.7152 * green + 0.0722 * blue for red, green, blue in colours]
     yield light == sorted(set(light)), f"{name}: higher is not always darker"
@@ -492,7 +535,7 @@ def widths_drawn(name, picture, whole):
         width = collections.Counter()
         for asked, one in of_kind.items():
             age = int(asked.split()[1][4:])
-            width[age] = max(width[age], one.upper - one.lower)
+            width[age] = max(width[age], float(one.upper - one.lower))
         back = [10 ** (first + (y - start) * (last - first) / (end - start) + 9) for _, y in line]
         near = all(abs(x - across(age)) < 0.02 and abs(back[age] / width[age] - 1) < 0.01 for age, (x, _) in enumerate(line))
         yield near, f"{name}: the widths of {kind}"
@@ -643,7 +686,7 @@ def one_sheet(folder):
     again = root.one("footer").one("code").text().split()
     yield again == ["kulfizan", "list", women.name, "--kinds", ",".join(LISTED), *words, "--ends"], f"one: again with {again}"
     whole = whole_of(women)
-    yield from open_shown("one", root, whole)
+    yield from fine_shown("one", root, whole)
     yield from curves_drawn("one", root, [women], AGES, 2014)
     yield from map_drawn("one", root.one("svg", id="q-picture-1"), whole["q"], range(2014, 2185))
     yield from widths_drawn("one", root.one("svg", id="width-picture-1"), whole)
@@ -674,13 +717,34 @@ def two_sheets(folder):
         yield from differences_shown(name, found, paths, AGES, YEARS)
     pairs = {"q": compared(paths, [query("q", age, year) for age in range(121) for year in range(2014, 2185)]),
              "eper": compared(paths, [query("eper", age, year) for age in range(121) for year in range(2014, 2065)])}
-    yield from summary_shown("two", root, pairs)
+    yield from summary_shown("two", root, paths, pairs)
     yield from relations_drawn("two", root.one("svg", id="relation-picture"), pairs["q"], range(2014, 2185))
     yield from curves_drawn("two", root, paths, AGES, 2014)
     names = [node.at["id"] for node in root.all("svg")]
     want = ["survival-picture", "q-picture-1", "q-picture-2", "relation-picture", "width-picture-1", "width-picture-2"]
     yield names == want, f"two: the pictures are {names}"
     yield from measured("two", path, root, folder)
+
+
+def edges(folder):
+    """A page of a sheet with q that is open, or closed by the fine grid, in one year."""
+    page, path, draw = folder / "edges.html", folder / "edges.sheet", random.Random(2025)
+    made = False
+    while not made:
+        placed = Edges(mild(draw))
+        ages = sorted(OPEN_AGES + CLOSED_AGES, reverse=True)
+        made = all(placed.place(("q", age, EDGE_YEAR, 0), 10**4 * (age in CLOSED_AGES)) for age in ages)
+    path.write_bytes(sheets.text(placed.params))
+    status, out, err = command("report", path, "--ages", "65", "-o", page)
+    root, _ = tree(page.read_text(encoding="utf-8"))
+    yield (status, out, err) == (0, "", ""), f"edges: {status}, {err}"
+    yield from formed("edges", page.read_text(encoding="utf-8"))
+    whole = whole_of(path)
+    yield from fine_shown("edges", root, whole)
+    yield from map_drawn("edges", root.one("svg", id="q-picture-1"), whole["q"], range(2014, 2185))
+    found = [whole["q"][query("q", age, EDGE_YEAR)] for age in OPEN_AGES + CLOSED_AGES]
+    good = [(one.unit, one.text == "open") for one in found] == [(13, True)] * len(OPEN_AGES) + [(13, False)] * len(CLOSED_AGES)
+    yield good, f"edges: the sheet's q are {found}"
 
 
 def near_and_apart(folder):
@@ -738,7 +802,7 @@ def refused_drawn(name, root, path):
     yield whole and not wrong, f"{name}: {len(wrong)} squares are wrongly refused or given, as {wrong[:3]}"
     refused = sum(one.text == "no=6" for one in found.values())
     rows = {row[0].text(): row for row in rows_of(root.one("table", id="width-table-1"))}
-    yield rows["q"][3].text() == f"{refused:,}" and 0 < refused < len(found), f"{name}: {rows['q'][3].text()} are refused"
+    yield rows["q"][4].text() == f"{refused:,}" and 0 < refused < len(found), f"{name}: {rows['q'][4].text()} are refused"
 
 
 def faults(folder):
@@ -794,7 +858,7 @@ def main():
         return 1
     with tempfile.TemporaryDirectory() as name:
         folder = pathlib.Path(name)
-        for part in (one_sheet, two_sheets, near_and_apart, chosen, faults, seen_failing):
+        for part in (one_sheet, two_sheets, edges, near_and_apart, chosen, faults, seen_failing):
             try:
                 for good, said in part(folder):
                     count.take(bool(good), said)

@@ -24,7 +24,7 @@ from couples import COUPLES
 from grid import HIGHEST, flat
 from quotes import ANNUITIES, DAY, KINDS, OLDEST, UNRATED, years_of
 from reader import KEYS, LONGEST, SIZES
-from test_quotes import at_limits, line_of, mild, searched, usual
+from test_quotes import at_limits, line_of, mild, opened, searched, usual
 
 SEED = 20140065
 EXAMPLES = programs.ROOT / "examples"
@@ -38,9 +38,9 @@ FLAT = sheets.text(flat())
 FIXED = {
     b"kind=q age=65 year=2020 span=0": b" fig=0.30780",
     b"kind=coh age=119 year=2020 span=2": b" fig=0.47914",
-    b"kind=ecoh age=120 year=2064 span=0": b" fig=2.7",
-    b"kind=ecoh age=120 year=2014 span=0": b" fig=2.7",
-    b"kind=eper age=120 year=2014 span=0": b" fig=2.7",
+    b"kind=ecoh age=120 year=2064 span=0": b" fig=2.75",
+    b"kind=ecoh age=120 year=2014 span=0": b" fig=2.75",
+    b"kind=eper age=120 year=2014 span=0": b" fig=2.75",
     b"kind=coh age=120 year=2064 span=0": b" fig=1.00000",
     b"kind=per age=120 year=2014 span=0": b" fig=1.00000",
     b"kind=coh age=120 year=2064 span=1": b" fig=0.69220",
@@ -137,9 +137,9 @@ def pool(draw):
 
 
 def half_steps(draw):
-    """Sheets with a quote of each kind whose middle lies at a half step, so that its figure is open."""
+    """Sheets with a quote of each kind at a half step, so that its figure is open on the coarse grid, and on the fine one too."""
     for kind in KINDS:
-        for one in searched((kind, 2, draw.random())):
+        for one in searched((kind, 2, draw.random())) + opened((kind, draw.random())):
             yield Input(f"half step, {kind}", one.data + b"".join(map(line_of, one.queries)))
 
 
@@ -425,7 +425,7 @@ def guide_jobs():
 def steep_examples():
     """The realistic examples have no steep cell."""
     for name in ("men", "women", "women-b", "women-c", "research"):
-        cells = whole_run.sheet_of((EXAMPLES / f"{name}.sheet").read_bytes()).quotes.grid
+        cells = whole_run.sheet_of((EXAMPLES / f"{name}.sheet").read_bytes()).quotes.coarse
         first, _, last = years_of(cells.start)
         if any(cells.steep(age, year) for age in range(OLDEST + 1) for year in range(first, last + 1)):
             return f"examples/{name}.sheet has a steep cell"

@@ -23,8 +23,8 @@ import programs
 import sheets
 import test_compare
 import whole_run
-from grid import HIGHEST, LOWEST, RATE, START, UNIT, flat, log_force, kappas
-from quotes import CLOSURE, NO_AGE, OFF_SCALE, OLDEST, QUOTE_YEARS, STEEP, Quotes, years_of
+from grid import COARSE, HIGHEST, LOWEST, RATE, START, UNIT, flat
+from quotes import CLOSURE, NO_AGE, OFF_SCALE, OLDEST, QUOTE_YEARS, STEEP, Quotes, in_units, years_of
 from reader import LAST_START, LONGEST, SIZES, TORN
 from sheets import of_lilee
 from targets import NONE, OPEN, PERIOD
@@ -215,14 +215,17 @@ def told(draw, one, counts):
 
 
 def unlike_ends(one, age):
-    """What is wrong where the ends of the 51 years are not those that `ends` prints, or an exact value is not between them."""
+    """What is wrong where the quotes of the 51 years are not those that `ends` prints, or an exact value is not between their ends:
+    the coarse ends that a target looks at are theirs, but where these leave a figure open."""
     given = whole_run.targets_of(one.data)
+    quotes = [given.quotes.quote(PERIOD, age, year, 0) for year in given.years]
     asked = b"".join(b"kind=%b age=%d year=%d span=0\n" % (PERIOD.encode(), age, year) for year in given.years)
     status, out = programs.run("ends", one.data + asked)
-    ends = [(int(lower), int(upper)) for lower, upper in re.findall(rb"lo=([0-9]+) hi=([0-9]+) ", out)]
-    if status or ends != given.ends(age):
+    ends = [tuple(map(int, got)) for got in re.findall(rb"lo=([0-9]+) hi=([0-9]+) unit=(9|13) ", out)]
+    if status or ends != [quote[:3] for quote in quotes]:
         return f"{one.name} at {age}: the ends are not those of `ends`"
-    good = all(lower <= value <= upper for (lower, upper), value in zip(ends, given.values(age)))
+    good = all(lower <= in_units(value, unit) <= upper for (lower, upper, unit), value in zip(ends, given.values(age)))
+    good = good and all(lower <= value <= upper for (lower, upper), value in zip(given.ends(age), given.values(age)))
     return None if good else f"{one.name} at {age}: an exact value is not between its ends"
 
 
@@ -276,14 +279,14 @@ def steep_cell(age, n, end, beyond, start=START):
     params["be"][age] = -side * 10**7
     pull = params["be"][age] * params["k"] * (ratio ** (n + 1) - ratio ** (n - 1))
     params["B"][age], params["A"][age] = -round(pull / (2 * params["theta"])), 0
-    log = log_force(params, age, params["K"] + n * params["theta"], kappas(params, n)[n])
+    log = COARSE.log_force(params, age, params["K"] + n * params["theta"], COARSE.kappas(params, n)[n])
     params["A"][age] = end + side * beyond - log[side == 1]
     return params
 
 
 def not_as_said(params, steep):
     """What is wrong where other cells are steep, of the years from the start to one past the quotes'."""
-    cells, start = Quotes(params).grid, params["start"]
+    cells, start = Quotes(params).coarse, params["start"]
     got = [(x, y) for x in range(91) for y in range(start, start + QUOTE_YEARS + 2) if cells.steep(x, y)]
     return None if got == steep else f"{got} are steep and not {steep}"
 

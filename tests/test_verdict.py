@@ -2,11 +2,11 @@
 against the second implementation in columns.py and whole_run.py; and what is said of a column, against the exact values to 80
 digits.
 
-Columns are of flat, realistic, extreme and steep sheets, some searched for open ages: right ones, one digit changed at each age
-in turn, open ages with any entry and a wrong one beside them, rows in other orders, and every kind of damage; 3,000 of them by
-their rows, as many of each form. What is said of most of them is also known beforehand, whatever the second implementation
-says. The program also gets torn and off-scale
-sheets, years' lines torn in every way, and inputs up to, at and past the longest, in pieces. An argument is taken as the seed.
+Columns are of flat, realistic, extreme and steep sheets, some with ages that are open, or that only the fine grid settles: right
+ones, one digit changed at each age in turn, open ages with any entry and a wrong one beside them, rows in other orders, and every
+kind of damage; 3,000 of them by their rows, as many of each form. What is said of most of them is also known beforehand, whatever
+the second implementation says. The program also gets torn and off-scale sheets, years' lines torn in every way, and inputs up to, at
+and past the longest, in pieces. An argument is taken as the seed.
 """
 import collections
 import concurrent.futures
@@ -19,20 +19,23 @@ import whole_run
 import c_interface
 import programs
 import sheets
+from edges import Edges, closure_placed
 from columns import AGES, RIGHT, TORN_COLUMN, VERDICTS, WRONG, columns_of, entries_of
 from c_interface import GREATEST, LEAST
-from grid import HIGHEST, LOWEST, flat
-from quotes import FIRST_YEAR, LAST_CELL, LAST_FITTED, LAST_YEAR, NO_YEAR, OFF_SCALE, OLDEST, OPEN, STEEP, Quotes, rounded, step
+from grid import HIGHEST, LOWEST, START, flat
+from quotes import FIRST_YEAR, LAST_CELL, LAST_FITTED, LAST_YEAR, NO_YEAR, OFF_SCALE, OLDEST, OPEN, STEEP, rounded, years_of
 from reader import LONGEST, NUMBER, SIZES, TORN
 from test_runs import EXAMPLES, FLAT, LINE_ENDS, NUMBERS, WHOLE, Input, closes_early, compared, complaint, damaged, endless
 from test_runs import from_file, full_device, padded, piecewise, with_value
-from test_quotes import mild, moved
+from test_quotes import mild
 
 SEED = 20142184
 EACH_FORM = 375
 OFF = with_value("k", b"%d" % (SIZES["k"] + 1))
 STEEP_SHEET = sheets.text(dict(flat(), A=[0] * 91))
 TORN_SHEET = FLAT.replace(b"sex=", b"Sex=", 1)
+# A figure that only the fine grid settles.
+FINE, FINE_UNIT = "fine", 13
 # The flat sheet's q is 1 less e to the −1/e, at every age and in every year.
 FLAT_STEPS = 30780
 
@@ -87,43 +90,39 @@ def plain_tables(draw):
             yield table(name, (EXAMPLES / f"{name}.sheet").read_bytes(), year)
 
 
-def opened(params, year, age):
-    """The set with A moved, at the age or for one above 90 at 85, up to where the upper end of q is no longer below the next
-    half step, and the lower end still is: the age is open."""
-    at, kept = age if age <= LAST_FITTED else 85, {}
+def placed(params, year, age, beyond):
+    """The set with q of an age moved to so many units of 10^-13 beyond a half step, or None."""
+    if age > LAST_FITTED:
+        return closure_placed(params, ("q", age, year, 0), beyond)
+    edges = Edges(params)
+    return edges.params if edges.place(("q", age, year, 0), beyond) else None
 
-    def upper(by):
-        if by not in kept:
-            kept[by] = Quotes(moved(params, "A", at, by)).ends("q", age, year, 0)[1]
-        return kept[by]
 
-    half = rounded(upper(0), "q") * step("q") + step("q") // 2
-    low, high = 0, 1
-    while upper(high) < half:
-        low, high = high, 2 * high
-    while high - low > 1:
-        middle = (low + high) // 2
-        low, high = (middle, high) if upper(middle) < half else (low, middle)
-    return moved(params, "A", at, high)
+def told(sheet, year, age):
+    """Whether q of an age is open, or else whether it is printed by its fine ends."""
+    quote = columns_of(sheet).quotes.quote("q", age, year, 0)
+    return OPEN if quote.steps == OPEN else FINE if quote.unit == FINE_UNIT else RIGHT
 
 
 OPENED = ((120,), (91,), (105,), (90,), (80,), (79,), (0,), (120, 0), (100, 79, 40, 2, 1, 0), (*range(77, -1, -7),))
+SETTLED = ((120,), (91,), (90,), (79,), (0,), (100, 79, 40, 2, 1, 0), (*range(77, -1, -7),))
 
 
-def open_table(draw, ages):
-    """A realistic sheet and a year in which these ages are open."""
+def table_with(draw, ages, what, beyond, *start):
+    """A realistic sheet and a year in which these ages are open, or are printed by their fine ends alone; of any start year."""
     while True:
-        params, year = mild(draw), draw.randint(FIRST_YEAR, LAST_YEAR)
+        params, year = mild(draw, *start), draw.randint(*years_of(*(start or [START]))[:2])
         for age in ages:
-            params = opened(params, year, age)
-        found = table("open", sheets.text(params), year)
-        if found and all(found.figures[age] == OPEN for age in ages):
+            params = params and placed(params, year, age, beyond)
+        found = params and table(what, sheets.text(params), year)
+        if found and all(told(found.sheet, year, age) == what for age in ages):
             return found
 
 
 def tables(draw):
     """The tables, first those with no open age."""
-    every = [one for one in plain_tables(draw) if one] + [open_table(draw, ages) for ages in OPENED]
+    every = [one for one in plain_tables(draw) if one] + [table_with(draw, ages, OPEN, 0) for ages in OPENED]
+    every += [table_with(draw, ages, FINE, draw.choice((-1, 1)) * 2000) for ages in SETTLED]
     return sorted(every, key=lambda one: OPEN in one.figures)
 
 
@@ -667,6 +666,8 @@ def absent(counts, every, formed):
     for name, ages in OPEN_AGES.items():
         if not any(one.figures[age] == OPEN for one in every for age in ages):
             missed.append(f"no open age {name}")
+        if not any(told(one.sheet, one.year, age) == FINE for one in every for age in ages):
+            missed.append(f"no age {name} that the fine grid settles")
     if not any(OPEN not in one.figures for one in every):
         missed.append("no table without an open age")
     return missed

@@ -1,17 +1,17 @@
 """The whole run of the rate sheet's programs, from input bytes to output bytes, written from paper 01, "The quote program",
-and for annuities, survival to a day, sheets of the table LILEE, `verdict`, `couples` and `targets` from paper 02.
+and for annuities, survival to a day, sheets of the table LILEE, finer working, `verdict`, `couples` and `targets` from paper 02.
 
-`quotes` echoes a query with its figure, `ends` with its two ends ahead of the figure. `compare` reads two sheets and echoes a
-query with the figure of each and what the two pairs of ends tell of the two values. `couples` reads two sheets, a life's each,
-and echoes a query of both lives as `ends` does. `targets` reads a sheet and echoes a line of an age and a target with the year in
-which it is reached. `verdict` reads a sheet, a year and a column, and prints the verdict on the column.
+`quotes` echoes a query with its figure, `ends` with its two ends and their unit ahead of the figure. `compare` reads two sheets and
+echoes a query with the figure of each and what the two pairs of ends tell of the two values, in the finer of their units. `couples`
+reads two sheets, a life's each, and echoes a query of both lives as `ends` does. `targets` reads a sheet and echoes a line of an
+age and a target with the year in which it is reached. `verdict` reads a sheet, a year and a column, and prints the verdict on it.
 """
 import functools
 import re
 
 from columns import columns_of
 from couples import COUPLES, SINGLE, Couple
-from quotes import ANNUITIES, DAY, OPEN, TENTHS, UNRATED, Quotes, figure
+from quotes import ANNUITIES, DAY, OPEN, UNRATED, Quotes, decimals
 from reader import LONGEST, NUMBER, TORN, params_of, read
 from targets import Targets
 
@@ -50,21 +50,20 @@ def query_of(line, forms=FORMS):
 
 
 def figure_text(steps, kind):
-    """A figure: five decimals for a probability, one for an expectancy or an annuity, or the word."""
+    """A figure with its kind's decimals, or the word."""
     if steps == OPEN:
         return OPEN
-    decimals = 1 if kind in TENTHS else 5
-    whole, part = divmod(steps, 10**decimals)
-    return f"{whole}.{part:0{decimals}d}"
+    whole, part = divmod(steps, 10 ** decimals(kind))
+    return f"{whole}.{part:0{decimals(kind)}d}"
 
 
 def refused(no):
     return f"no={no}"
 
 
-def figure_field(kind, ends):
-    """The figure of a quote's two ends."""
-    return f" fig={figure_text(figure(ends, kind), kind)}"
+def figure_field(kind, quote):
+    """The figure of a quote."""
+    return f" fig={figure_text(quote.steps, kind)}"
 
 
 def echo(line):
@@ -73,17 +72,18 @@ def echo(line):
 
 
 def answered(quotes, query):
-    """The refusal of a query, 0 where it is accepted, and its two ends."""
+    """The refusal of a query, 0 where it is accepted, and its quote."""
     no = quotes.refusal(*query)
-    return (no, None) if no else (0, quotes.ends(*query))
+    return (no, None) if no else (0, quotes.quote(*query))
 
 
 def shown(line, kind, answer, with_ends):
     """A query line with its answer, with the step and decimals of a kind."""
-    no, ends = answer
+    no, quote = answer
     if no:
         return f"{echo(line)} {refused(no)}"
-    return echo(line) + (f" lo={ends[0]} hi={ends[1]}" if with_ends else "") + figure_field(kind, ends)
+    ends = f" lo={quote.lower} hi={quote.upper} unit={quote.unit}" if with_ends else ""
+    return echo(line) + ends + figure_field(kind, quote)
 
 
 class Sheet:
@@ -133,8 +133,8 @@ def excess(lower, higher):
     return f" least={higher[0] - lower[1]} most={higher[1] - lower[0]}"
 
 
-def values(first, second):
-    """What two pairs of ends tell of the two values."""
+def told(first, second):
+    """What two pairs of ends in one unit tell of the two values."""
     if first[1] < second[0]:
         return " values=below" + excess(first, second)
     if second[1] < first[0]:
@@ -142,15 +142,22 @@ def values(first, second):
     return f" values=near most={max(first[1] - second[0], second[1] - first[0])}"
 
 
+def values(first, second):
+    """What two quotes tell of the two values, in the finer of their units."""
+    unit = max(first.unit, second.unit)
+    both = ([end * 10 ** (unit - quote.unit) for end in (quote.lower, quote.upper)] for quote in (first, second))
+    return f"{told(*both)} unit={unit}"
+
+
 def compared(first, second, line):
     """The line that is printed for a line after two sheets."""
     query = query_of(line)
     if query is None:
         return refused(TORN)
-    (no, ends), (other_no, other_ends) = first.answer(query), second.answer(query)
+    (no, quote), (other_no, other) = first.answer(query), second.answer(query)
     if no or other_no:
         return f"{echo(line)} {refused(no or other_no)}"
-    return echo(line) + figure_field(query[0], ends) + figure_field(query[0], other_ends) + values(ends, other_ends)
+    return echo(line) + figure_field(query[0], quote) + figure_field(query[0], other) + values(quote, other)
 
 
 def two_sheets(data):

@@ -2,7 +2,7 @@
 printed digit is proved.
 
     sheet = kulfizan.Sheet.load("women.sheet")
-    sheet.quote("ecoh", 65, 2015).text          # '21.4'
+    sheet.quote("ecoh", 65, 2015).text          # '21.38'
 
 It calls the proved library through the standard `ctypes`, and the library is the only judge: this package prepares what it asks
 and presents what it answers. The library is the file that the environment variable KULFIZAN_LIBRARY names, else libkulfizan.so in
@@ -13,6 +13,11 @@ AG2014, 1 for LILEE), the sex (0 for M, 1 for F), a, theta, K, k, the start year
 alpha and beta, in the sheet's units; so `dict(zip(kulfizan.HEAD, kulfizan.read(sheet)))` has the first ones by their names. A set
 of AG2014 has the start year 2013 and c 0. Years count from the start: a quote takes those from start + 1 to start + 51, q and a
 column those to start + 171. Earlier the list had 369 numbers, with neither table, start nor c.
+
+A `Quote` has the two ends, the figure's number of steps, None where it is open, the decimals of a step and the unit of the ends:
+9, or 13 where ends in units of 10^-9 leave the figure open, so that it was worked again in units of 10^-13. Earlier it had no unit,
+since its ends were in units of 10^-9 always, and an expectancy had one decimal where it has two now. A `Comparison` gained its unit
+likewise.
 
 A couple is two lives, each with its own sheet and age; both sheets have one start year. Of a couple each refusal is tried on the
 first life, then on the second, before the next number: 1, 2, 11, 3, 4, 5, 6.
@@ -35,7 +40,7 @@ from .sheets import (
     write,
 )
 
-__version__ = "1.0.0"
+__version__ = "2.0.0"
 
 __all__ = [
     "COUPLE_KINDS", "Comparison", "HEAD", "KINDS", "Kind", "LONGEST_INPUT", "LONGEST_SHEET", "Missing", "QUOTE_LENGTH", "Quote",

@@ -82,4 +82,4 @@ class Found:
         """The curves that are not refused, for the first or the second sheet."""
         for age, found in self.survivals.items():
             if not any(row.no for row in found):
-                yield Curve(place, age, [row.lower for row in found])
+                yield Curve(place, age, [row.finely()[0] for row in found])

@@ -1,4 +1,5 @@
-"""The cells of a set: K, kappa and the log force in whole units, as on the papers' grid, to point at what the library refuses.
+"""The cells of a set: K, kappa and the log force in units of 10^-9, the coarse grid's, which alone tells what is steep: to point at
+what the library refuses.
 
 Nothing here decides: the library does, and this says which number or which cell it means. Each step is rounded outward, so that a
 value has two ends.

@@ -10,14 +10,14 @@ from . import cli
 from .lists import HEADER, OPEN, Refusals, Row, add_form, csv_text, rows
 from .selections import add_selection, selected
 from .sheets import KINDS, Comparison, compare
-from .units import UNIT_DECIMALS, decimal
+from .units import COARSE, FINE, decimal
 
 ALIKE, DIFFER, REFUSED = "alike", "differ", "refused"
 NEAR = "near"
 YES, NO = "yes", "no"
 EXPECTANCIES, PRICES = ("ecoh", "eper"), ("acoh", "aper")
 # The words of a tolerance's unit: how many units of 10^-9 it has, and the kinds that are counted in it.
-MEASURES = {"years": (10**UNIT_DECIMALS, EXPECTANCIES), "euro": (10**UNIT_DECIMALS, PRICES), "units": (1, tuple(KINDS))}
+MEASURES = {"years": (10**COARSE, EXPECTANCIES), "euro": (10**COARSE, PRICES), "units": (1, tuple(KINDS))}
 TOLERANCE = re.compile(rf"([0-9]{{1,15}}(?:\.[0-9]{{1,40}})?) ?({'|'.join(MEASURES)})")
 DESCRIPTION = """Two sheets cell by cell: both figures; whether they print alike; whether the first value is proved
 to be below or above the second, by how much at least and at most, or near, and within how much.
@@ -31,6 +31,10 @@ class Tolerance(NamedTuple):
     """The most that values may differ by, in units of 10^-9, and how it was written."""
     most: int
     text: str
+
+    def units(self, unit: int) -> int:
+        """The same in units of 10^-unit."""
+        return self.most * 10 ** (unit - COARSE)
 
 
 class Pair(NamedTuple):
@@ -51,28 +55,40 @@ class Pair(NamedTuple):
         """Whether the values are proved to differ by at most the tolerance, or by more, or neither."""
         if self.values is None:
             return ""
-        if self.values.most <= tolerance.most:
+        most = tolerance.units(self.values.unit)
+        if self.values.most <= most:
             return YES
-        return NO if (self.values.least or 0) > tolerance.most else OPEN
+        return NO if (self.values.least or 0) > most else OPEN
 
     def apart(self, tolerance: Optional[Tolerance]) -> bool:
         """Whether the values are proved to differ; with a tolerance, whether they are not proved to be within it."""
         if self.values is None:
             return False
-        return self.values.most > tolerance.most if tolerance else self.values.relation != NEAR
+        return self.values.most > tolerance.units(self.values.unit) if tolerance else self.values.relation != NEAR
+
+    def closed(self) -> bool:
+        """Whether the fine grid closed a figure of the two."""
+        return self.first.closed or self.second.closed
 
     def cells(self) -> List[str]:
-        """Both figures, how they print and what is proved of the values; of a refused cell the number that `compare` gives."""
+        """Both figures, how they print, and what is proved of the values with its unit; of a refused cell the number that `compare`
+        gives."""
         both = [self.first.text, self.second.text, self.printed()]
         if self.values is None:
-            return [*both, self.first.text if self.first.no else self.second.text, "", ""]
-        least = "" if self.values.least is None else amount(self.values.least)
-        return [*both, self.values.relation, least, amount(self.values.most)]
+            return [*both, self.first.text if self.first.no else self.second.text, "", "", ""]
+        relation, least, most, unit = self.values
+        return [*both, relation, "" if least is None else amount(least, unit), amount(most, unit), str(unit)]
 
 
-def amount(units: int) -> str:
-    """A number of units of 10^-9 as a decimal."""
-    return f"{decimal(units, UNIT_DECIMALS):f}"
+def amount(units: int, unit: int) -> str:
+    """A number of units of 10^-unit as a decimal."""
+    return f"{decimal(units, unit):f}"
+
+
+def furthest(found: List[Pair]) -> str:
+    """The most that the values of any of these differ by, as a decimal."""
+    values = max((pair.values for pair in found), key=lambda values: values.most * 10 ** (FINE - values.unit))
+    return amount(values.most, values.unit)
 
 
 def pairs(first: Iterable[Row], second: Iterable[Row]) -> Iterator[Pair]:
@@ -103,7 +119,7 @@ def tolerance_of(text: Optional[str], kinds: Sequence[str]) -> Optional[Toleranc
 
 def lines(found: Iterable[Pair], tolerance: Optional[Tolerance]) -> Iterator[List[str]]:
     """A line for each cell, after a line of names."""
-    names = ["first", "second", "print", "values", "least", "most"]
+    names = ["first", "second", "print", "values", "least", "most", "unit"]
     yield HEADER + names + (["within"] if tolerance else [])
     for pair in found:
         yield pair.first.names() + pair.cells() + ([pair.within(tolerance)] if tolerance else [])
@@ -111,7 +127,7 @@ def lines(found: Iterable[Pair], tolerance: Optional[Tolerance]) -> Iterator[Lis
 
 def counted(found: List[Pair], what: str) -> str:
     """How many cells there are, and the most that the values of any of them differ by."""
-    most = f", at most {amount(max(pair.values.most for pair in found))} apart" if found else ""
+    most = f", at most {furthest(found)} apart" if found else ""
     return f"{len(found):8,} {what}{most}"
 
 
@@ -126,6 +142,7 @@ def summary(kind: str, found: List[Pair], tolerance: Optional[Tolerance]) -> Ite
     yield counted(near, "alike in print, near")
     yield counted(by[DIFFER], "different in print")
     yield counted(by[OPEN], "open, where the ends of a sheet do not settle its figure")
+    yield f"  of all these, {sum(pair.closed() for pair in found):,} with a figure that the fine grid closed"
     if by[REFUSED]:
         yield f"{len(by[REFUSED]):8,} refused"
     if tolerance:

@@ -13,6 +13,7 @@ from .library import REFUSALS, Refused
 from .lists import OPEN, Row, rows
 from .selections import Selection
 from .sheets import Sheet, half_up, stepped
+from .units import FINE
 
 AGES = range(121)
 DECIMALS = 5
@@ -24,7 +25,7 @@ DESCRIPTION = """A published table of q against a sheet: CSV with a line for eac
 each year, named by it, or age,q with --year; `,` or `;` between cells, a decimal point or comma;
 each q with five decimals. The library is the judge of each year: right, wrong, or open, where no
 entry differs from a settled figure and one is not settled. Wrong and open ages are told with their
-ends. Status 1 if a year is wrong or refused."""
+ends, and so are those that only the fine grid settles. Status 1 if a year is wrong or refused."""
 EXAMPLE = """kulfizan judge women.sheet table.csv
 kulfizan judge women.sheet column.csv --year 2020"""
 
@@ -166,12 +167,13 @@ def column_of(entries: Dict[int, str]) -> bytes:
 
 
 def said(row: Row, entry: str) -> str:
-    """What is told of an age that is wrong or open."""
+    """What is told of an age that is wrong or open, or that only the fine grid settles."""
     low, high = row.ends()
-    between = f"between {low} and {high}"
+    between = f"between {low} and {high}{', by the fine grid' if row.unit == FINE else ''}"
     if row.text != OPEN:
-        return f"  age {row.age}: wrong, the table has {entry}, the sheet {row.text}: {between}"
-    roundings = [stepped(half_up(end, DECIMALS), DECIMALS) for end in (row.lower, row.upper)]
+        verdict = "right" if row.text == entry else "wrong"
+        return f"  age {row.age}: {verdict}, the table has {entry}, the sheet {row.text}: {between}"
+    roundings = [stepped(half_up(end, DECIMALS, row.unit), DECIMALS) for end in (row.lower, row.upper)]
     neither = "" if entry in roundings else f", and neither is {entry}"
     return f"  age {row.age}: open, the table has {entry}, the sheet {roundings[0]} or {roundings[1]}{neither}: {between}"
 
@@ -182,10 +184,8 @@ def judged(sheet: Sheet, year: int, entries: Dict[int, str]) -> Tuple[str, List[
         verdict = sheet.verdict(year, column_of(entries))
     except Refused as refused:
         return f"no={refused.number}", [f"  {REFUSALS[refused.number]}"]
-    if verdict == "right":
-        return verdict, []
     found = rows(sheet, Selection(["q"], list(AGES), [year]))
-    return verdict, [said(row, entries[row.age]) for row in found if row.text != entries[row.age]]
+    return verdict, [said(row, entries[row.age]) for row in found if row.closed or row.text != entries[row.age]]
 
 
 def judgements(sheet: Sheet, table: Table, progress: Optional[cli.Progress] = None) -> Iterator[Tuple[int, str, List[str]]]:

@@ -16,10 +16,13 @@ HEAD = ("table", "sex", "a", "theta", "K", "k", "start", "c")
 TABLES = ("AG2014", "LILEE")
 SEXES = ("M", "F")
 SET_LENGTH = len(HEAD) + 4 * 91
-QUOTE_LENGTH = 4
+QUOTE_LENGTH = 5
 LONGEST_SHEET = 8_528
 LONGEST_INPUT = 65_536
+# The room that a run wants, beside five bytes for each byte of its input.
+RUN_ROOM = 159
 LEAST, GREATEST = -(2**63), 2**63 - 1
+SHORT = 7
 
 REFUSALS = {
     1: "torn: a sheet, the kind's word or the list of numbers breaks its form",
@@ -62,9 +65,18 @@ def path() -> pathlib.Path:
 def load(where: Any) -> ctypes.CDLL:
     """The library's calls, as include/kulfizan.h declares them."""
     try:
-        return declared(ctypes.CDLL(str(where)))
+        library = declared(ctypes.CDLL(str(where)))
     except (OSError, AttributeError) as error:
         raise Missing(f"{where}: no such library ({error}): `make lib` builds it, and KULFIZAN_LIBRARY names another") from None
+    if not current(library):
+        raise Missing(f"{where}: the library of another version, whose quotes may have no unit; version 2 is wanted")
+    return library
+
+
+def current(library: ctypes.CDLL) -> bool:
+    """Whether a library is of this version: an earlier one wants other room for a run."""
+    buffer, length = ctypes.create_string_buffer(RUN_ROOM), ctypes.c_uint64()
+    return [library.kulfizan_run(b"", 0, 0, buffer, room, length) for room in (RUN_ROOM - 1, RUN_ROOM)] == [SHORT, 0]
 
 
 def declared(library: ctypes.CDLL) -> ctypes.CDLL:
@@ -113,9 +125,9 @@ def written(call: Any, *given: Any, room: int) -> bytes:
     return buffer.raw[: length.value]
 
 
-def quoted(call: Any, *given: Any) -> Tuple[int, int, Optional[int]]:
-    """The two ends and the steps, None where the figure is open, that a call writes."""
+def quoted(call: Any, *given: Any) -> Tuple[int, int, Optional[int], int]:
+    """The two ends, the steps, None where the figure is open, and the unit of the ends, that a call writes."""
     numbers = (ctypes.c_uint64 * QUOTE_LENGTH)()
     accepted(call(*given, numbers, QUOTE_LENGTH))
-    lower, upper, printed, steps = numbers
-    return lower, upper, steps if printed else None
+    lower, upper, printed, steps, unit = numbers
+    return lower, upper, steps if printed else None, unit

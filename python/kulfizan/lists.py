@@ -6,25 +6,26 @@ only where both ends round to them.
 import csv
 import io
 import itertools
-from typing import Any, Iterable, Iterator, List, NamedTuple, Optional
+from typing import Any, Iterable, Iterator, List, NamedTuple, Optional, Tuple
 
 from . import cli
 from .library import REFUSALS
 from .selections import RATED, SPANNED, Block, Selection, add_selection, percent, selected
 from .sheets import KINDS, Quote, Sheet
-from .units import UNIT_DECIMALS
+from .units import COARSE, FINE
 
 OPEN = "open"
 HEADER = ["kind", "age", "year", "span", "rate"]
 DESCRIPTION = """Figures of a sheet as CSV: a line for each kind, age and year, or with --wide ages down and years
 across, in a block for each kind, rate and span. The library is the judge: a figure is its answer,
-`open` where the ends do not settle it, and `no=N` where it is refused; status 1 if any is refused."""
+`open` where the ends do not settle it, and `no=N` where it is refused; status 1 if any is refused.
+Ends have 9 decimals, or 13 where those of 9 leave the figure open and it is worked again."""
 EXAMPLE = """kulfizan list women.sheet --kinds ecoh,acoh --ages 60-70 --rates 1%,2%,3% --ends -o list.csv
 kulfizan list women.sheet --kinds q --wide --excel-nl -o q.csv"""
 
 
 class Row(NamedTuple):
-    """A cell with its answer: the ends in units of 10^-9, None where it is refused, and the text: the figure, `open` or `no=N`.
+    """A cell with its answer: the ends in units of 10^-unit, None where it is refused, and the text: the figure, `open` or `no=N`.
     The span is 0 and the rate None where the kind takes none; `no` is the refusal's number, or 0."""
     kind: str
     age: int
@@ -35,6 +36,7 @@ class Row(NamedTuple):
     upper: Optional[int]
     text: str
     no: int
+    unit: int = COARSE
 
     @property
     def quote(self) -> Optional[Quote]:
@@ -42,7 +44,21 @@ class Row(NamedTuple):
         if self.no:
             return None
         steps = None if self.text == OPEN else int(self.text.replace(".", ""))
-        return Quote(self.lower, self.upper, steps, KINDS[self.kind].decimals)
+        return Quote(self.lower, self.upper, steps, KINDS[self.kind].decimals, self.unit)
+
+    @property
+    def closed(self) -> bool:
+        """Whether the fine grid closed the figure: coarse ends leave it open, and fine ones do not."""
+        return self.unit == FINE and self.text != OPEN
+
+    def finely(self) -> Tuple[int, int]:
+        """Both ends in units of 10^-13, whichever unit they have."""
+        return self.lower * 10 ** (FINE - self.unit), self.upper * 10 ** (FINE - self.unit)
+
+    def width(self) -> int:
+        """How far the ends lie apart, in units of 10^-13."""
+        lower, upper = self.finely()
+        return upper - lower
 
     def figure(self, decimals: int = 1) -> str:
         """The figure with its own decimals or, if that is more, with so many: `open` where the ends round to different ones."""
@@ -54,6 +70,10 @@ class Row(NamedTuple):
         """Both ends as decimals, empty where it is refused."""
         return ["", ""] if self.no else [f"{end:f}" for end in (self.quote.low, self.quote.high)]
 
+    def with_unit(self) -> List[str]:
+        """Both ends and the decimals of their unit, empty where it is refused."""
+        return [*self.ends(), "" if self.no else str(self.unit)]
+
     def names(self) -> List[str]:
         """The cell by its kind, age, year, span and rate; a span and a rate only where the kind takes one."""
         span = str(self.span) if self.kind in SPANNED else ""
@@ -64,11 +84,11 @@ def row_of(block: Block, age: int, year: int, answer: str) -> Row:
     """The row of a cell and the line of its answer."""
     ends = answer[len(block.query(age, year)) :].split()
     cell = (block.kind, age, year, block.span, block.rate)
-    if len(ends) != 3:
+    if len(ends) != 4:
         refusal = ends[0] if ends else answer
         return Row(*cell, None, None, refusal, int(refusal.partition("=")[2]))
-    lower, upper, text = (word.partition("=")[2] for word in ends)
-    return Row(*cell, int(lower), int(upper), text, 0)
+    lower, upper, unit, text = (word.partition("=")[2] for word in ends)
+    return Row(*cell, int(lower), int(upper), text, 0, int(unit))
 
 
 def rows(sheet: Any, selection: Selection, progress: Optional[cli.Progress] = None) -> Iterator[Row]:
@@ -94,23 +114,23 @@ def csv_text(lines: Iterable[List[str]], dutch: bool) -> str:
 
 def long(found: Iterable[Row], ends: bool, decimals: int) -> Iterator[List[str]]:
     """A line for each row, after a line of names."""
-    yield HEADER + ["figure"] + (["low", "high"] if ends else [])
+    yield HEADER + ["figure"] + (["low", "high", "unit"] if ends else [])
     for row in found:
-        yield row.names() + [row.figure(decimals)] + (row.ends() if ends else [])
+        yield row.names() + [row.figure(decimals)] + (row.with_unit() if ends else [])
 
 
 def wide(found: Iterable[Row], selection: Selection, ends: bool, decimals: int) -> Iterator[List[str]]:
     """A block for each kind, rate and span, named in its first cell, with ages down and years across; an empty line between
     two."""
     found = iter(found)
-    years = [[f"{year}", f"{year} low", f"{year} high"] if ends else [f"{year}"] for year in selection.years]
+    years = [[f"{year}"] + [f"{year} {what}" for what in ("low", "high", "unit") if ends] for year in selection.years]
     for number, block in enumerate(selection.blocks()):
         if number:
             yield []
         yield [block.name(), *itertools.chain(*years)]
         for age in selection.ages:
             line = itertools.islice(found, len(selection.years))
-            yield [f"{age}", *itertools.chain(*([row.figure(decimals)] + (row.ends() if ends else []) for row in line))]
+            yield [f"{age}", *itertools.chain(*([row.figure(decimals)] + (row.with_unit() if ends else []) for row in line))]
 
 
 # ---- the command
@@ -129,8 +149,8 @@ def add(commands: Any) -> None:
     add_selection(parser)
     group = add_form(parser)
     group.add_argument("--wide", action="store_true", help="ages down, years across")
-    group.add_argument("--ends", action="store_true", help="both ends beside each figure, between which the exact value lies")
-    more = "up to 9, where that is more than a figure's own: 1, of a chance 5"
+    group.add_argument("--ends", action="store_true", help="beside each figure the ends of the exact value, and their unit")
+    more = "up to 9, where that is more than a figure's own: 2 of an expectancy, 1 of a price, 5 of a chance"
     group.add_argument("--decimals", type=int, default=1, metavar="N", help=more)
     parser.set_defaults(run=run)
 
@@ -158,8 +178,8 @@ class Refusals:
 
 
 def run(args: Any) -> int:
-    if not 1 <= args.decimals <= UNIT_DECIMALS:
-        raise cli.Fault(f"--decimals {args.decimals}: a number from 1 to {UNIT_DECIMALS} is wanted, which the ends have")
+    if not 1 <= args.decimals <= COARSE:
+        raise cli.Fault(f"--decimals {args.decimals}: a number from 1 to {COARSE} is wanted, which all ends have")
     sheet = cli.sheet(args.sheet)
     selection, refusals = selected(args, sheet), Refusals()
     with cli.progress(selection.count(), "figures") as progress:

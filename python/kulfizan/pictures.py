@@ -8,28 +8,31 @@ from typing import Any, Callable, Dict, Iterable, Iterator, List, NamedTuple, Op
 from .lists import OPEN, Row
 from .sheets import Comparison
 from .svg import INK, PAPER, Axis, Picture, Point, Scale, box, element, haloed, label, line, number
-from .units import UNIT_DECIMALS, text
+from .units import COARSE, FINE, text
 
-ONE = 10**UNIT_DECIMALS
+# Lower ends and widths are given in units of 10^-13, whichever unit a quote has.
+ONE = 10**FINE
 OLDEST = 120
 WIDTH, LONGEST_NAME = 720, 36
 # The stroke and the dashes of the first and the second sheet, which differ without colours too.
 STROKES = (("#1f4e79", None), ("#b35900", "7 4"))
-# The steps of the map of q, in units of 10^-9: 1, 2 and 5 times each power of ten. Below the first is a step of its own.
-STEPS = [digit * 10**power for power in range(3, 9) for digit in (1, 2, 5)] + [ONE]
-CONTOURS = [10**power for power in range(4, 9)]
+# The steps of the map of q, from 10^-6 on: 1, 2 and 5 times each power of ten. Below the first is a step of its own.
+STEPS = [digit * 10**power for power in range(FINE - 6, FINE) for digit in (1, 2, 5)] + [ONE]
+CONTOURS = [10**power for power in range(FINE - 5, FINE)]
 # Light to dark, so that the order is seen without colours.
 COLOURS = ("ffffd9", "edf8b1", "c7e9b4", "7fcdbb", "41b6c4", "1d91c0", "225ea8", "253494", "081d58")
 RELATIONS = {"below": ("#2c5f9e", "the first is below the second"), "near": ("#eeeeee", "near: the ends touch"),
              "above": ("#f0a860", "the first is above the second")}
 HATCH = "#8c8c8c"
+# The diamonds of figures that the fine grid closed, and of open ones.
+MARKS = {"closed": PAPER, "open": INK}
 Cell = Tuple[int, int]
 
 
 # ---- survival
 
 class Curve(NamedTuple):
-    """The chances to survive 0, 1, 2 and more years from an age, by one of the sheets, as lower ends in units of 10^-9."""
+    """The chances to survive 0, 1, 2 and more years from an age, by one of the sheets, as lower ends."""
     sheet: int
     age: int
     lowers: List[int]
@@ -158,11 +161,11 @@ def diamond(x: float, y: float) -> str:
     return f"M{number(x)} {number(y - 3.5)}l3.5 3.5-3.5 3.5-3.5-3.5z"
 
 
-def diamonds(cells: Iterable[Cell], drawn: Map) -> str:
-    """A mark at the middle of each of some squares."""
+def diamonds(cells: Iterable[Cell], drawn: Map, word: str) -> str:
+    """A mark at the middle of each of some squares, in the look of a word."""
     middles = ((x + drawn.SIDE / 2, y + drawn.SIDE / 2) for x, y in (drawn.corner(*cell) for cell in cells))
     path = "".join(diamond(x, y) for x, y in middles)
-    return element("path", d=path, class_="open", fill=PAPER, stroke=INK) if path else ""
+    return element("path", d=path, class_=word, fill=MARKS[word], stroke=INK) if path else ""
 
 
 def contour(drawn: Map, lowers: Dict[Cell, int], step: int) -> str:
@@ -176,13 +179,14 @@ def contour_name(drawn: Map, lowers: Dict[Cell, int], step: int) -> str:
     year = drawn.years[len(drawn.years) // 12]
     past = {age: lowers[age, year] >= step for age in range(OLDEST + 1) if (age, year) in lowers}
     ages = [age for age, here in past.items() if past.get(age + 1, here) != here]
-    return haloed(*drawn.corner(ages[-1], year), text(step, UNIT_DECIMALS)) if ages else ""
+    return haloed(*drawn.corner(ages[-1], year), text(step, FINE)) if ages else ""
 
 
 def q_map(name: str, title: str, description: str, found: Dict[Cell, Row], years: range) -> str:
-    """q by age and year, coloured by steps that grow as the logarithm does, with open figures marked."""
+    """q by age and year, coloured by steps that grow as the logarithm does, with the figures marked that are open, or that the
+    fine grid closed."""
     drawn = Map(name, title, description, years)
-    lowers = {cell: row.lower for cell, row in found.items() if not row.no}
+    lowers = {cell: row.finely()[0] for cell, row in found.items() if not row.no}
     steps = {cell: step_of(lower) for cell, lower in lowers.items()}
     used = sorted(set(steps.values()))
     looks: Dict[Optional[int], Dict[str, str]] = {step: {"fill": step_colour(step)} for step in used}
@@ -190,15 +194,17 @@ def q_map(name: str, title: str, description: str, found: Dict[Cell, Row], years
     drawn.paint(steps.get, looks)
     for step in CONTOURS:
         drawn.picture.add(contour(drawn, lowers, step))
-    open_cells = [cell for cell, row in found.items() if row.text == OPEN]
-    drawn.picture.add(diamonds(open_cells, drawn))
+    marked = {"closed": [cell for cell, row in found.items() if row.closed],
+              "open": [cell for cell, row in found.items() if row.text == OPEN]}
+    for word, cells in marked.items():
+        drawn.picture.add(diamonds(cells, drawn, word))
     for step in CONTOURS:
         drawn.picture.add(contour_name(drawn, lowers, step))
-    drawn.picture.add(step_key(drawn, used, bool(open_cells), len(lowers) < len(found)))
+    drawn.picture.add(step_key(drawn, used, [word for word in MARKS if marked[word]], len(lowers) < len(found)))
     return drawn.picture.text()
 
 
-def step_key(drawn: Map, used: List[int], has_open: bool, has_refused: bool) -> str:
+def step_key(drawn: Map, used: List[int], marks: List[str], has_refused: bool) -> str:
     """The colours from the least step that is used to the greatest, with the bounds between them, and the other marks."""
     left, parts = drawn.key_left, [label(drawn.key_left, 26, "q", "start", class_="name")]
     shown = range(used[0], used[-1] + 1)
@@ -206,15 +212,15 @@ def step_key(drawn: Map, used: List[int], has_open: bool, has_refused: bool) -> 
         y = 38 + 15 * place
         look = {"fill": step_colour(step), "stroke": INK, "stroke_width": 0.5}
         parts.append(element("path", d=box(left, y, 18, 15), class_="step", **look))
-        parts.append(label(left + 26, y + 4, text(STEPS[step], UNIT_DECIMALS), "start", class_="tick"))
+        parts.append(label(left + 26, y + 4, text(STEPS[step], FINE), "start", class_="tick"))
     top = 38 + 15 * len(shown) + 14
-    least = text(STEPS[shown[0] - 1], UNIT_DECIMALS) if shown[0] else "0"
+    least = text(STEPS[shown[0] - 1], FINE) if shown[0] else "0"
     parts.append(label(left + 26, top - 10, least, "start", class_="tick"))
-    if has_open:
-        parts.append(element("path", d=diamond(left + 9, top + 7), fill=PAPER, stroke=INK))
-        parts.append(label(left + 26, top + 11, "open", "start", class_="tick"))
+    for place, word in enumerate(marks):
+        parts.append(element("path", d=diamond(left + 9, top + 7 + 22 * place), fill=MARKS[word], stroke=INK))
+        parts.append(label(left + 26, top + 11 + 22 * place, word, "start", class_="tick"))
     if has_refused:
-        parts.append(drawn.key_square(1, drawn.refused, "refused", top))
+        parts.append(drawn.key_square(len(marks), drawn.refused, "refused", top))
     return element("g", "".join(parts), class_="key")
 
 
@@ -241,16 +247,17 @@ POWERS = "⁰¹²³⁴⁵⁶⁷⁸⁹"
 
 
 def widths(name: str, title: str, description: str, found: Dict[str, Dict[int, int]]) -> str:
-    """By age the widest of the years, in units of 10^-9, a line for each kind, on a scale of powers of ten."""
+    """By age the widest of the years, a line for each kind, on a scale of powers of ten from 10^-9, the coarse unit, up."""
+    one = 10 ** (FINE - COARSE)
     most = max(max(by_age.values()) for by_age in found.values())
-    powers = len(str(most))
+    powers = len(str(most // one))
     up = Scale(1, 10.0**powers, 300, 40, log=True)
-    ticks = [(10.0**power, f"10⁻{POWERS[UNIT_DECIMALS - power]}") for power in range(min(powers, UNIT_DECIMALS) + 1)]
+    ticks = [(10.0**power, f"10⁻{POWERS[COARSE - power]}") for power in range(min(powers, COARSE) + 1)]
     across = Scale(0, OLDEST, 70, WIDTH - 20)
     x = Axis(across, "age", [(age, str(age)) for age in range(0, OLDEST + 1, 10)])
     picture = Picture(name, title, description, (WIDTH, 350), x, Axis(up, "width of the ends", ticks))
     for kind, by_age in found.items():
-        points = [(across.at(age), up.at(max(1, width))) for age, width in by_age.items()]
+        points = [(across.at(age), up.at(max(1, width / one))) for age, width in by_age.items()]
         picture.add(line(points, class_="width", stroke_width=1.75, **LOOKS[kind]))
     picture.add(line_key(list(found), [LOOKS[kind] for kind in found]))
     return picture.text()

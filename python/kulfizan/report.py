@@ -16,8 +16,8 @@ AGES, RATE = "0,20,40,60,65,67,70,80,90", "3%"
 EVERY = 10
 DESCRIPTION = """A page about a sheet, or two beside each other: one HTML file that needs no network and no script.
 What the sheet is, expectancies and prices at chosen ages, survival curves, q by age and year, of
-two sheets the differences, which figures are open and how wide the ends are. The library is the
-judge: each figure is its answer. Status 1 if a sheet or a figure is refused."""
+two sheets the differences, which figures are open or closed by the fine grid, and how wide the ends
+are. The library is the judge: each figure is its answer. Status 1 if a sheet or figure is refused."""
 EXAMPLE = """kulfizan report women.sheet -o report.html
 kulfizan report women.sheet women-b.sheet --ages 60-70 --years 2015,2025 --rate 2% -o report.html"""
 

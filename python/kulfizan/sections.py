@@ -4,17 +4,17 @@ from typing import Any, Dict, Iterable, Iterator, List, Optional, Sequence, Tupl
 
 from . import pages, pictures
 from .answers import LAST_AGE, LISTED, Asked, Found, shared
-from .comparing import ALIKE, DIFFER, NEAR, Pair, amount, pairs
+from .comparing import ALIKE, DIFFER, NEAR, Pair, amount, furthest, pairs
 from .library import REFUSALS
 from .lists import OPEN, Row
 from .pages import Cell, Column, Head, plain
 from .selections import percent
 from .sheets import KINDS, Sheet
 from .svg import element
-from .units import text as exact
+from .units import FINE, text as exact
 
 SPANS = (1, 10, 20, 30, 40, 60, 80)
-MOST_OPEN, MOST_YEARS = 60, 8
+MOST_FINE, MOST_YEARS = 100, 8
 SEXES = {"F": "F, women", "M": "M, men"}
 UNIT_OF = {"ecoh": "in years", "eper": "in years", "acoh": "in euro", "q": "a chance", "coh": "a chance"}
 
@@ -87,10 +87,11 @@ def noted(found: Iterable[Row]) -> str:
 def reading(two: bool) -> Iterator[str]:
     """How the page is read, and what is proved."""
     items = [
-        "A <strong>figure</strong> such as 21.4 is the exact value of the formula with the sheet's numbers, rounded half up "
+        "A <strong>figure</strong> such as 21.38 is the exact value of the formula with the sheet's numbers, rounded half up "
         "to the last digit that is shown. This is proved of the library that gave it: nothing was rounded on the way.",
-        "The <strong>ends</strong> of a value are two decimals between which the exact value is proved to lie. "
-        "<em>open</em> stands where they round to different figures, so that they do not settle it. It is no error.",
+        "The <strong>ends</strong> of a value are two decimals between which the exact value is proved to lie, with nine "
+        "digits after the point. Where such ends round to different figures, the value is worked again on a finer grid, with "
+        "thirteen. <em>open</em> stands where these do not settle it either. It is no error.",
         "<code>no=N</code> is a refusal, with its number, and no value is given.",
     ]
     if two:
@@ -158,7 +159,7 @@ def how_printed(pair: Pair) -> Cell:
 
 def difference(pair: Pair) -> List[Cell]:
     """Both figures of a cell and what is proved of the values."""
-    values, least, most = pair.cells()[3:]
+    values, least, most, _ = pair.cells()[3:]
     proved = [Cell(plain(values), "words"), Cell(least or "–"), Cell(most or "–")]
     return [shown(pair.first), shown(pair.second), how_printed(pair), *proved]
 
@@ -179,7 +180,7 @@ def differences(name: str, caption: str, found: List[Pair], asked: Asked) -> str
 
 def counted(found: List[Pair]) -> Cell:
     """How many there are and the most that any of them can differ by."""
-    most = element("div", f"≤ {amount(max(pair.values.most for pair in found))}") if found else ""
+    most = element("div", f"≤ {furthest(found)}") if found else ""
     return Cell(f"{len(found):,}{most}")
 
 
@@ -206,6 +207,8 @@ def differences_part(found: List[Found], asked: Asked, whole: Dict[str, List[Pai
     lines = [summary_line(kind, of_kind, asked.rate) for kind, of_kind in whole.items()]
     caption = "All ages and all years that both have: how many cells there are; behind ≤ the most that such values differ by."
     yield pages.table("differences-all", caption, [Column("", True), *map(Column, titles)], [lines], "ruled")
+    closed = ", ".join(f"{kind} {sum(pair.closed() for pair in of_kind):,}" for kind, of_kind in whole.items())
+    yield pages.paragraph(f"Cells with a figure that the fine grid closed: {closed}.", id="differences-closed") if whole else ""
     yield pages.paragraph("Cell by cell at the chosen ages and years:")
     size = len(asked.ages) * len(asked.years)
     every = list(pairs(found[0].listed, found[1].listed))
@@ -275,14 +278,15 @@ def q_picture(place: int, one: Found) -> str:
     title = f"One-year death probability q by age and calendar year: {one.name}"
     if not given:
         return pages.paragraph(f"{plain(one.name)}: there is no map to draw, every q is refused.")
-    least, most = min(given, key=lambda row: row.lower), max(given, key=lambda row: row.lower)
-    opened = sum(row.text == OPEN for row in given)
-    told = (f"The least lower end is that of {told_cell(least)}; the greatest that of {told_cell(most)}. "
-            f"{opened:,} of {len(found):,} figures are open, {len(found) - len(given):,} refused.")
+    least, most = min(given, key=Row.finely), max(given, key=Row.finely)
+    opened, closed = sum(row.text == OPEN for row in given), sum(row.closed for row in given)
+    told = (f"The least lower end is that of {told_cell(least)}; the greatest that of {told_cell(most)}. Of {len(found):,} "
+            f"figures {opened:,} are open, {closed:,} closed by the fine grid, {len(found) - len(given):,} refused.")
     cells = {(row.age, row.year): row for row in found}
     picture = pictures.q_map(f"q-picture-{place + 1}", title, told, cells, one.sheet.q_years)
     shades = ("The scale is logarithmic: darker is higher, from a colour to the next twice or 2.5 times as high; each power of "
-              "ten has a line. A square has the colour of its lower end, and a diamond if its figure is open.")
+              "ten has a line. A square has the colour of its lower end, and a diamond if its figure is open, a hollow one if the "
+              "fine grid closed it.")
     return pages.figure(picture, f"{plain(title)}. {shades} {plain(told)}")
 
 
@@ -310,63 +314,74 @@ def q_part(found: List[Found], asked: Asked, whole: Optional[List[Pair]]) -> Ite
 
 
 def width_line(kind: str, found: List[Row], rate: int) -> List[Any]:
-    """How many figures of a kind are open or refused, and the widest ends."""
+    """How many figures of a kind the fine grid closed, are open or refused, and the widest ends."""
     given = [row for row in found if not row.no]
     name = f"{kind} {percent(rate)}" if KINDS[kind].rate else kind
-    counts = [Cell(f"{count:,}") for count in (len(found), sum(row.text == OPEN for row in given), len(found) - len(given))]
+    numbers = len(found), sum(row.closed for row in given), sum(row.text == OPEN for row in given), len(found) - len(given)
+    counts = [Cell(f"{count:,}") for count in numbers]
     if not given:
         return [Head(name, 1, True), *counts, Cell("–"), Cell("–", "words")]
-    widest = max(given, key=lambda row: row.upper - row.lower)
+    widest = max(given, key=Row.width)
     where = Cell(f"age {widest.age} in {widest.year}", "words")
-    return [Head(name, 1, True), *counts, Cell(amount(widest.upper - widest.lower)), where]
+    return [Head(name, 1, True), *counts, Cell(apart(widest)), where]
 
 
-def open_table(place: int, one: Found) -> Iterator[str]:
-    """The open figures of a sheet with their ends."""
-    found = [row for kind in ("ecoh", "eper", "acoh", "q") for row in one.whole[kind] if row.text == OPEN]
+def apart(row: Row) -> str:
+    """How far the ends lie apart, with the decimals of their unit."""
+    return amount(row.upper - row.lower, row.unit)
+
+
+def fine_table(place: int, one: Found) -> Iterator[str]:
+    """The figures of a sheet that were worked again, with their ends: first those that are open all the same."""
+    found = [row for kind in ("ecoh", "eper", "acoh", "q") for row in one.whole[kind] if row.unit == FINE]
     if not found:
-        yield pages.paragraph("No figure of these kinds is open.")
+        yield pages.paragraph("No figure of these kinds was worked again.")
         return
-    columns = [Column("kind", True), *map(Column, ("age", "year", "low", "high", "width"))]
-    lines = [[Head(row.kind, 1, True), *map(Cell, (str(row.age), str(row.year), *row.ends(), amount(row.upper - row.lower)))]
-             for row in found[:MOST_OPEN]]
-    more = f"; the first {MOST_OPEN} of {len(found):,}" if len(found) > MOST_OPEN else ""
-    yield pages.table(f"open-table-{place + 1}", f"The open figures with their ends{more}", columns, [lines], "ruled")
+    found.sort(key=lambda row: row.closed)
+    columns = [Column("kind", True), *map(Column, ("age", "year", "figure", "low", "high", "width"))]
+    lines = [[Head(row.kind, 1, True), Cell(str(row.age)), Cell(str(row.year)), shown(row), *map(Cell, (*row.ends(), apart(row)))]
+             for row in found[:MOST_FINE]]
+    more = f"; the first {MOST_FINE} of {len(found):,}" if len(found) > MOST_FINE else ""
+    caption = f"The figures that were worked again on the fine grid, with their ends, the open ones first{more}"
+    yield pages.table(f"fine-table-{place + 1}", caption, columns, [lines], "ruled")
 
 
-def widths_of(found: List[Row]) -> Dict[int, int]:
-    """By age the widest ends of the years that are not refused."""
-    out: Dict[int, int] = {}
+def widest_of(found: List[Row]) -> Dict[int, Row]:
+    """By age the row with the widest ends of the years that are not refused."""
+    out: Dict[int, Row] = {}
     for row in found:
-        if not row.no:
-            out[row.age] = max(out.get(row.age, 0), row.upper - row.lower)
+        if not row.no and (row.age not in out or row.width() > out[row.age].width()):
+            out[row.age] = row
     return out
 
 
 def width_picture(place: int, one: Found, rate: int) -> str:
     """The width of the ends by age; nothing where all is refused."""
-    found = {kind: widths for kind, widths in ((kind, widths_of(of_kind)) for kind, of_kind in one.whole.items()) if widths}
+    every = ((kind, widest_of(of_kind)) for kind, of_kind in one.whole.items())
+    found = {kind: by_age for kind, by_age in every if by_age}
     if not found:
         return ""
     title = f"Width of the ends by age, the widest of all years: {one.name}"
-    widest = {kind: max(widths, key=widths.get) for kind, widths in found.items()}
-    told = "The widest: " + "; ".join(f"{kind} {amount(found[kind][age])} at age {age}" for kind, age in widest.items()) + "."
-    picture = pictures.widths(f"width-picture-{place + 1}", title, told, found)
-    drawn = f"acoh is at {percent(rate)}. A width of 0 is drawn at 10⁻⁹, the unit of the ends."
+    widest = {kind: max(by_age.values(), key=Row.width) for kind, by_age in found.items()}
+    told = "The widest: " + "; ".join(f"{kind} {apart(row)} at age {row.age}" for kind, row in widest.items()) + "."
+    widths = {kind: {age: row.width() for age, row in by_age.items()} for kind, by_age in found.items()}
+    picture = pictures.widths(f"width-picture-{place + 1}", title, told, widths)
+    drawn = f"acoh is at {percent(rate)}. A width of less than 10⁻⁹, the coarse unit, is drawn there."
     return pages.figure(picture, plain(f"{title}. {drawn} {told}"))
 
 
 def open_part(found: List[Found], asked: Asked) -> Iterator[str]:
     """Where figures are open and how wide the ends are, sheet by sheet."""
     yield pages.paragraph(
-        "A figure is open where its ends, close as they are, lie on both sides of a half step. All ages and all years of the "
-        "sheet are looked through."
+        "Where ends of nine decimals lie on both sides of a half step, the figure is worked again on the fine grid, with "
+        "thirteen, which closes it or leaves it open. All ages and all years of the sheet are looked through."
     )
-    columns = [Column("", True), *map(Column, ("cells", "open", "refused", "widest ends")), Column("where", True)]
+    titles = ("cells", "closed by the fine grid", "open", "refused", "widest ends")
+    columns = [Column("", True), *map(Column, titles), Column("where", True)]
     for place, one in enumerate(found):
         if len(found) > 1:
             yield element("h3", f"{('First', 'Second')[place]}: {plain(one.name)}")
         lines = [width_line(kind, of_kind, asked.rate) for kind, of_kind in one.whole.items()]
         yield pages.table(f"width-table-{place + 1}", "Figures and their ends, by kind", columns, [lines], "ruled")
         yield width_picture(place, one, asked.rate)
-        yield from open_table(place, one)
+        yield from fine_table(place, one)

@@ -6,11 +6,11 @@ import ctypes
 import datetime
 import os
 from decimal import Decimal
-from typing import Any, Dict, Iterable, Iterator, List, NamedTuple, Optional, Union
+from typing import Any, Dict, Iterable, Iterator, List, NamedTuple, Optional, Tuple, Union
 
 from . import library
-from .library import LONGEST_INPUT, LONGEST_SHEET, SET_LENGTH, accepted, calls, signed, written
-from .units import UNIT_DECIMALS, decimal
+from .library import LONGEST_INPUT, LONGEST_SHEET, RUN_ROOM, SET_LENGTH, accepted, calls, signed, written
+from .units import decimal
 
 Bytes = Union[bytes, bytearray, memoryview]
 SheetLike = Union["Sheet", Bytes]
@@ -33,8 +33,8 @@ KINDS: Dict[str, Kind] = {
     "q": Kind(5, False, False, False, True, "one-year death probability"),
     "coh": Kind(5, False, True, False, False, "chance to survive the span, along the cohort"),
     "per": Kind(5, False, True, False, False, "chance to survive the span, in one calendar year"),
-    "ecoh": Kind(1, False, False, False, False, "cohort life expectancy"),
-    "eper": Kind(1, False, False, False, False, "period life expectancy"),
+    "ecoh": Kind(2, False, False, False, False, "cohort life expectancy"),
+    "eper": Kind(2, False, False, False, False, "period life expectancy"),
     "acoh": Kind(1, True, False, False, False, "price of an annuity of 1 a year, along the cohort"),
     "aper": Kind(1, True, False, False, False, "price of an annuity of 1 a year, in one calendar year"),
     "day": Kind(5, False, False, True, False, "chance to live to a day, along the cohort"),
@@ -42,15 +42,15 @@ KINDS: Dict[str, Kind] = {
 COUPLE_KINDS: Dict[str, Kind] = {
     "joint": Kind(5, False, True, False, False, "chance that both live after the span"),
     "last": Kind(5, False, True, False, False, "chance that at least one lives after the span"),
-    "ejoint": Kind(1, False, False, False, False, "expectancy of the years in which both live"),
-    "elast": Kind(1, False, False, False, False, "expectancy of the years in which at least one lives"),
+    "ejoint": Kind(2, False, False, False, False, "expectancy of the years in which both live"),
+    "elast": Kind(2, False, False, False, False, "expectancy of the years in which at least one lives"),
 }
 
 
-def half_up(end: int, decimals: int) -> int:
-    """An end, in units of 10^-9, in steps of so many decimals, rounded half up."""
-    step = 10 ** max(0, UNIT_DECIMALS - decimals)
-    return (2 * end * 10 ** max(0, decimals - UNIT_DECIMALS) + step) // (2 * step)
+def half_up(end: int, decimals: int, unit: int) -> int:
+    """An end, in units of 10^-unit, in steps of so many decimals, rounded half up."""
+    step = 10 ** max(0, unit - decimals)
+    return (2 * end * 10 ** max(0, decimals - unit) + step) // (2 * step)
 
 
 def stepped(steps: int, decimals: int) -> str:
@@ -59,12 +59,14 @@ def stepped(steps: int, decimals: int) -> str:
 
 
 class Quote(NamedTuple):
-    """An answer: the two ends in units of 10^-9, between which the exact value lies, the figure's number of steps, None where it
-    is open, and the decimals of a step."""
+    """An answer: the two ends in units of 10^-unit, between which the exact value lies, the figure's number of steps, None where
+    it is open, the decimals of a step, and the unit: 9, or 13 where ends in units of 10^-9 leave the figure open, so that it was
+    worked again."""
     lower: int
     upper: int
     steps: Optional[int]
     decimals: int
+    unit: int
 
     @property
     def text(self) -> str:
@@ -74,27 +76,32 @@ class Quote(NamedTuple):
     @property
     def low(self) -> Decimal:
         """The lower end, exactly."""
-        return decimal(self.lower, UNIT_DECIMALS)
+        return decimal(self.lower, self.unit)
 
     @property
     def high(self) -> Decimal:
         """The upper end, exactly."""
-        return decimal(self.upper, UNIT_DECIMALS)
+        return decimal(self.upper, self.unit)
 
     def rounded(self, decimals: int) -> Optional[str]:
         """The figure with so many decimals where both ends round half up to it, so that the exact value does too; else None."""
         if decimals < 0:
             raise ValueError(f"a figure has 0 decimals or more, not {decimals}")
-        lower, upper = half_up(self.lower, decimals), half_up(self.upper, decimals)
+        lower, upper = (half_up(end, decimals, self.unit) for end in (self.lower, self.upper))
         return stepped(lower, decimals) if lower == upper else None
+
+    def ends_in(self, unit: int) -> Tuple[int, int]:
+        """Both ends in units of 10^-unit, which are no coarser than their own."""
+        return self.lower * 10 ** (unit - self.unit), self.upper * 10 ** (unit - self.unit)
 
 
 class Comparison(NamedTuple):
-    """Two values by their ends, in units of 10^-9: the first is "below" the second or "above" it, by `least` at least and `most`
-    at most, or "near", with no least, and they differ by `most` at most."""
+    """Two values by their ends: the first is "below" the second or "above" it, by `least` at least and `most` at most, or "near",
+    with no least, and they differ by `most` at most. Both are in units of 10^-unit, the finer unit of the two quotes."""
     relation: str
     least: Optional[int]
     most: int
+    unit: int
 
 
 def compare(first: Quote, second: Quote) -> Comparison:
@@ -103,12 +110,14 @@ def compare(first: Quote, second: Quote) -> Comparison:
         if not isinstance(one, Quote):
             raise TypeError(f"two Quotes are wanted, not {type(one).__name__}")
     if first.decimals != second.decimals:
-        raise ValueError("two quotes of one kind are wanted, not a probability beside years or a price")
-    if first.upper < second.lower:
-        return Comparison("below", second.lower - first.upper, second.upper - first.lower)
-    if second.upper < first.lower:
-        return Comparison("above", first.lower - second.upper, first.upper - second.lower)
-    return Comparison("near", None, max(first.upper - second.lower, second.upper - first.lower))
+        raise ValueError("two quotes of one kind are wanted, not two with other decimals")
+    unit = max(first.unit, second.unit)
+    (low, high), (other_low, other_high) = first.ends_in(unit), second.ends_in(unit)
+    if high < other_low:
+        return Comparison("below", other_low - high, other_high - low, unit)
+    if other_high < low:
+        return Comparison("above", low - other_high, high - other_low, unit)
+    return Comparison("near", None, max(high - other_low, other_high - low), unit)
 
 
 def as_bytes(value: Any, what: str) -> bytes:
@@ -149,8 +158,8 @@ def quote(sheet: SheetLike, kind: str, age: int, year: int, span: int = 0, rate:
     data, word = as_bytes(sheet, "a sheet"), as_word(kind)
     call, rates = (calls().kulfizan_quote, ()) if rate is None else (calls().kulfizan_annuity, (rate,))
     given, _ = signed((age, year, span, *rates))
-    ends = library.quoted(call, data, len(data), word, len(word), *given)
-    return Quote(*ends, KINDS[kind].decimals)
+    *ends, unit = library.quoted(call, data, len(data), word, len(word), *given)
+    return Quote(*ends, KINDS[kind].decimals, unit)
 
 
 def day(sheet: SheetLike, age: int, year: int, date: Union[int, datetime.date]) -> Quote:
@@ -159,7 +168,8 @@ def day(sheet: SheetLike, age: int, year: int, date: Union[int, datetime.date]) 
         date = 10_000 * date.year + 100 * date.month + date.day
     data = as_bytes(sheet, "a sheet")
     given, _ = signed((age, year, date))
-    return Quote(*library.quoted(calls().kulfizan_day, data, len(data), *given), KINDS["day"].decimals)
+    *ends, unit = library.quoted(calls().kulfizan_day, data, len(data), *given)
+    return Quote(*ends, KINDS["day"].decimals, unit)
 
 
 def couple(sheet: SheetLike, other_sheet: SheetLike, kind: str, age: int, other_age: int, year: int, span: int = 0) -> Quote:
@@ -167,15 +177,15 @@ def couple(sheet: SheetLike, other_sheet: SheetLike, kind: str, age: int, other_
     that at least one lives after the span, or "ejoint" or "elast", the expectancy of that state."""
     first, second, word = as_bytes(sheet, "a sheet"), as_bytes(other_sheet, "a sheet"), as_word(kind)
     given, _ = signed((age, other_age, year, span))
-    ends = library.quoted(calls().kulfizan_couple, first, len(first), second, len(second), word, len(word), *given)
-    return Quote(*ends, COUPLE_KINDS[kind].decimals)
+    *ends, unit = library.quoted(calls().kulfizan_couple, first, len(first), second, len(second), word, len(word), *given)
+    return Quote(*ends, COUPLE_KINDS[kind].decimals, unit)
 
 
 def target_year(sheet: SheetLike, age: int, target: int) -> Union[int, str]:
     """The year in which the period expectancy at an age reaches a target, any number, in units of 10^-9. Of the 51 quote years the
-    first counts whose upper end is at or above the target: it is the answer where its lower end is too, and else "open"; "none"
-    where there is no such year. A year is the earliest whose exact expectancy is at least the target, and "none" means that no
-    year has one."""
+    first counts whose upper end in that unit is at or above the target: it is the answer where its lower end is too, and else
+    "open"; "none" where there is no such year. A year is the earliest whose exact expectancy is at least the target, and "none"
+    means that no year has one."""
     data = as_bytes(sheet, "a sheet")
     given, _ = signed((age, target))
     found, year = ctypes.c_uint64(), ctypes.c_int64()
@@ -196,7 +206,7 @@ def verdict(sheet: SheetLike, year: int, column: Bytes) -> str:
 def run(data: Bytes, ends: bool = False) -> bytes:
     """The whole run of an input: a sheet and then query lines, as bytes, to what the program `quotes` prints, or `ends`."""
     given = as_bytes(data, "an input")
-    return written(calls().kulfizan_run, given, len(given), bool(ends), room=5 * len(given) + 161)
+    return written(calls().kulfizan_run, given, len(given), bool(ends), room=5 * len(given) + RUN_ROOM)
 
 
 def line_bytes(query: Any) -> bytes:

@@ -6,7 +6,8 @@ from decimal import Context, Decimal, ROUND_HALF_EVEN
 from typing import Dict, List, NamedTuple, Tuple
 
 AGES = range(91)
-UNIT_DECIMALS = 9
+# The decimals of the units of ends: 10^-9, and 10^-13 where a figure that the coarser ends leave open is worked again.
+COARSE, FINE = 9, 13
 
 
 class Unit(NamedTuple):

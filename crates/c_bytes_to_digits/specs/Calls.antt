@@ -7,7 +7,7 @@ use Prim.Native.Nat.{ℕ}
 use lib.IntN.{ℤ}
 use lib.ListN.{length, getD}
 use Rattle.text_tokens.specs.Text.{Parse, malformed, taken}
-use Rattle.number_exponential.specs.Billionths.{billionths}
+use Rattle.number_exponential.specs.Units.{billionths}
 use Rattle.set_params.specs.declared.Params.{Params}
 use Rattle.sheet.specs.Sheet.{readSheet}
 use Rattle.number_exact.specs.Value.{Exact, OneStep}

@@ -1,5 +1,5 @@
 // A query of two sheets: the bytes of each life's sheet, a kind's word, two ages, a year and a span, to an answer, and the answer as
-// four numbers in places that the caller lends.
+// five numbers in places that the caller lends.
 ghost use mathlib.Core.Path.{_≡_};
 ghost use lib.ListN.{length};
 ghost use Rattle.sheet.specs.Sheet.{readSheet};
@@ -50,7 +50,7 @@ fn sheets_answer(
     quote_couple::couple_of(one_set, two_set, kind, age, other, year, span)
 }
 
-// Answers a query of two sheets in the first four numbers. The refusal's number, or 0; refused, the call leaves every number as it
+// Answers a query of two sheets in the first five numbers. The refusal's number, or 0; refused, the call leaves every number as it
 // was.
 pub fn couple_into(
     first: &[u8],

@@ -1,4 +1,4 @@
--- A query of a sheet, with a rate, a date or neither: its answer, the answer's number, and the four numbers in which a quote is told.
+-- A query of a sheet, with a rate, a date or neither: its answer, the answer's number, and the five numbers in which a quote is told.
 use mathlib.Core.Bool.{cond, _||_}
 use mathlib.Core.List.{List, [], _∷_, _++_}
 use Prim.Native.Nat.{ℕ}
@@ -10,6 +10,8 @@ use Rattle.set_refusal.specs.declared.Refusal.the-variants.{Accepted, Malformed
 use Rattle.set_refusal.specs.Refusals.{refusalNumber}
 use Rattle.sheet.specs.declared.Reading.{Reading}
 use Rattle.sheet.specs.Sheet.{readSheet, bySheet}
+use Rattle.number_exponential.specs.declared.GridUnit.{GridUnit}
+use Rattle.number_exponential.specs.declared.GridUnit.the-variants.{Coarse, Fine}
 use Rattle.number_exact.specs.declared.Figure.{Figure}
 use Rattle.number_exact.specs.declared.Figure.the-variants.{Printed, Open}
 use Rattle.quote_kinds.specs.declared.Kind.{Kind}
@@ -45,10 +47,10 @@ answerTo (taken kind rest) got age year term = bySheet Refused (λ p. answerOf p
 unfoldable pub sheetAnswer : List ℕ → Parse Kind → ℤ → ℤ → ℤ → Answer
 sheetAnswer sheet kind age year term = answerTo kind (readSheet sheet) age year term
 
--- ---- a quote as four numbers: its ends, whether its figure is printed, and the figure's steps
+-- ---- a quote as five numbers: its ends, whether its figure is printed, the figure's steps, and the ends' unit
 
 abbrev pub quoteLength : ℕ
-quoteLength = 4
+quoteLength = 5
 
 unfoldable pub printedNumber : Figure → ℕ
 printedNumber (Printed n) = 1
@@ -58,8 +60,13 @@ unfoldable pub stepsNumber : Figure → ℕ
 stepsNumber (Printed n) = n
 stepsNumber Open = 0
 
+-- n of a unit of 10^-n
+unfoldable pub unitNumber : GridUnit → ℕ
+unitNumber Coarse = 9
+unitNumber Fine = 13
+
 unfoldable pub quoteNumbers : Quote → List ℕ
-quoteNumbers q = q .lower ∷ q .upper ∷ printedNumber (q .figure) ∷ stepsNumber (q .figure) ∷ []
+quoteNumbers q = q .lower ∷ q .upper ∷ printedNumber (q .figure) ∷ stepsNumber (q .figure) ∷ unitNumber (q .unit) ∷ []
 
 -- the numbers with a quote's in their first places
 unfoldable pub quoteOver : Quote → List ℕ → List ℕ

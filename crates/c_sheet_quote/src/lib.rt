@@ -1,5 +1,5 @@
 // A query of a sheet: the sheet's bytes, a kind's word, an age, a year and a span, for an annuity a rate, and for a survival to a
-// day a date in place of the word and the span, to an answer, and the answer as four numbers in places that the caller lends.
+// day a date in place of the word and the span, to an answer, and the answer as five numbers in places that the caller lends.
 ghost use mathlib.Core.Path.{_≡_};
 ghost use mathlib.Core.List.{[]};
 ghost use Prim.Native.Nat.{_≤_};
@@ -8,17 +8,18 @@ ghost use Rattle.text_tokens.specs.Text.{taken};
 ghost use Rattle.quote_kinds.specs.declared.Kind.the-variants.{Day};
 ghost use Rattle.run_query.specs.code.Code.{kindRead};
 ghost use Rattle.c_sheet_quote.specs.SheetQuote.{wordKind, kindOf, ratedKindOf, sheetAnswer};
-ghost use Rattle.c_sheet_quote.specs.SheetQuote.{quoteLength, printedNumber, stepsNumber, quoteOver};
+ghost use Rattle.c_sheet_quote.specs.SheetQuote.{quoteLength, printedNumber, stepsNumber, unitNumber, quoteOver};
 ghost use Rattle.c_sheet_quote.specs.SheetQuote.{quotedNo, quotedAfter, quoteNo, quoteAfter};
 use number_exact::Figure;
+use number_exponential::GridUnit;
 use quote_along::Answer;
 use quote_along::Quote;
 use quote_kinds::Kind;
 use run_query::KindRead;
 use set_refusal::Refusal;
 
-// The two ends, whether the figure is printed, and its steps.
-const QUOTE_LENGTH: usize = 4;
+// The two ends, whether the figure is printed, its steps, and the ends' unit.
+const QUOTE_LENGTH: usize = 5;
 
 // The kind of a whole word, rates aside.
 fn word_kind(word: &[u8]) -> KindRead
@@ -96,16 +97,28 @@ fn steps_number(figure: Figure) -> u64
     }
 }
 
-// Puts a quote's four numbers into the first places.
-fn put_four(numbers: &mut [u64], quote: Quote)
+// 9 or 13, the decimals of a unit of 10^-9 or 10^-13.
+fn unit_number(unit: GridUnit) -> u64
+    ensures { λ r. ⌜ r ≡ unitNumber unit ⌝ }
+{
+    match unit {
+        GridUnit::Coarse => 9,
+        GridUnit::Fine => 13,
+    }
+}
+
+// Puts a quote's five numbers into the first places.
+fn put_five(numbers: &mut [u64], quote: Quote)
     requires { ⌜ quoteLength ≤ length (now numbers) ⌝ }
     ensures { λ r. ⌜ now (numbers .exit) ≡ quoteOver quote (now (numbers .entry)) ⌝ }
 {
     let figure = quote.figure;
+    let unit = quote.unit;
     numbers[0] = quote.lower;
     numbers[1] = quote.upper;
     numbers[2] = printed_number(figure);
     numbers[3] = steps_number(figure);
+    numbers[4] = unit_number(unit);
 }
 
 // The same where there are so many places; the refusal's number, or 0.
@@ -116,11 +129,11 @@ fn put_quote(numbers: &mut [u64], quote: Quote) -> u8
     if numbers.len() < QUOTE_LENGTH {
         return set_refusal::refusal_number(Refusal::BufferTooShort);
     }
-    put_four(numbers, quote);
+    put_five(numbers, quote);
     set_refusal::refusal_number(Refusal::Accepted)
 }
 
-// Puts an answer into the first four numbers: the refusal's number, or 0; refused, every number stays as it was.
+// Puts an answer into the first five numbers: the refusal's number, or 0; refused, every number stays as it was.
 pub fn put_answer(numbers: &mut [u64], answer: Answer) -> u8
     ensures { λ r. ⌜ r ≡ quoteNo answer (length (now (numbers .entry))) ⌝ }
     ensures { λ r. ⌜ now (numbers .exit) ≡ quoteAfter answer (now (numbers .entry)) ⌝ }
@@ -131,7 +144,7 @@ pub fn put_answer(numbers: &mut [u64], answer: Answer) -> u8
     }
 }
 
-// Answers a query of a sheet, of the kind that was read, in the first four numbers: malformed where none was.
+// Answers a query of a sheet, of the kind that was read, in the first five numbers: malformed where none was.
 fn answer_into(
     sheet: &[u8],
     read: KindRead,
@@ -152,7 +165,7 @@ fn answer_into(
     put_answer(numbers, sheet_answer(sheet, kind, age, year, term))
 }
 
-// Answers a query of a sheet, of a kind that takes a span and no rate, in the first four numbers. The refusal's number, or 0;
+// Answers a query of a sheet, of a kind that takes a span and no rate, in the first five numbers. The refusal's number, or 0;
 // refused, the call leaves every number as it was.
 pub fn quote_into(
     sheet: &[u8],

@@ -1,5 +1,5 @@
-// The couples' program: two sheets and couples' query lines on standard input, each query with its ends and its figure, or its
-// refusal, on standard output.
+// The couples' program: two sheets and couples' query lines on standard input, each query with its ends, their unit and its figure, or
+// its refusal, on standard output.
 use run::Program;
 use run_line::Mode;
 

@@ -8,9 +8,9 @@ use libc::STDOUT_FILENO;
 fn print_case(z: u64) {
     io::print_decimal(STDOUT_FILENO, z);
     io::write_all(STDOUT_FILENO, b" ");
-    io::print_decimal(STDOUT_FILENO, number_exp_ends::exp_lower(z));
+    io::print_decimal(STDOUT_FILENO, number_exp_ends::exp_lower(false, z));
     io::write_all(STDOUT_FILENO, b" ");
-    io::print_decimal(STDOUT_FILENO, number_exp_ends::exp_upper(z));
+    io::print_decimal(STDOUT_FILENO, number_exp_ends::exp_upper(false, z));
     io::write_all(STDOUT_FILENO, b"\n");
 }
 

@@ -17,7 +17,7 @@ programOf ends = Lines (Quotes (not (eqb ends 0)))
 
 -- room for the output of any input of n bytes
 unfoldable pub roomFor : ℕ → ℕ
-roomFor n = 5 * n + 161
+roomFor n = 5 * n + 159
 
 unfoldable pub runNo : List ℕ → ℕ → ℕ
 runNo input room = refusalNumber (cond (leb (roomFor (length input)) room) Accepted BufferTooShort)

@@ -36,9 +36,9 @@ pub extern "C" fn kulfizan_write(values: &[i64], buffer: &mut [u8], len: &mut u6
     c_set_numbers::write_from(values, buffer, len)
 }
 
-// Answers a query of a sheet, of a kind that takes a span and no rate, in the first four numbers: the two ends in units of 10^-9, 1 where
-// the figure is printed and 0 where it is open, and its steps. The refusal's number, or 0; refused, the call leaves every number
-// as it was.
+// Answers a query of a sheet, of a kind that takes a span and no rate, in the first five numbers: the two ends, 1 where the figure is
+// printed and 0 where it is open, its steps, and 9 or 13, where the ends are in units of 10^-9 or 10^-13. The refusal's number, or 0;
+// refused, the call leaves every number as it was.
 #[no_mangle]
 pub extern "C" fn kulfizan_quote(
     sheet: &[u8],
@@ -151,7 +151,7 @@ pub extern "C" fn kulfizan_verdict(sheet: &[u8], year: i64, column: &[u8], verdi
 }
 
 // Writes the whole run of an input into the buffer, and its length: as the program `quotes` prints it where
-// `ends` is 0, else as `ends` does. 0, or 7 where the buffer has fewer than 5·n + 161 bytes for n bytes of input; refused, the
+// `ends` is 0, else as `ends` does. 0, or 7 where the buffer has fewer than 5·n + 159 bytes for n bytes of input; refused, the
 // call leaves every byte and the length as they were.
 #[no_mangle]
 pub extern "C" fn kulfizan_run(input: &[u8], ends: u8, out: &mut [u8], len: &mut u64) -> u8

@@ -1,7 +1,8 @@
-// One cell of the table on the grid of 10^-9: p, the chance to live through the year, with two ends, from an age's
+// One cell of the table on a grid: p, the chance to live through the year, with two ends, from an age's
 // parameters at ages to 90 and by the closure above, which is fitted to the ages 80 to 90 of the year.
 ghost use mathlib.Core.Path.{_≡_};
 ghost use lib.Dec.{T};
+ghost use Rattle.number_exponential.specs.code.Flag.{gridBy};
 ghost use Rattle.model_log_force.specs.LogForce.{cellForce};
 ghost use Rattle.model_closure.specs.code.Code.{InLimit, RowWithin};
 ghost use Rattle.model_log_force.specs.code.Year.{CellWithin};
@@ -23,14 +24,15 @@ pub struct Fitted {
 
 // The ends of H of a year of the set that lends the four runs.
 pub fn fitted_in<'a>(
+    fine: bool,
     level: &'a [i64; AGES],
     slope: &'a [i64; AGES],
     alpha: &'a [i64; AGES],
     beta: &'a [i64; AGES],
     y: Year,
 ) -> Fitted
-    requires { ⌜ LentIn (now level) (now slope) (now alpha) (now beta) y ⌝ }
-    ensures { λ r. ⌜ FittedIn (now (level .entry)) (now (slope .entry)) (now (alpha .entry)) (now (beta .entry)) y r ⌝ }
+    requires { ⌜ LentIn (gridBy fine) (now level) (now slope) (now alpha) (now beta) y ⌝ }
+    ensures { λ r. ⌜ FittedIn (gridBy fine) (now (level .entry)) (now (slope .entry)) (now (alpha .entry)) (now (beta .entry)) y r ⌝ }
 {
     let mut fitted = Fitted {
         ok: true,
@@ -39,14 +41,15 @@ pub fn fitted_in<'a>(
     let mut i = 0;
     while i < FITTED {
         let m = model_log_force::log_force_at(
+            fine,
             set_params::age_of_runs(level, slope, alpha, beta, FIRST_FITTED + i),
             y,
         );
-        if !model_log_force::in_range(m) {
+        if !model_log_force::in_range(fine, m) {
             fitted.ok = false;
             return fitted;
         }
-        fitted.ends[i] = model_force::inverse_logistic(m);
+        fitted.ends[i] = model_force::inverse_logistic(fine, m);
         i += 1;
     }
     fitted
@@ -59,51 +62,51 @@ pub enum Cell {
 }
 
 // The force at an age to 90, by its parameters.
-pub fn young_force(age: Age, y: Year) -> Cell
-    requires { ⌜ CellWithin age y ⌝ }
-    ensures { λ r. ⌜ r ≡ youngForceCell (cellForce age (y .period) (y .kappas)) ⌝ }
+pub fn young_force(fine: bool, age: Age, y: Year) -> Cell
+    requires { ⌜ CellWithin (gridBy fine) age y ⌝ }
+    ensures { λ r. ⌜ r ≡ youngForceCell (gridBy fine) (cellForce (gridBy fine) age (y .period) (y .kappas)) ⌝ }
 {
-    let m = model_log_force::log_force_at(age, y);
-    if !model_log_force::in_range(m) {
+    let m = model_log_force::log_force_at(fine, age, y);
+    if !model_log_force::in_range(fine, m) {
         return Cell::LogForceOutOfRange;
     }
-    Cell::Of(model_force::force_to_90(m))
+    Cell::Of(model_force::force_to_90(fine, m))
 }
 
 // The force at an age above 90, by its row of weights and the ends of H of its year.
-pub fn old_force(row: [i64; 11], f: Fitted) -> Cell
+pub fn old_force(fine: bool, row: [i64; 11], f: Fitted) -> Cell
     requires { ⌜ RowWithin row × (T (f .ok) → InLimit (f .ends)) ⌝ }
-    ensures { λ r. ⌜ r ≡ oldForceCell row f ⌝ }
+    ensures { λ r. ⌜ r ≡ oldForceCell (gridBy fine) row f ⌝ }
 {
     if !f.ok {
         return Cell::LogForceOutOfRange;
     }
     let ends = f.ends;
-    Cell::Of(model_logistic::logistic(model_closure::closed_sum(row, ends)))
+    Cell::Of(model_logistic::logistic(fine, model_closure::closed_sum(row, ends)))
 }
 
 // p of a force, where there is one.
-fn lived(force: Cell) -> Cell
-    ensures { λ r. ⌜ r ≡ livedCell force ⌝ }
+fn lived(fine: bool, force: Cell) -> Cell
+    ensures { λ r. ⌜ r ≡ livedCell (gridBy fine) force ⌝ }
 {
     let Cell::Of(f) = force else {
         return Cell::LogForceOutOfRange;
     };
-    Cell::Of(number_exp_ends::exp_between(f))
+    Cell::Of(number_exp_ends::exp_between(fine, f))
 }
 
 // The cell at an age to 90, by its parameters.
-pub fn young_cell(age: Age, y: Year) -> Cell
-    requires { ⌜ CellWithin age y ⌝ }
-    ensures { λ r. ⌜ r ≡ youngCell (cellForce age (y .period) (y .kappas)) ⌝ }
+pub fn young_cell(fine: bool, age: Age, y: Year) -> Cell
+    requires { ⌜ CellWithin (gridBy fine) age y ⌝ }
+    ensures { λ r. ⌜ r ≡ youngCell (gridBy fine) (cellForce (gridBy fine) age (y .period) (y .kappas)) ⌝ }
 {
-    lived(young_force(age, y))
+    lived(fine, young_force(fine, age, y))
 }
 
 // The cell at an age above 90, by its row of weights and the ends of H of its year.
-pub fn old_cell(row: [i64; 11], f: Fitted) -> Cell
+pub fn old_cell(fine: bool, row: [i64; 11], f: Fitted) -> Cell
     requires { ⌜ RowWithin row × (T (f .ok) → InLimit (f .ends)) ⌝ }
-    ensures { λ r. ⌜ r ≡ oldCell row f ⌝ }
+    ensures { λ r. ⌜ r ≡ oldCell (gridBy fine) row f ⌝ }
 {
-    lived(old_force(row, f))
+    lived(fine, old_force(fine, row, f))
 }

@@ -5,7 +5,7 @@ ghost use Rattle.number_whole.specs.code.Sizes.{Under, Within};
 ghost use Rattle.model_closure.specs.code.Totals.{weightLimit};
 ghost use Rattle.model_closure.specs.Closure.{weightedMean};
 ghost use Rattle.model_closure.specs.code.Code.{endLimit, sumsLimit, InLimit, weightOf, RowWithin, withProduct};
-ghost use Rattle.model_closure.specs.Weights.{totalled, ruled};
+ghost use Rattle.model_closure.specs.code.Table.{totalled, ruled};
 use number_whole::SignedEnds;
 
 // Ages 80 to 90 are fitted, and ages 91 to 120 are closed.

@@ -3,3 +3,4 @@ pub mod WidthLaws
 pub mod BoundLaws
 pub mod RangeLaws
 pub mod YearLaws
+pub mod Finer

@@ -1,8 +1,9 @@
-// The log force of a cell on the grid, with two signed ends; and a year of the table: K and kappa, the year after, and the log
+// The log force of a cell on a grid, with two signed ends; and a year of the table: K and kappa, the year after, and the log
 // force at an age of it.
 ghost use mathlib.Core.Path.{_≡_};
 ghost use Prim.Native.Nat.{_≤_};
 ghost use lib.Dec.{T};
+ghost use Rattle.number_exponential.specs.code.Flag.{gridBy};
 ghost use Rattle.set_params.specs.Limits.{lastYears};
 ghost use Rattle.set_limits.specs.InLimits.{inLimits};
 ghost use Rattle.model_log_force.specs.LogForce.{cellForce, inRange};
@@ -12,14 +13,13 @@ use number_whole::SignedEnds;
 use set_params::Age;
 use set_params::Dynamics;
 use set_params::Params;
-use set_series::COEFFICIENT_UNIT;
 
-// A needed cell's least lower end and greatest upper end.
+// A needed cell's least lower end and greatest upper end, in units of 10^-9.
 pub const LOWEST_FORCE: i64 = -30_000_000_000;
 
 pub const HIGHEST_FORCE: i64 = -700_000_000;
 
-// The year start + number, with K and kappa.
+// The year start + number, with K in units of 10^-9 and kappa in a grid's.
 pub struct Year {
     pub number: u64,
     pub period: i64,
@@ -27,31 +27,33 @@ pub struct Year {
 }
 
 // The log force at an age, of K and kappa in a year.
-pub fn log_force(age: Age, period: i64, kappas: SignedEnds) -> SignedEnds
-    requires { ⌜ CellLimits age period kappas ⌝ }
-    ensures { λ r. ⌜ r ≡ cellForce age period kappas ⌝ }
+pub fn log_force(fine: bool, age: Age, period: i64, kappas: SignedEnds) -> SignedEnds
+    requires { ⌜ CellLimits (gridBy fine) age period kappas ⌝ }
+    ensures { λ r. ⌜ r ≡ cellForce (gridBy fine) age period kappas ⌝ }
 {
-    let fixed = age.level + age.alpha;
+    let fixed = set_series::in_grid(fine, age.level + age.alpha);
     let trend = age.slope * period;
     let beta = age.beta;
-    let least = trend + number_whole::least_product(beta, kappas);
-    let greatest = trend + number_whole::greatest_product(beta, kappas);
-    let lower = fixed + number_whole::outward_div(least, COEFFICIENT_UNIT, false);
-    let upper = fixed + number_whole::outward_div(greatest, COEFFICIENT_UNIT, true);
+    let low = number_whole::end_by(beta, kappas.lower, kappas.upper);
+    let high = number_whole::end_by(beta, kappas.upper, kappas.lower);
+    let lower = fixed + set_series::mixed_over(fine, trend, beta, low, false);
+    let upper = fixed + set_series::mixed_over(fine, trend, beta, high, true);
     SignedEnds { lower, upper }
 }
 
 // The range of a needed cell.
-pub fn in_range(m: SignedEnds) -> bool
-    ensures { λ r. ⌜ r ≡ inRange m ⌝ }
+pub fn in_range(fine: bool, m: SignedEnds) -> bool
+    ensures { λ r. ⌜ r ≡ inRange (gridBy fine) m ⌝ }
 {
-    LOWEST_FORCE <= m.lower && m.upper <= HIGHEST_FORCE
+    let lowest = set_series::in_grid(fine, LOWEST_FORCE);
+    let highest = set_series::in_grid(fine, HIGHEST_FORCE);
+    lowest <= m.lower && m.upper <= highest
 }
 
 // Year n of a set.
-pub fn year_at(p: Params, n: u64) -> Year
+pub fn year_at(fine: bool, p: Params, n: u64) -> Year
     requires { ⌜ T (inLimits p) × (n ≤ lastYears) ⌝ }
-    ensures { λ r. ⌜ (r .number ≡ n) × YearOf p r ⌝ }
+    ensures { λ r. ⌜ (r .number ≡ n) × YearOf (gridBy fine) p r ⌝ }
 {
     let period = set_series::period_index(p.period, p.theta, n);
     let d = Dynamics {
@@ -59,7 +61,7 @@ pub fn year_at(p: Params, n: u64) -> Year
         theta: p.theta,
         c: p.c,
     };
-    let kappas = set_series::kappa_at(d, p.kappa, n);
+    let kappas = set_series::kappa_at(fine, d, p.kappa, n);
     Year {
         number: n,
         period,
@@ -68,12 +70,12 @@ pub fn year_at(p: Params, n: u64) -> Year
 }
 
 // The year after.
-pub fn next_year(d: Dynamics, y: Year) -> Year
-    requires { ⌜ YearWithin d y ⌝ }
-    ensures { λ r. ⌜ NextOf d y r ⌝ }
+pub fn next_year(fine: bool, d: Dynamics, y: Year) -> Year
+    requires { ⌜ YearWithin (gridBy fine) d y ⌝ }
+    ensures { λ r. ⌜ NextOf (gridBy fine) d y r ⌝ }
 {
     let kappas = y.kappas;
-    let next = set_series::kappa_step(d, kappas);
+    let next = set_series::kappa_step(fine, d, kappas);
     Year {
         number: y.number + 1,
         period: y.period + d.theta,
@@ -82,10 +84,10 @@ pub fn next_year(d: Dynamics, y: Year) -> Year
 }
 
 // The log force at an age of a year.
-pub fn log_force_at(age: Age, y: Year) -> SignedEnds
-    requires { ⌜ CellLimits age (y .period) (y .kappas) ⌝ }
-    ensures { λ r. ⌜ r ≡ cellForce age (y .period) (y .kappas) ⌝ }
+pub fn log_force_at(fine: bool, age: Age, y: Year) -> SignedEnds
+    requires { ⌜ CellLimits (gridBy fine) age (y .period) (y .kappas) ⌝ }
+    ensures { λ r. ⌜ r ≡ cellForce (gridBy fine) age (y .period) (y .kappas) ⌝ }
 {
     let kappas = y.kappas;
-    log_force(age, y.period, kappas)
+    log_force(fine, age, y.period, kappas)
 }

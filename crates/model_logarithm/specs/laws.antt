@@ -8,5 +8,5 @@ pub mod Holds
 pub mod Width
 pub mod Narrowing
 pub mod Force
-pub mod BillionthsFacts
+pub mod GridFacts
 pub mod RunOut

@@ -14,8 +14,10 @@ use Rattle.number_whole.specs.laws.Sign.{Sign, minus, plain, sign}
 use Rattle.number_whole.specs.code.Sizes.{Under}
 use Rattle.number_whole.specs.laws.Bound.{bits, under-pos, fits, back}
 use Rattle.number_exponential.specs.Exponential.{expLower, expUpper}
-use Rattle.number_exponential.specs.Billionths.{billionths}
-use Rattle.number_exponential.specs.laws.BillionthsFacts.{billionths-sound}
+use Rattle.number_exponential.specs.Grid.{Grid}
+use Rattle.number_exponential.specs.declared.GridUnit.{GridUnit}
+use Rattle.number_exponential.specs.Units.{gridOf}
+use Rattle.number_exponential.specs.laws.GridFacts.{unit-sound}
 use Rattle.number_exponential.specs.laws.AtMostOne.{exp-lower-one, exp-upper-one}
 use Rattle.number_whole.proofs.Signed.{read}
 use Rattle.model_logistic.specs.Logistic.{logisticLower, logisticUpper, overOneLower, overOneUpper, shareLower, shareUpper}
@@ -61,43 +63,44 @@ other {z} u t =
 
 -- ---- the two ends of the exponential
 
-abbrev pub expEnd : Bool → ℕ → ℕ
-expEnd upper z = cond upper (expUpper billionths z) (expLower billionths z)
+abbrev pub expEnd : Grid → Bool → ℕ → ℕ
+expEnd g upper z = cond upper (expUpper g z) (expLower g z)
 
 -- are at most the unit
-end-small : (upper : Bool) (z : ℕ) → expEnd upper z ≤ billionths .unit
-end-small true z = exp-upper-one billionths billionths-sound z
-end-small false z = exp-lower-one billionths billionths-sound z
+end-small : (u : GridUnit) (upper : Bool) (z : ℕ) → expEnd (gridOf u) upper z ≤ gridOf u .unit
+end-small u true z = exp-upper-one (gridOf u) (unit-sound u) z
+end-small u false z = exp-lower-one (gridOf u) (unit-sound u) z
 
-pub small : (upper : Bool) (z : ℕ) {e : ℕ} → e ≡ expEnd upper z → e ≤ billionths .unit
-small upper z d = rw d (end-small upper z)
+pub small : (u : GridUnit) (upper : Bool) (z : ℕ) {e : ℕ} → e ≡ expEnd (gridOf u) upper z → e ≤ gridOf u .unit
+small u upper z d = rw d (end-small u upper z)
 
 -- ---- the quotients
 
-abbrev pub quotient : Bool → ℕ → ℕ → ℕ
-quotient upper n d = cond upper (ceilDivℕ n d) (n / d)
+module _ (g : Grid) (upper : Bool) where
+  abbrev pub quotient : ℕ → ℕ → ℕ
+  quotient n d = cond upper (ceilDivℕ (n * g .unit) d) (n * g .unit / d)
 
-abbrev pub logisticEnd : Bool → ℤ → ℕ
-logisticEnd upper z = cond upper (logisticUpper billionths z) (logisticLower billionths z)
+  abbrev pub logisticEnd : ℤ → ℕ
+  logisticEnd z = cond upper (logisticUpper g z) (logisticLower g z)
 
 -- E/(1 + E) below 0, by the same end of E
-share-by : (upper : Bool) {z : ℤ} {e : ℕ} → Sign z true → e ≡ expEnd upper (natAbs z)
-    → quotient upper (e * billionths .unit) (billionths .unit + e) ≡ logisticEnd upper z
+share-by : (g : Grid) (upper : Bool) {z : ℤ} {e : ℕ} → Sign z true → e ≡ expEnd g upper (natAbs z)
+    → quotient g upper e (g .unit + e) ≡ logisticEnd g upper z
 unfolding logisticUpper logisticLower shareUpper shareLower
-share-by true (minus n) d = rw d
-share-by false (minus n) d = rw d
+share-by g true (minus n) d = rw d
+share-by g false (minus n) d = rw d
 
-pub share-end : (upper : Bool) {y z : ℤ} {e : ℕ} → Sized true y z → e ≡ expEnd upper (natAbs (bits y))
-    → quotient upper (e * billionths .unit) (billionths .unit + e) ≡ logisticEnd upper z
-share-end upper k d = share-by upper (k .signed) (d ∙ ap (expEnd upper) (k .size))
+pub share-end : (g : Grid) (upper : Bool) {y z : ℤ} {e : ℕ} → Sized true y z → e ≡ expEnd g upper (natAbs (bits y))
+    → quotient g upper e (g .unit + e) ≡ logisticEnd g upper z
+share-end g upper k d = share-by g upper (k .signed) (d ∙ ap (expEnd g upper) (k .size))
 
 -- and else 1/(1 + E), by the other end
-over-by : (upper : Bool) {z : ℤ} {e : ℕ} → Sign z false → e ≡ expEnd (not upper) (natAbs z)
-    → quotient upper (billionths .unit * billionths .unit) (billionths .unit + e) ≡ logisticEnd upper z
+over-by : (g : Grid) (upper : Bool) {z : ℤ} {e : ℕ} → Sign z false → e ≡ expEnd g (not upper) (natAbs z)
+    → quotient g upper (g .unit) (g .unit + e) ≡ logisticEnd g upper z
 unfolding logisticUpper logisticLower overOneUpper overOneLower
-over-by true (plain n) d = rw d
-over-by false (plain n) d = rw d
+over-by g true (plain n) d = rw d
+over-by g false (plain n) d = rw d
 
-pub over-end : (upper : Bool) {y z : ℤ} {e : ℕ} → Sized false y z → e ≡ expEnd (not upper) (natAbs (bits y))
-    → quotient upper (billionths .unit * billionths .unit) (billionths .unit + e) ≡ logisticEnd upper z
-over-end upper k d = over-by upper (k .signed) (d ∙ ap (expEnd (not upper)) (k .size))
+pub over-end : (g : Grid) (upper : Bool) {y z : ℤ} {e : ℕ} → Sized false y z → e ≡ expEnd g (not upper) (natAbs (bits y))
+    → quotient g upper (g .unit) (g .unit + e) ≡ logisticEnd g upper z
+over-end g upper k d = over-by g upper (k .signed) (d ∙ ap (expEnd g (not upper)) (k .size))

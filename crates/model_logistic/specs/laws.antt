@@ -6,6 +6,6 @@ pub mod LogisticHolds
 pub mod OrdersAgree
 pub mod RelativeWidth
 pub mod LogisticWidth
-pub mod Billionths
+pub mod GridFacts
 pub mod ExpNarrow
 pub mod LogisticNarrow

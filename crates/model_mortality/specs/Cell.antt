@@ -18,15 +18,15 @@ use Rattle.model_logarithm.specs.Logarithm.{inverseLogistic}
 use Rattle.model_closure.specs.Weights.{fitted, firstFitted, firstClosed}
 use Rattle.model_logistic.specs.Logistic.{logistic}
 use Rattle.model_closure.specs.Closure.{closedSum}
-use Rattle.model_force.specs.Force.{negated, deathOf}
+use Rattle.model_force.specs.Force.{negated}
 
 -- "Force at ages to 90: exponential of m."
 unfoldable pub youngForce : Grid → Params → ℕ → ℕ → Ends
-youngForce g p x n = expBetween g (negated (logForce p x n))
+youngForce g p x n = expBetween g (negated (logForce g p x n))
 
 -- H at age y, and at the ages 80 to 90
 unfoldable pub fittedEnds : Grid → Params → ℕ → ℕ → SignedEnds
-fittedEnds g p n y = inverseLogistic g (logForce p y n) (youngForce g p y n)
+fittedEnds g p n y = inverseLogistic g (logForce g p y n) (youngForce g p y n)
 
 unfoldable pub fittedList : Grid → Params → ℕ → List SignedEnds
 fittedList g p n = listed (fittedEnds g p n) firstFitted fitted
@@ -50,14 +50,10 @@ forceOver part f = outwardOver (f .lower * part .num) (f .upper * part .num) (pa
 unfoldable pub survival : Grid → Params → ℕ → ℕ → Ratio → Ends
 survival g p x n part = expBetween g (forceOver part (force g p x n))
 
--- "q = 10^9 − p, ends exchanged"
-unfoldable pub death : Grid → Params → ℕ → ℕ → Ends
-death g p x n = deathOf g (survival g p x n wholeYear)
-
 -- "Age above 90 needs the cells 80 to 90 of its year."
-unfoldable pub fittedInRange : Params → ℕ → ℕ → Bool
-fittedInRange p n zero = true
-fittedInRange p n (suc i) = fittedInRange p n i && inRange (logForce p (firstFitted + i) n)
+unfoldable pub fittedInRange : Grid → Params → ℕ → ℕ → Bool
+fittedInRange g p n zero = true
+fittedInRange g p n (suc i) = fittedInRange g p n i && inRange g (logForce g p (firstFitted + i) n)
 
-unfoldable pub neededInRange : Params → ℕ → ℕ → Bool
-neededInRange p x n = cond (ltb x firstClosed) (inRange (logForce p x n)) (fittedInRange p n fitted)
+unfoldable pub neededInRange : Grid → Params → ℕ → ℕ → Bool
+neededInRange g p x n = cond (ltb x firstClosed) (inRange g (logForce g p x n)) (fittedInRange g p n fitted)

@@ -1,3 +1,4 @@
+pub mod Death
 pub mod OrderDeath
 pub mod Facts
 pub mod Answered
@@ -6,6 +7,6 @@ pub mod Whole
 pub mod AtMostOne
 pub mod Holds
 pub mod Width
-pub mod Billionths
+pub mod GridFacts
 pub mod Narrowing
 pub mod OrdersAgree

@@ -1,2 +1,2 @@
-pub mod Constants
 pub mod Pairs
+pub mod Products

@@ -1,13 +1,17 @@
 -- The grid as one record: the unit in which ends are whole numbers, and the constants, term counts and cut-off of the
 -- exponential and the logarithm on it. Every definition and law of the table takes a grid as a parameter.
+use mathlib.Core.Path.{_≡_}
 use mathlib.Core.List.{List}
-use Prim.Native.Nat.{ℕ, _<_}
+use Prim.Native.Nat.{ℕ, _*_, _<_}
 use Rattle.number_fraction.specs.Ratio.{Ratio}
 
 pub record Grid : Type 0 where
   -- units in 1
   pub unit : ℕ
   pub positive : 0 < unit
+  -- units in 10^-9, the parameters' unit
+  pub scale : ℕ
+  pub scaled : unit ≡ scale * 1000000000
   -- steps of the constants in 1
   pub steps : ℕ
   -- for each step n the whole part of unit·e^−(n/steps)

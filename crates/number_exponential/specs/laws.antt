@@ -9,6 +9,8 @@ pub mod Holds
 pub mod NearSums
 pub mod Width
 pub mod AtMostOne
+pub mod GridFacts
 pub mod BillionthsFacts
 pub mod OutwardLaws
 pub mod RunOut
+pub mod Scales

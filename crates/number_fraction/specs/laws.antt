@@ -6,3 +6,4 @@ pub mod Multiples
 pub mod FractionLaws
 pub mod EndsHold
 pub mod Places
+pub mod Scaling

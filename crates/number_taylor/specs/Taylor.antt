@@ -22,8 +22,3 @@ stretchedDen p q j = taylorDen q j * (suc j * gap p q j)
 -- the numerator of s + r
 unfoldable pub stretchedNum : ℕ → ℕ → ℕ → ℕ
 stretchedNum p q j = taylorNum p q j * (suc j * gap p q j) + p ^ suc j * suc (suc j)
-
--- j! = 1·2·…·j
-unfoldable pub factorial : ℕ → ℕ
-factorial zero = 1
-factorial (suc j) = factorial j * suc j

@@ -1,3 +1,4 @@
+pub mod Factorial
 pub mod Terms
 pub mod AlternatingSums
 pub mod Meaning

@@ -13,7 +13,8 @@ use lib.Signed.{_≤ℤ_, _<ℤ_, ltZ, ltZ-yes, ltZ-no, quotZ}
 use mir.Syntax.{w64}
 use mir.Val.{SFits, ofZ}
 use mir.Facts.{toZ-ofZ}
-use Rattle.number_whole.specs.Parts.{above, below}
+use Rattle.number_whole.specs.Parts.{below}
+use Rattle.number_whole.specs.laws.Above.{above}
 use Rattle.number_whole.specs.laws.Split.{split, split-sub, split-neg}
 use Rattle.number_whole.specs.Division.{floorDiv, ceilDiv}
 use Rattle.number_whole.specs.laws.Bound.{bits, fits-parts, fits-within}

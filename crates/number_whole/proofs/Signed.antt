@@ -2,7 +2,7 @@
 use mathlib.Core.Path.{_≡_, refl}
 use mathlib.Core.Bool.{Bool, true, false, cond}
 use Prim.Native.Nat.{ℕ}
-use lib.IntN.{ℤ, _+ℤ_, _*ℤ_}
+use lib.IntN.{ℤ, _+ℤ_, _-ℤ_, _*ℤ_}
 use lib.Signed.{nonNeg}
 use mir.Syntax.{w64}
 use mir.Val.{SFits}
@@ -27,6 +27,10 @@ sum f g e h = rw (f, g, ← e) (h, toZ-ofZ h)
 
 pub product : {x y a b z : ℤ} → x ≡ a → y ≡ b → z ≡ a *ℤ b → SFits w64 z → SFits w64 (x *ℤ y) × (bits (x *ℤ y) ≡ z)
 product f g e h = rw (f, g, ← e) (h, toZ-ofZ h)
+
+-- and a difference
+pub minus : {x y a b : ℤ} → x ≡ a → y ≡ b → SFits w64 (a -ℤ b) → SFits w64 (x -ℤ y) × (bits (x -ℤ y) ≡ a -ℤ b)
+minus f g h = rw (f, g) (h, toZ-ofZ h)
 
 -- two ends that are those of e
 pub both-ends : {l u : ℤ} {e : SignedEnds} → l ≡ e .lower → u ≡ e .upper → record { lower = l; upper = u } ≡ e

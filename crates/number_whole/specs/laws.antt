@@ -1,3 +1,4 @@
+pub mod Above
 pub mod Split
 pub mod Sign
 pub mod Difference
@@ -8,3 +9,5 @@ pub mod EndLaws
 pub mod Table
 pub mod Clash
 pub mod OrderTests
+pub mod Shift
+pub mod Nested

@@ -48,7 +48,7 @@ pub fn ceil_div_u(n: u64, d: u64) -> u64
 
 // An end, or the other where c is negative. Of two numbers one is chosen in registers; of two fields of a struct the compiler
 // would load one by its place.
-fn end_by(c: i64, end: i64, other: i64) -> i64
+pub fn end_by(c: i64, end: i64, other: i64) -> i64
     ensures { λ r. ⌜ r ≡ cond (nonNeg c) end other ⌝ }
 {
     if c < 0 {

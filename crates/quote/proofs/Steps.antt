@@ -12,6 +12,7 @@ use Rattle.number_whole.specs.laws.Clash.{clash}
 use Rattle.number_whole.specs.code.Sizes.{Under}
 use Rattle.number_whole.specs.laws.Bound.{under-pos}
 use Rattle.number_fraction.specs.Ratio.{whole/}
+use Rattle.number_exponential.specs.Units.{billionths}
 use Rattle.set_params.specs.declared.Params.{Params}
 use Rattle.set_refusal.specs.declared.Refusal.{Refusal}
 use Rattle.set_refusal.specs.declared.Refusal.the-variants.{Accepted, OutOfLimits, LogForceOutOfRange}
@@ -24,14 +25,15 @@ use Rattle.quote_paths.specs.declared.Part.{Part}
 use Rattle.quote_paths.specs.code.Code.{IsPart}
 use Rattle.quote_factors.specs.code.Code.{PartWithin}
 use Rattle.quote_kinds.specs.declared.Kind.{Kind}
-use Rattle.quote_kinds.specs.Kinds.{ruleOf, countOf, spanOf, partOf}
+use Rattle.quote_kinds.specs.Kinds.{ruleOf, countOf, stepOf, spanOf, partOf}
 use Rattle.quote_table_tests.specs.TableTests.{ageInTable, yearInTable, dateInTable, spanInTable, rateInTable, Test, firstFailed, tableTests}
 use Rattle.quote_table_tests.specs.laws.TableLaws.{InTable}
 use Rattle.quote_along.specs.declared.Quote.{Quote}
 use Rattle.quote_along.specs.declared.Answer.{Answer}
 use Rattle.quote_along.specs.declared.Answer.the-variants.{Quoted, Refused}
-use Rattle.quote_along.specs.code.Code.{pathAnswer}
+use Rattle.quote_along.specs.code.Code.{inRangeOr, quoteFor, pathQuote}
 use Rattle.quote.specs.Quote.{queryPath, queryEnds, quoteOf, refusalOf, answerBy, answerOf}
+use Rattle.quote.specs.code.Code.{answerFor}
 use Rattle.quote.specs.Demand.{Demand3}
 use Rattle.quote.specs.laws.Theorem.{demand-met}
 use Rattle.quote.specs.laws.Tests.{kind-within, Counted, part-within, part-after}
@@ -72,7 +74,7 @@ module _ (p : Params) (k : Kind) (age year term : ℤ) where
 
   -- the table has it, so the cells decide
   pub cells-decide : T (inLimits p) → InTable (p .start) (ruleOf k) age year term
-      → refusalOf p k age year term ≡ cond (pathInRange p (queryPath (p .start) k age year term)) Accepted LogForceOutOfRange
+      → refusalOf p k age year term ≡ cond (pathInRange billionths p (queryPath (p .start) k age year term)) Accepted LogForceOutOfRange
   unfolding refusalOf firstFailed tableTests
   cells-decide t h =
       rw (
@@ -86,16 +88,21 @@ module _ (p : Params) (k : Kind) (age year term : ℤ) where
 
 -- ---- the answer to a query, by that along its path
 
-decided : (b : Bool) (q : Quote) → cond b (Quoted q) (Refused LogForceOutOfRange) ≡ answerBy (cond b Accepted LogForceOutOfRange) q
-unfolding answerBy refusalNumber
+decided : (b : Bool) (q : Quote) → inRangeOr b q ≡ answerBy (cond b Accepted LogForceOutOfRange) q
+unfolding inRangeOr answerBy refusalNumber
 decided true q = refl
 decided false q = refl
 
-pub along-answer : (p : Params) (k : Kind) (age year term : ℤ) → T (inLimits p) → InTable (p .start) (ruleOf k) age year term
-    → pathAnswer p (ruleOf k .fold) (queryPath (p .start) k age year term) ≡ answerOf p k age year term
-unfolding pathAnswer answerOf quoteOf queryEnds
-along-answer p k age year term t h =
-    rw (cells-decide p k age year term t h) (decided (pathInRange p (queryPath (p .start) k age year term)) (quoteOf p k age year term))
+pub along-answer : (again : Bool) (p : Params) (k : Kind) (age year term : ℤ) → T (inLimits p) → InTable (p .start) (ruleOf k) age year term
+    → pathQuote again p (ruleOf k .fold) (queryPath (p .start) k age year term) ≡ answerFor again p k age year term
+unfolding pathQuote answerFor queryEnds
+along-answer again p k age year term t h =
+    rw (cells-decide p k age year term t h) (decided (pathInRange billionths p (queryPath (p .start) k age year term)) _)
+
+-- with an open figure worked again it is the definition's
+pub for-again : (p : Params) (k : Kind) (age year term : ℤ) → answerFor true p k age year term ≡ answerOf p k age year term
+unfolding answerFor quoteFor answerOf quoteOf
+for-again p k age year term = refl
 
 -- the years of a kind
 pub years-under : (k : Kind) → Under (ruleOf k .years) lastYears
@@ -117,12 +124,14 @@ pub number-none : refusalNumber Accepted ≡ 0
 unfolding refusalNumber
 number-none = refl
 
-pub table-answer : (p : Params) (k : Kind) (age year term : ℤ) {r : Refusal} → T (inLimits p)
-    → r ≡ firstFailed (tableTests (p .start) (ruleOf k) age year term) → (refusalNumber r ≡ 0 → ⊥) → Refused r ≡ answerOf p k age year term
-unfolding answerOf
-table-answer p k age year term {r} t e n =
-    refused r (quoteOf p k age year term) n
-    ∙ ap (λ (s : Refusal). answerBy s (quoteOf p k age year term))
+pub table-answer : (again : Bool) (p : Params) (k : Kind) (age year term : ℤ) {r : Refusal} → T (inLimits p)
+    → r ≡ firstFailed (tableTests (p .start) (ruleOf k) age year term) → (refusalNumber r ≡ 0 → ⊥)
+    → Refused r ≡ answerFor again p k age year term
+unfolding answerFor
+table-answer again p k age year term {r} t e n =
+    let q = quoteFor again (stepOf (ruleOf k .fold)) (queryEnds p k age year term) in
+    refused r q n
+    ∙ ap (λ (s : Refusal). answerBy s q)
     (e ∙ sym (table-refuses p k age year term t (λ a. n (ap refusalNumber (e ∙ a) ∙ number-none))))
 
 -- ---- the part of a year after the path, as the code has it

@@ -1,9 +1,11 @@
 -- What an answer reports, and what is promised of it (paper 01, "Figures on offer" and "The exact value").
 use mathlib.Core.Path.{_≡_}
 use mathlib.Core.Logic.{_↔_}
-use Prim.Native.Nat.{ℕ, _+_, _≤_}
+use Prim.Native.Nat.{ℕ, _+_, _*_, _≤_}
 use lib.IntN.{ℤ, natAbs}
-use Rattle.number_exponential.specs.Billionths.{billionths}
+use Rattle.number_exponential.specs.Units.{billionths, gridOf, widthTimes}
+use Rattle.number_exponential.specs.declared.GridUnit.{GridUnit}
+use Rattle.number_exponential.specs.declared.GridUnit.the-variants.{Coarse, Fine}
 use Rattle.number_exponential.specs.Grid.{inUnits}
 use Rattle.number_exponential.specs.declared.Ends.{Ends}
 use Rattle.set_params.specs.declared.Params.{Params}
@@ -43,30 +45,40 @@ unfoldable pub upperOf : Answer → ℕ
 upperOf (Quoted q) = q .upper
 upperOf (Refused r) = 0
 
+-- "a refusal's is 10^-9"
+unfoldable pub unitOf : Answer → GridUnit
+unitOf (Quoted q) = q .unit
+unitOf (Refused r) = Coarse
+
 unfoldable pub figureShown : Answer → Shown
 figureShown (Quoted q) = shownOf (q .figure)
 figureShown (Refused r) = noFigure
 
 -- ---- what is promised of an answer
 
--- of an accepted quote, by its ends e on the grid, its exact value x, the units s in a step of its figure, and how far apart its
--- ends may lie, w: the ends are the grid's; the exact value is at least the lower one and at most the upper one, which lie no
--- further apart than w; its brackets are those of one number, since any two agree and they narrow past any whole fraction; and
--- the figure is open exactly when the two ends round half up to different steps
-pub record KeptBy (e : Ends) (x : Exact) (s w : ℕ) (a : Answer) : Type 0 where
-  pub of-grid : (lowerOf a ≡ e .lower) × (upperOf a ≡ e .upper)
-  pub at-least : AtLeast x (inUnits billionths (lowerOf a))
-  pub at-most : AtMost x (inUnits billionths (upperOf a))
-  pub width : upperOf a ≤ lowerOf a + w
+-- two ends in a unit round half up to different steps, of s units of 10^-9
+abbrev pub LeftOpen : ℕ → GridUnit → ℕ → ℕ → Type 0
+LeftOpen s u l h = halfUp (s * gridOf u .scale) l ≡ halfUp (s * gridOf u .scale) h → ⊥
+
+-- of an accepted quote, by its ends e in each unit, its exact value x, and in units of 10^-9 the step of its figure, s, and how far
+-- apart its ends may lie, w: the ends are those of its unit, the fine one exactly when the coarse ends leave the figure open, lie no
+-- further apart than w, in the fine unit a thousandth of it, and the exact value between them; its brackets are those of one number,
+-- since any two agree and they narrow past any whole fraction; and the figure is open exactly when its ends leave it so
+pub record KeptBy (e : GridUnit → Ends) (x : Exact) (s w : ℕ) (a : Answer) : Type 0 where
+  pub of-grid : (lowerOf a ≡ e (unitOf a) .lower) × (upperOf a ≡ e (unitOf a) .upper)
+  pub fine-when : (unitOf a ≡ Fine) ↔ LeftOpen s Coarse (e Coarse .lower) (e Coarse .upper)
+  pub at-least : AtLeast x (inUnits (gridOf (unitOf a)) (lowerOf a))
+  pub at-most : AtMost x (inUnits (gridOf (unitOf a)) (upperOf a))
+  pub width : upperOf a ≤ lowerOf a + widthTimes (unitOf a) * w
   pub agrees : Agrees x
   pub narrows : Narrows x
-  pub open-when : (figureShown a ≡ markedOpen) ↔ (halfUp s (lowerOf a) ≡ halfUp s (upperOf a) → ⊥)
+  pub open-when : (figureShown a ≡ markedOpen) ↔ LeftOpen s (unitOf a) (lowerOf a) (upperOf a)
 
 -- of any answer: it has the number of its refusal r, and 0 where it is accepted; refused, it has ends 0 and 0 and no figure;
 -- accepted, it is kept; and a printed figure is the exact value rounded half up
-pub record Promised (r : Refusal) (e : Ends) (x : Exact) (s w : ℕ) (a : Answer) : Type 0 where
+pub record Promised (r : Refusal) (e : GridUnit → Ends) (x : Exact) (s w : ℕ) (a : Answer) : Type 0 where
   pub number : numberOf a ≡ refusalNumber r
-  pub refused : (numberOf a ≡ 0 → ⊥) → (lowerOf a ≡ 0) × (upperOf a ≡ 0) × (figureShown a ≡ noFigure)
+  pub refused : (numberOf a ≡ 0 → ⊥) → (unitOf a ≡ Coarse) × (lowerOf a ≡ 0) × (upperOf a ≡ 0) × (figureShown a ≡ noFigure)
   pub kept : numberOf a ≡ 0 → KeptBy e x s w a
   pub rounds : (n : ℕ) → figureShown a ≡ printed n → RoundsTo billionths s n x
 

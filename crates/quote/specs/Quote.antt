@@ -6,7 +6,8 @@ use Prim.Native.Nat.{ℕ, _+_}
 use lib.Dec.{eqb}
 use lib.IntN.{ℤ, natAbs}
 use Rattle.number_exponential.specs.declared.Ends.{Ends}
-use Rattle.number_exponential.specs.Billionths.{billionths}
+use Rattle.number_exponential.specs.Units.{billionths, gridOf}
+use Rattle.number_exponential.specs.declared.GridUnit.{GridUnit}
 use Rattle.set_params.specs.declared.Params.{Params}
 use Rattle.set_refusal.specs.declared.Refusal.{Refusal}
 use Rattle.set_refusal.specs.declared.Refusal.the-variants.{OutOfLimits, LogForceOutOfRange}
@@ -14,13 +15,13 @@ use Rattle.set_refusal.specs.Refusals.{refusalNumber}
 use Rattle.set_limits.specs.InLimits.{inLimits}
 use Rattle.set_params.specs.Set.{yearNumber}
 use Rattle.number_exact.specs.Value.{Exact}
-use Rattle.number_exact.specs.Figure.{figureOf}
 use Rattle.quote_paths.specs.Path.{Place, pathOf, partYear, pathInRange}
 use Rattle.quote_paths.specs.Values.{gridValue, exactValue}
 use Rattle.quote_kinds.specs.declared.Kind.{Kind}
 use Rattle.quote_kinds.specs.Kinds.{ruleOf, countOf, stepOf, spanOf, partOf}
 use Rattle.quote_table_tests.specs.TableTests.{firstFailed, tableTests}
 use Rattle.quote_along.specs.declared.Quote.{Quote}
+use Rattle.quote_along.specs.QuoteBy.{quoteBy}
 use Rattle.quote_along.specs.declared.Answer.{Answer}
 use Rattle.quote_along.specs.declared.Answer.the-variants.{Quoted, Refused}
 
@@ -34,8 +35,8 @@ queryPath start kind age year term =
     let k = countOf (r .fold) n (natAbs (spanOf r year term)) in
     pathOf (r .cohort) (natAbs age) n k ++ partYear (natAbs age + k) (n + k) (partOf r term)
 
-unfoldable pub queryEnds : Params → Kind → ℤ → ℤ → ℤ → Ends
-queryEnds p kind age year term = gridValue (ruleOf kind .fold) billionths p (queryPath (p .start) kind age year term)
+unfoldable pub queryEnds : Params → Kind → ℤ → ℤ → ℤ → GridUnit → Ends
+queryEnds p kind age year term u = gridValue (ruleOf kind .fold) (gridOf u) p (queryPath (p .start) kind age year term)
 
 unfoldable pub exactQuery : Params → Kind → ℤ → ℤ → ℤ → Exact
 exactQuery p kind age year term = exactValue (ruleOf kind .fold) p (queryPath (p .start) kind age year term)
@@ -47,11 +48,7 @@ unfoldable pub refusalOf : Params → Kind → ℤ → ℤ → ℤ → Refusal
 refusalOf p kind age year term =
     firstFailed
     (record { passed = inLimits p; refusal = OutOfLimits } ∷ tableTests (p .start) (ruleOf kind) age year term
-    ++ (record { passed = pathInRange p (queryPath (p .start) kind age year term); refusal = LogForceOutOfRange } ∷ []))
-
--- the quote of two ends, with its figure in steps of so many units
-abbrev pub quoteBy : ℕ → Ends → Quote
-quoteBy s e = record { lower = e .lower; upper = e .upper; figure = figureOf s e }
+    ++ (record { passed = pathInRange billionths p (queryPath (p .start) kind age year term); refusal = LogForceOutOfRange } ∷ []))
 
 unfoldable pub quoteOf : Params → Kind → ℤ → ℤ → ℤ → Quote
 quoteOf p kind age year term = quoteBy (stepOf (ruleOf kind .fold)) (queryEnds p kind age year term)

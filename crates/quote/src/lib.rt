@@ -8,7 +8,7 @@ ghost use Rattle.set_refusal.specs.declared.Refusal.the-variants.{Accepted};
 ghost use Rattle.quote_kinds.specs.Kinds.{ruleOf};
 ghost use Rattle.quote_table_tests.specs.TableTests.{firstFailed, tableTests};
 ghost use Rattle.quote.specs.Quote.{answerOf};
-ghost use Rattle.quote.specs.code.Code.{pathTo};
+ghost use Rattle.quote.specs.code.Code.{pathTo, answerFor};
 ghost use Rattle.quote.specs.Demand.{Demand3};
 use quote_along::Answer;
 use quote_kinds::Kind;
@@ -33,10 +33,10 @@ pub fn path_to(start: i64, kind: Kind, age: i64, year: i64, term: i64) -> Path
     }
 }
 
-// The answer to a query of a set in its limits.
-pub fn quote_within(p: Params, kind: Kind, age: i64, year: i64, term: i64) -> Answer
+// The answer to a query of a set in its limits, by its coarse ends alone or, again, with an open figure worked on the fine grid.
+pub fn answer_within(again: bool, p: Params, kind: Kind, age: i64, year: i64, term: i64) -> Answer
     requires { ⌜ T (inLimits p) ⌝ }
-    ensures { λ r. ⌜ r ≡ answerOf p kind age year term ⌝ }
+    ensures { λ r. ⌜ r ≡ answerFor again p kind age year term ⌝ }
 {
     let rule = quote_kinds::rule_of(kind);
     let refusal = quote_table_tests::table_refusal(p.start, rule, age, year, term);
@@ -45,7 +45,15 @@ pub fn quote_within(p: Params, kind: Kind, age: i64, year: i64, term: i64) -> An
     }
     let fold = rule.fold;
     let path = path_to(p.start, kind, age, year, term);
-    quote_along::answer_along(p, fold, path, quote_kinds::part_of(rule, term))
+    quote_along::quote_along(again, p, fold, path, quote_kinds::part_of(rule, term))
+}
+
+// The answer to a query of a set in its limits.
+pub fn quote_within(p: Params, kind: Kind, age: i64, year: i64, term: i64) -> Answer
+    requires { ⌜ T (inLimits p) ⌝ }
+    ensures { λ r. ⌜ r ≡ answerOf p kind age year term ⌝ }
+{
+    answer_within(true, p, kind, age, year, term)
 }
 
 // The answer to any query.

@@ -1,1 +1,3 @@
+pub mod QuoteBy
 pub mod code
+pub mod laws

@@ -1,12 +1,15 @@
--- Two quotes compared by their ends: the first is below the second or above it, with the least and the most between them,
--- or near, with the most that they can differ by. Beside it stand the two figures. And what that says of the exact values.
+-- Two quotes compared by their ends, in the finer of their units: the first is below the second or above it, with the least and the
+-- most between them, or near, with the most that they can differ by; beside it the two figures. And what that says of exact values.
 use mathlib.Core.Bool.{cond}
-use Prim.Native.Nat.{ℕ, _-_, _≤_, _<_, max}
+use Prim.Native.Nat.{ℕ, _*_, _-_, _/_, _≤_, _<_, max}
 use lib.Dec.{ltb}
 use Rattle.number_fraction.specs.Ratio.{_</_, _+/_}
 use Rattle.number_taylor.specs.Order.{leastOrder}
 use Rattle.number_exponential.specs.Grid.{Grid, inUnits}
 use Rattle.number_exponential.specs.declared.Ends.{Ends}
+use Rattle.number_exponential.specs.declared.GridUnit.{GridUnit}
+use Rattle.number_exponential.specs.declared.GridUnit.the-variants.{Coarse, Fine}
+use Rattle.number_exponential.specs.Units.{gridOf}
 use Rattle.number_exact.specs.Value.{Exact, AtLeast, AtMost}
 use Rattle.quote_along.specs.declared.Quote.{Quote}
 use Rattle.quote_along.specs.declared.Answer.{Answer}
@@ -14,6 +17,7 @@ use Rattle.quote_along.specs.declared.Answer.the-variants.{Quoted, Refused}
 use Rattle.quote_compare.specs.declared.Excess.{Excess}
 use Rattle.quote_compare.specs.declared.Values.{Values}
 use Rattle.quote_compare.specs.declared.Values.the-variants.{Below, Above, Near}
+use Rattle.quote_compare.specs.declared.Pair.{Pair}
 use Rattle.quote_compare.specs.declared.Comparison.{Comparison}
 use Rattle.quote_compare.specs.declared.Comparison.the-variants.{Compared, NotCompared}
 
@@ -34,16 +38,28 @@ valuesOf a b =
     cond (ltb (a .upper) (b .lower)) (Below (excess a b))
     (cond (ltb (b .upper) (a .lower)) (Above (excess b a)) (Near (mostApart a b)))
 
--- the ends of a quote
-unfoldable pub quotedEnds : Quote → Ends
-quotedEnds q = record { lower = q .lower; upper = q .upper }
+-- the finer of two units
+unfoldable pub finer : GridUnit → GridUnit → GridUnit
+finer Coarse u = u
+finer Fine u = Fine
 
--- of two answers: a refusal, the first's or, if it has none, the second's; and else the two figures and the values
+-- the ends of a quote in a unit no coarser than its own: each times how many of that unit make one of its own
+unfoldable pub endsIn : GridUnit → Quote → Ends
+endsIn u q =
+    let times = gridOf u .scale / gridOf (q .unit) .scale in
+    record { lower = q .lower * times; upper = q .upper * times }
+
+-- of two quotes: the two figures, and the values in the finer unit
+unfoldable pub pairOf : Quote → Quote → Pair
+pairOf q q′ =
+    let u = finer (q .unit) (q′ .unit) in
+    record { first = q .figure; second = q′ .figure; values = valuesOf (endsIn u q) (endsIn u q′); unit = u }
+
+-- of two answers: a refusal, the first's or, if it has none, the second's; and else the two quotes compared
 unfoldable pub comparisonOf : Answer → Answer → Comparison
 comparisonOf (Refused r) b = NotCompared r
 comparisonOf (Quoted q) (Refused r) = NotCompared r
-comparisonOf (Quoted q) (Quoted q′) =
-    Compared (record { first = q .figure; second = q′ .figure; values = valuesOf (quotedEnds q) (quotedEnds q′) })
+comparisonOf (Quoted q) (Quoted q′) = Compared (pairOf q q′)
 
 -- ---- what below, above and near say of two exact values, whatever they are the values of
 

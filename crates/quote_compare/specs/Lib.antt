@@ -1,3 +1,4 @@
 pub mod Compare
+pub mod code
 pub mod laws
 pub mod examples

@@ -1,3 +1,5 @@
+pub mod UnitLaws
 pub mod CompareLaws
 pub mod MeaningLaws
+pub mod SmallLaws
 pub mod Theorem

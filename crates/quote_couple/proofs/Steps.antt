@@ -8,6 +8,7 @@ use lib.Dec.{T}
 use lib.Ieee.Bits.{is-true}
 use lib.IntN.{ℤ}
 use Rattle.number_fraction.specs.Ratio.{whole/}
+use Rattle.number_exponential.specs.Units.{billionths}
 use Rattle.set_params.specs.declared.Params.{Params}
 use Rattle.set_limits.specs.InLimits.{inLimits}
 use Rattle.set_refusal.specs.declared.Refusal.{Refusal}
@@ -22,14 +23,16 @@ use Rattle.quote_couple_kinds.specs.CoupleKinds.{singleOf}
 use Rattle.quote_table_tests.specs.TableTests.{ageInTable, yearInTable, spanInTable, firstFailed, tableTests}
 use Rattle.quote_table_tests.specs.laws.TableLaws.{in-table}
 use Rattle.quote_along.specs.declared.Quote.{Quote}
+use Rattle.quote_along.specs.QuoteBy.{quoteBy}
+use Rattle.quote_along.specs.code.Code.{inRangeOr}
 use Rattle.quote_along.specs.declared.Answer.{Answer}
-use Rattle.quote_along.specs.declared.Answer.the-variants.{Quoted, Refused}
-use Rattle.quote.specs.Quote.{queryPath, quoteBy, answerBy}
+use Rattle.quote_along.specs.declared.Answer.the-variants.{Refused}
+use Rattle.quote.specs.Quote.{queryPath, answerBy}
 use Rattle.quote.specs.code.Code.{pathTo}
 use Rattle.quote.specs.laws.Tests.{counted, path-first, path-room, path-in}
 use Rattle.quote.proofs.Steps.{refused, failed-append, first-passed, number-none}
 use Rattle.quote_couple.specs.Couple.{lifePath, coupleEnds, coupleTable, coupleRefusal, coupleStep, coupleAnswer}
-use Rattle.quote_couple.specs.code.Code.{pathsAnswer}
+use Rattle.quote_couple.specs.code.Code.{pathsQuote}
 use Rattle.quote_couple.specs.Couple.{CoupleDemand3}
 use Rattle.quote_couple.specs.laws.Theorem.{demand-met}
 use Rattle.quote_couple.specs.laws.CoupleTests.{CoupleIn, same-starts, other-starts}
@@ -54,9 +57,8 @@ path-within p k age year span l e =
 -- ---- the answer
 
 decided : (a b : Bool) (q : Quote)
-    → cond (a && b) (Quoted q) (Refused LogForceOutOfRange)
-    ≡ answerBy (cond a (cond b Accepted LogForceOutOfRange) LogForceOutOfRange) q
-unfolding answerBy refusalNumber
+    → inRangeOr (a && b) q ≡ answerBy (cond a (cond b Accepted LogForceOutOfRange) LogForceOutOfRange) q
+unfolding inRangeOr answerBy refusalNumber
 decided true true q = refl
 decided true false q = refl
 decided false b q = refl
@@ -102,8 +104,8 @@ module _ (p p′ : Params) (k : CoupleKind) (age age′ year span : ℤ) where
       -- the table has it, so the cells decide
       cells-decide : CoupleIn (p .start) (ruleOf (singleOf k)) age age′ year span
           → coupleRefusal p p′ k age age′ year span
-          ≡ cond (pathInRange p (lifePath p k age year span))
-          (cond (pathInRange p′ (lifePath p′ k age′ year span)) Accepted LogForceOutOfRange) LogForceOutOfRange
+          ≡ cond (pathInRange billionths p (lifePath p k age year span))
+          (cond (pathInRange billionths p′ (lifePath p′ k age′ year span)) Accepted LogForceOutOfRange) LogForceOutOfRange
       unfolding coupleRefusal coupleTable firstFailed
       cells-decide h =
           rw (
@@ -118,11 +120,11 @@ module _ (p p′ : Params) (k : CoupleKind) (age age′ year span : ℤ) where
           )
 
       pub along-answer : CoupleIn (p .start) (ruleOf (singleOf k)) age age′ year span
-          → pathsAnswer p p′ k (lifePath p k age year span) (lifePath p′ k age′ year span)
+          → pathsQuote p p′ k (lifePath p k age year span) (lifePath p′ k age′ year span)
           ≡ coupleAnswer p p′ k age age′ year span
-      unfolding pathsAnswer coupleAnswer coupleEnds quote
+      unfolding pathsQuote coupleAnswer coupleEnds quote
       along-answer h =
-          decided (pathInRange p (lifePath p k age year span)) (pathInRange p′ (lifePath p′ k age′ year span)) quote
+          decided (pathInRange billionths p (lifePath p k age year span)) (pathInRange billionths p′ (lifePath p′ k age′ year span)) quote
           ∙ ap (λ (r : Refusal). answerBy r quote) (sym (cells-decide h))
 
 -- an answer that is the definition's meets demand 3

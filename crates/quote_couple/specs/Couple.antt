@@ -8,7 +8,8 @@ use Prim.Native.Nat.{ℕ}
 use lib.IntN.{ℤ, natAbs}
 use lib.Signed.{leZ}
 use Rattle.number_exponential.specs.declared.Ends.{Ends}
-use Rattle.number_exponential.specs.Billionths.{billionths}
+use Rattle.number_exponential.specs.Units.{billionths, gridOf}
+use Rattle.number_exponential.specs.declared.GridUnit.{GridUnit}
 use Rattle.number_exact.specs.Value.{Exact, OneStep}
 use Rattle.set_params.specs.declared.Params.{Params}
 use Rattle.set_refusal.specs.declared.Refusal.{Refusal}
@@ -23,7 +24,8 @@ use Rattle.quote_two_lives.specs.TwoLives.{coupleOver}
 use Rattle.quote_two_lives.specs.Exact.{orderCoupleOver}
 use Rattle.quote_table_tests.specs.TableTests.{Test, ageInTable, yearInTable, spanInTable, firstFailed}
 use Rattle.quote_along.specs.declared.Answer.{Answer}
-use Rattle.quote.specs.Quote.{queryPath, quoteBy, answerBy}
+use Rattle.quote_along.specs.QuoteBy.{quoteBy}
+use Rattle.quote.specs.Quote.{queryPath, answerBy}
 use Rattle.quote.specs.Demand.{printed, figureShown, Promised}
 
 -- ---- the paths, the ends and the exact value
@@ -32,9 +34,10 @@ use Rattle.quote.specs.Demand.{printed, figureShown, Promised}
 abbrev pub lifePath : Params → CoupleKind → ℤ → ℤ → ℤ → List Place
 lifePath p k age year span = queryPath (p .start) (singleOf k) age year span
 
-unfoldable pub coupleEnds : Params → Params → CoupleKind → ℤ → ℤ → ℤ → ℤ → Ends
-coupleEnds p p′ k age age′ year span =
-    coupleOver k billionths (factors billionths p (lifePath p k age year span)) (factors billionths p′ (lifePath p′ k age′ year span))
+unfoldable pub coupleEnds : Params → Params → CoupleKind → ℤ → ℤ → ℤ → ℤ → GridUnit → Ends
+coupleEnds p p′ k age age′ year span u =
+    let g = gridOf u in
+    coupleOver k g (factors g p (lifePath p k age year span)) (factors g p′ (lifePath p′ k age′ year span))
 
 -- "the same formula over the two lives' exact survivals"
 unfoldable pub exactCouple : Params → Params → CoupleKind → ℤ → ℤ → ℤ → ℤ → Exact
@@ -65,8 +68,8 @@ coupleRefusal p p′ k age age′ year span =
     firstFailed
     (test (inLimits p) OutOfLimits ∷ test (inLimits p′) OutOfLimits ∷ test (sameStart p p′) StartsDiffer
     ∷ coupleTable (p .start) (ruleOf (singleOf k)) age age′ year span
-    ++ (test (pathInRange p (lifePath p k age year span)) LogForceOutOfRange
-    ∷ test (pathInRange p′ (lifePath p′ k age′ year span)) LogForceOutOfRange ∷ []))
+    ++ (test (pathInRange billionths p (lifePath p k age year span)) LogForceOutOfRange
+    ∷ test (pathInRange billionths p′ (lifePath p′ k age′ year span)) LogForceOutOfRange ∷ []))
 
 -- ---- the answer
 

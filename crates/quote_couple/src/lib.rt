@@ -1,15 +1,16 @@
 // Quotes of couples: any two sets, kind, ages, year and span give the two ends of the figure with the figure itself, or one numbered
-// refusal.
+// refusal. A figure that the coarse ends leave open is worked again on the fine grid.
 ghost use mathlib.Core.Path.{_≡_};
 ghost use lib.Dec.{T};
 ghost use Rattle.number_whole.specs.code.Sizes.{Under};
+ghost use Rattle.number_exponential.specs.code.Flag.{unitBy};
 ghost use Rattle.set_limits.specs.InLimits.{inLimits};
 ghost use Rattle.set_params.specs.Limits.{lastYears};
 ghost use Rattle.set_params.specs.code.Within.{StartWithin};
 ghost use Rattle.quote_walks.specs.code.Code.{PathWithin, pathIs};
 ghost use Rattle.quote_table_tests.specs.TableTests.{firstFailed};
 ghost use Rattle.quote_couple.specs.Couple.{coupleTable, coupleAnswer, CoupleDemand3};
-ghost use Rattle.quote_couple.specs.code.Code.{pathsAnswer, Plain};
+ghost use Rattle.quote_couple.specs.code.Code.{pathsAnswer, pathsQuote, Plain};
 use quote_along::Answer;
 use quote_along::Quote;
 use quote_couple_kinds::CoupleKind;
@@ -28,30 +29,51 @@ fn table_refusal(start: i64, rule: Rule, age: i64, other: i64, year: i64, span: 
     set_refusal::lower_refusal(one, two)
 }
 
-// The quote along the paths of the two lives, or the refusal of a cell out of range.
-fn answer_along(first: Params, second: Params, kind: CoupleKind, path: Path, other: Path) -> Answer
+// The quote along the paths of the two lives on one grid, or the refusal of a cell that is out of range there.
+fn answer_on(
+    fine: bool,
+    first: Params,
+    second: Params,
+    kind: CoupleKind,
+    path: Path,
+    other: Path,
+) -> Answer
     requires { ⌜ PathWithin first path × PathWithin second other × (path .count ≡ other .count) ⌝ }
-    ensures { λ r. ⌜ r ≡ pathsAnswer first second kind (pathIs path) (pathIs other) ⌝ }
+    ensures { λ r. ⌜ r ≡ pathsAnswer (unitBy fine) first second kind (pathIs path) (pathIs other) ⌝ }
 {
-    let one = quote_factors::factors_of(first, path);
+    let one = quote_factors::factors_of(fine, first, path);
     if !one.ok {
         return Answer::Refused(Refusal::LogForceOutOfRange);
     }
-    let two = quote_factors::factors_of(second, other);
+    let two = quote_factors::factors_of(fine, second, other);
     if !two.ok {
         return Answer::Refused(Refusal::LogForceOutOfRange);
     }
     let ends = one.ends;
     let others = two.ends;
-    let e = quote_two_lives::couple_over(kind, ends, others, path.count);
+    let e = quote_two_lives::couple_over(fine, kind, ends, others, path.count);
     let rule = quote_kinds::rule_of(quote_couple_kinds::single_of(kind));
     let fold = rule.fold;
-    let figure = number_exact::figure_of(quote_kinds::step_of(fold), e.lower, e.upper);
+    let figure = number_exact::figure_of(quote_kinds::step_on(fine, fold), e.lower, e.upper);
+    let unit = number_exponential::named_unit(fine);
     Answer::Quoted(Quote {
+        unit,
         lower: e.lower,
         upper: e.upper,
         figure,
     })
+}
+
+// The quote along the paths of the two lives, worked again on the fine grid where its figure is open.
+fn couple_along(first: Params, second: Params, kind: CoupleKind, path: Path, other: Path) -> Answer
+    requires { ⌜ PathWithin first path × PathWithin second other × (path .count ≡ other .count) ⌝ }
+    ensures { λ r. ⌜ r ≡ pathsQuote first second kind (pathIs path) (pathIs other) ⌝ }
+{
+    let coarse = answer_on(false, first, second, kind, path, other);
+    if quote_along::is_left_open(true, coarse) {
+        return answer_on(true, first, second, kind, path, other);
+    }
+    coarse
 }
 
 // The answer to a query of two lives, each with a set in its limits.
@@ -78,7 +100,7 @@ pub fn couple_within(
     }
     let path = quote::path_to(first.start, single, age, year, span);
     let apart = quote::path_to(second.start, single, other, year, span);
-    answer_along(first, second, kind, path, apart)
+    couple_along(first, second, kind, path, apart)
 }
 
 // The answer to any query of two lives.

@@ -12,7 +12,7 @@ use lib.Seq.{take-suc-set}
 use borrow.Author.Tests.{ne-eqb}
 use Rattle.number_fraction.specs.Ratio.{Ratio}
 use Rattle.number_exponential.specs.declared.Ends.{Ends}
-use Rattle.number_exponential.specs.Billionths.{billionths}
+use Rattle.number_exponential.specs.Grid.{Grid}
 use Rattle.set_params.specs.declared.Params.{Params}
 use Rattle.model_mortality.specs.Cell.{forceOver, survival, neededInRange}
 use Rattle.model_cells.specs.declared.Cell.the-variants.{LogForceOutOfRange, Of}
@@ -28,16 +28,16 @@ use Rattle.quote_walks.specs.code.Code.{pathIs}
 use Rattle.quote_factors.specs.declared.Factors.{Factors}
 use Rattle.quote_factors.specs.code.Code.{FactorsOf, allPlaces, FactorsWith, AllFactorsOf}
 
-module _ (p : Params) (w : Path) (r : Part) where
+module _ (g : Grid) (p : Params) (w : Path) (r : Part) where
   count-is : length (pathIs w) ≡ w .count
   count-is = path-length (w .cohort) (w .age) (w .year) (w .count)
 
   -- ---- a cell of the path out of range
 
-  pub path-out : {es : List Ends} → pathInRange p (pathIs w) ≡ false → AllFactorsOf p w r (record { ok = false; ends = es })
+  pub path-out : {es : List Ends} → pathInRange g p (pathIs w) ≡ false → AllFactorsOf g p w r (record { ok = false; ends = es })
   path-out e part h =
-      let q = in-range-append p (pathIs w) (partYear (w .age + w .count) (w .year + w .count) part) in
-      record { ok = sym (q ∙ ap (λ (b : Bool). b && pathInRange p (partYear (w .age + w .count) (w .year + w .count) part)) e); ends = λ t. absurd t }
+      let q = in-range-append g p (pathIs w) (partYear (w .age + w .count) (w .year + w .count) part) in
+      record { ok = sym (q ∙ ap (λ (b : Bool). b && pathInRange g p (partYear (w .age + w .count) (w .year + w .count) part)) e); ends = λ t. absurd t }
 
   -- ---- no days
 
@@ -45,11 +45,11 @@ module _ (p : Params) (w : Path) (r : Part) where
   unfolding partYear
   none part e = rw e (append-nil (pathIs w))
 
-  pub no-part : {es : List Ends} → r .days ≡ 0 → FactorsOf p w (record { ok = true; ends = es })
-      → AllFactorsOf p w r (record { ok = true; ends = es })
+  pub no-part : {es : List Ends} → r .days ≡ 0 → FactorsOf g p w (record { ok = true; ends = es })
+      → AllFactorsOf g p w r (record { ok = true; ends = es })
   no-part z f part h =
       let e = none part (sym (h .days) ∙ z) in
-      record { ok = f .ok ∙ ap (pathInRange p) (sym e); ends = λ t. rw (e, count-is) (f .ends t) }
+      record { ok = f .ok ∙ ap (pathInRange g p) (sym e); ends = λ t. rw (e, count-is) (f .ends t) }
 
   -- ---- some days
 
@@ -63,38 +63,38 @@ module _ (p : Params) (w : Path) (r : Part) where
     one part h = rw (ne-eqb (part .num) 0 (λ z. some (h .days ∙ z)))
 
     abbrev needed : Bool
-    needed = neededInRange p (w .age + w .count) (w .year + w .count)
+    needed = neededInRange g p (w .age + w .count) (w .year + w .count)
 
-    range : (part : Ratio) → IsPart r part → pathInRange p (allPlaces w part) ≡ (pathInRange p (pathIs w) && needed)
+    range : (part : Ratio) → IsPart r part → pathInRange g p (allPlaces w part) ≡ (pathInRange g p (pathIs w) && needed)
     unfolding pathInRange
     range part h =
-        ap (pathInRange p) (one part h) ∙ in-range-append p (pathIs w) (last part ∷ [])
-        ∙ ap (λ (b : Bool). pathInRange p (pathIs w) && b) (and-true needed)
+        ap (pathInRange g p) (one part h) ∙ in-range-append g p (pathIs w) (last part ∷ [])
+        ∙ ap (λ (b : Bool). pathInRange g p (pathIs w) && b) (and-true needed)
 
-    pub part-out : {es : List Ends} → partCell p (w .age + w .count) (w .year + w .count) (r .days) (r .whole) ≡ LogForceOutOfRange
-        → AllFactorsOf p w r (record { ok = false; ends = es })
+    pub part-out : {es : List Ends} → partCell g p (w .age + w .count) (w .year + w .count) (r .days) (r .whole) ≡ LogForceOutOfRange
+        → AllFactorsOf g p w r (record { ok = false; ends = es })
     part-out q part h =
         let e = cell-gone needed _ q in
         record {
-          ok = sym (range part h ∙ ap (λ (b : Bool). pathInRange p (pathIs w) && b) e ∙ and-false (pathInRange p (pathIs w)));
+          ok = sym (range part h ∙ ap (λ (b : Bool). pathInRange g p (pathIs w) && b) e ∙ and-false (pathInRange g p (pathIs w)));
           ends = λ t. absurd t;
         }
 
     -- its factor
     factor : (part : Ratio) → IsPart r part → {e : Ends}
-        → partCell p (w .age + w .count) (w .year + w .count) (r .days) (r .whole) ≡ Of e
-        → e ≡ survival billionths p (w .age + w .count) (w .year + w .count) part
+        → partCell g p (w .age + w .count) (w .year + w .count) (r .days) (r .whole) ≡ Of e
+        → e ≡ survival g p (w .age + w .count) (w .year + w .count) part
     unfolding survival forceOver
     factor part h q = rw (← h .days, ← h .whole) (cell-there needed _ q .1)
 
-    pub with-part : {es : List Ends} {e : Ends} → w .count < length es → FactorsOf p w (record { ok = true; ends = es })
-        → partCell p (w .age + w .count) (w .year + w .count) (r .days) (r .whole) ≡ Of e
-        → AllFactorsOf p w r (record { ok = true; ends = set es (w .count) e })
+    pub with-part : {es : List Ends} {e : Ends} → w .count < length es → FactorsOf g p w (record { ok = true; ends = es })
+        → partCell g p (w .age + w .count) (w .year + w .count) (r .days) (r .whole) ≡ Of e
+        → AllFactorsOf g p w r (record { ok = true; ends = set es (w .count) e })
     unfolding factors
     with-part {es} {e} l f q part h =
         let t = is-true needed (cell-there needed _ q .0) in
         let k : length (pathIs w ++ (last part ∷ [])) ≡ suc (w .count) = length-append (pathIs w) (last part ∷ []) ∙ rw count-is (add-one (w .count)) in
         record {
           ok = sym (range part h ∙ rw (t, ← f .ok) refl);
-          ends = λ b. rw (one part h, k, take-suc-set es (w .count) e l, f .ends tt, factors-append billionths p (pathIs w) (last part ∷ []), factor part h q) refl;
+          ends = λ b. rw (one part h, k, take-suc-set es (w .count) e l, f .ends tt, factors-append g p (pathIs w) (last part ∷ []), factor part h q) refl;
         }

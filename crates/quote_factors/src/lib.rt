@@ -1,9 +1,10 @@
-// The factors of a path on the grid of 10^-9: p's ends at each of its cells, into an array by value. The ages to 90 come
+// The factors of a path on a grid: p's ends at each of its cells, into an array by value. The ages to 90 come
 // first, then those above, whose H are worked once a year. A cell that no factor needs is not worked, and in one calendar year
 // the cell of age 120 is worked once, however many factors use it.
 ghost use mathlib.Core.Path.{_≡_};
 ghost use Prim.Native.Nat.{_-_, _≤_, _<_, min};
 ghost use lib.Dec.{T};
+ghost use Rattle.number_exponential.specs.code.Flag.{gridBy};
 ghost use Rattle.model_closure.specs.Weights.{firstClosed, lastClosed};
 ghost use Rattle.quote_walks.specs.code.Code.{PathWithin, WalkOf};
 ghost use Rattle.quote_factors.specs.code.Code.{workedCells, Begun, Repeated, FactorsOf, PartWithin, AllFactorsOf};
@@ -65,9 +66,9 @@ fn repeated(ends: [Ends; MOST_FACTORS], done: usize, count: usize) -> [Ends; MOS
 }
 
 // The factors at ages above 90, after those to 90.
-fn old_factors(p: Params, path: Path, walk: Walk) -> Factors
-    requires { ⌜ PathWithin p path × WalkOf p path walk × T (walk .ok) × (walk .done < path .count) ⌝ }
-    ensures { λ r. ⌜ FactorsOf p path r ⌝ }
+fn old_factors(fine: bool, p: Params, path: Path, walk: Walk) -> Factors
+    requires { ⌜ PathWithin p path × WalkOf (gridBy fine) p path walk × T (walk .ok) × (walk .done < path .count) ⌝ }
+    ensures { λ r. ⌜ FactorsOf (gridBy fine) p path r ⌝ }
 {
     let cohort = path.cohort;
     let age = path.age;
@@ -82,19 +83,19 @@ fn old_factors(p: Params, path: Path, walk: Walk) -> Factors
     let mut done = walk.done;
     let mut ends = walk.ends;
     let mut year = walk.year;
-    let mut fitted = model_cells::fitted_in(&p.level, &p.slope, &p.alpha, &p.beta, year);
+    let mut fitted = model_cells::fitted_in(fine, &p.level, &p.slope, &p.alpha, &p.beta, year);
     while done < worked {
         let x = age + done;
         let row = table[closed_row(x)];
-        let Cell::Of(e) = model_cells::old_cell(row, fitted) else {
+        let Cell::Of(e) = model_cells::old_cell(fine, row, fitted) else {
             return Factors { ok: false, ends };
         };
         ends[done] = e;
         done += 1;
         let on = quote_walks::goes_on(cohort, done, count);
-        year = quote_walks::year_after(d, year, on);
+        year = quote_walks::year_after(fine, d, year, on);
         if on {
-            fitted = model_cells::fitted_in(&p.level, &p.slope, &p.alpha, &p.beta, year);
+            fitted = model_cells::fitted_in(fine, &p.level, &p.slope, &p.alpha, &p.beta, year);
         }
     }
     let all = repeated(ends, done, count);
@@ -105,27 +106,27 @@ fn old_factors(p: Params, path: Path, walk: Walk) -> Factors
 }
 
 // The factors of a path.
-pub fn factors_of(p: Params, path: Path) -> Factors
+pub fn factors_of(fine: bool, p: Params, path: Path) -> Factors
     requires { ⌜ PathWithin p path ⌝ }
-    ensures { λ r. ⌜ FactorsOf p path r ⌝ }
+    ensures { λ r. ⌜ FactorsOf (gridBy fine) p path r ⌝ }
 {
-    let walk = quote_walks::young_factors(p, path);
+    let walk = quote_walks::young_factors(fine, p, path);
     let ends = walk.ends;
     if !walk.ok {
         return Factors { ok: false, ends };
     }
     if walk.done < path.count {
-        return old_factors(p, path, walk);
+        return old_factors(fine, p, path, walk);
     }
     Factors { ok: true, ends }
 }
 
 // The factors of a path and, where it has days, of the part of a year after it.
-pub fn all_factors(p: Params, path: Path, part: Part) -> Factors
+pub fn all_factors(fine: bool, p: Params, path: Path, part: Part) -> Factors
     requires { ⌜ PathWithin p path × PartWithin path part ⌝ }
-    ensures { λ r. ⌜ AllFactorsOf p path part r ⌝ }
+    ensures { λ r. ⌜ AllFactorsOf (gridBy fine) p path part r ⌝ }
 {
-    let worked = factors_of(p, path);
+    let worked = factors_of(fine, p, path);
     let mut ends = worked.ends;
     if !worked.ok {
         return Factors { ok: false, ends };
@@ -135,6 +136,7 @@ pub fn all_factors(p: Params, path: Path, part: Part) -> Factors
     }
     let count = path.count;
     let Cell::Of(e) = model_part_year::part_cell(
+        fine,
         p,
         path.age + count,
         path.year + count as u64,

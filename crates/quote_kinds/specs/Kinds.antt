@@ -9,7 +9,7 @@ use lib.IntN.{ℤ, pos, natAbs, _-ℤ_}
 use Rattle.number_fraction.specs.Ratio.{Ratio, whole/}
 use Rattle.set_params.specs.Limits.{quoteYears, lastYears}
 use Rattle.model_closure.specs.Weights.{firstClosed, lastClosed}
-use Rattle.number_exact.specs.Figure.{probabilityStep, expectancyStep}
+use Rattle.number_exact.specs.Figure.{probabilityStep, expectancyStep, priceStep}
 use Rattle.quote_calendar.specs.Calendar.{dateYear, dayOfYear, yearDays}
 use Rattle.quote_kinds.specs.declared.Kind.{Kind}
 use Rattle.quote_kinds.specs.declared.Kind.the-variants as kind
@@ -95,18 +95,18 @@ countOf Survival n span = span
 countOf Expectancy n span = yearsOn n
 countOf (Annuity rate) n span = yearsOn n
 
--- "Steps are 0.00001 for probabilities and 0.1 for expectancies" and annuities: in units; "A probability prints five
--- decimals, an expectancy one."
+-- the step of a probability, of an expectancy and of a price, in units of 10^-9; "A probability prints five decimals", an
+-- expectancy two and a price one
 unfoldable pub stepOf : Fold → ℕ
 stepOf Death = probabilityStep
 stepOf Survival = probabilityStep
 stepOf Expectancy = expectancyStep
-stepOf (Annuity rate) = expectancyStep
+stepOf (Annuity rate) = priceStep
 
 unfoldable pub decimalsOf : Fold → ℕ
 decimalsOf Death = 5
 decimalsOf Survival = 5
-decimalsOf Expectancy = 1
+decimalsOf Expectancy = 2
 decimalsOf (Annuity rate) = 1
 
 -- "q to age 90, 100; q above, 600"

@@ -1,11 +1,11 @@
 // The kinds of figure, and what each takes of a path: one rule a kind, and a step and a fold for each of four figures.
 ghost use mathlib.Core.Path.{_≡_};
-ghost use Prim.Native.Nat.{_≤_};
+ghost use Prim.Native.Nat.{_*_, _≤_};
 ghost use lib.Dec.{T};
 ghost use lib.ListN.{take};
 ghost use Rattle.number_whole.specs.code.Sizes.{Under};
 ghost use Rattle.quote_calendar.specs.Calendar.{isDay};
-ghost use Rattle.number_exponential.specs.Billionths.{billionths};
+ghost use Rattle.number_exponential.specs.code.Flag.{gridBy};
 ghost use Rattle.model_closure.specs.Weights.{lastClosed};
 ghost use Rattle.number_folds.specs.code.Code.{Chances};
 ghost use Rattle.quote_paths.specs.Values.{foldOver};
@@ -16,8 +16,10 @@ ghost use Rattle.quote_paths.specs.code.Code.{IsPart};
 ghost use Rattle.quote_kinds.specs.code.Code.{RateWithin};
 use model_closure::LAST_CLOSED;
 use number_exact::EXPECTANCY_STEP;
+use number_exact::PRICE_STEP;
 use number_exact::PROBABILITY_STEP;
 use number_exponential::Ends;
+use number_exponential::FINE_SCALE;
 use number_folds::MOST_FACTORS;
 use quote_paths::Fold;
 use quote_paths::Part;
@@ -191,8 +193,19 @@ pub fn step_of(fold: Fold) -> u64
         Fold::Death => PROBABILITY_STEP,
         Fold::Survival => PROBABILITY_STEP,
         Fold::Expectancy => EXPECTANCY_STEP,
-        Fold::Annuity(_) => EXPECTANCY_STEP,
+        Fold::Annuity(_) => PRICE_STEP,
     }
+}
+
+// The units of a figure's step on a grid.
+pub fn step_on(fine: bool, fold: Fold) -> u64
+    ensures { λ r. ⌜ r ≡ stepOf fold * gridBy fine .scale ⌝ }
+{
+    let step = step_of(fold);
+    if fine {
+        return step * FINE_SCALE;
+    }
+    step
 }
 
 // The decimals that a figure prints.
@@ -202,20 +215,23 @@ pub fn decimals_of(fold: Fold) -> usize
     match fold {
         Fold::Death => 5,
         Fold::Survival => 5,
-        Fold::Expectancy => 1,
+        Fold::Expectancy => 2,
         Fold::Annuity(_) => 1,
     }
 }
 
 // The fold over the first `count` factors.
-pub fn folded(fold: Fold, factors: [Ends; MOST_FACTORS], count: usize) -> Ends
-    requires { ⌜ Chances factors count × RateWithin fold ⌝ }
-    ensures { λ r. ⌜ r ≡ foldOver fold billionths (take count factors) ⌝ }
+pub fn folded(fine: bool, fold: Fold, factors: [Ends; MOST_FACTORS], count: usize) -> Ends
+    requires { ⌜ Chances (gridBy fine) factors count × RateWithin fold ⌝ }
+    ensures { λ r. ⌜ r ≡ foldOver fold (gridBy fine) (take count factors) ⌝ }
 {
     match fold {
-        Fold::Death => model_force::death_of(number_folds::survival_over(factors, count)),
-        Fold::Survival => number_folds::survival_over(factors, count),
-        Fold::Expectancy => number_folds::expectancy_over(factors, count),
-        Fold::Annuity(rate) => number_annuity::annuity_over(factors, count, rate as u64),
+        Fold::Death => model_force::death_of(
+            fine,
+            number_folds::survival_over(fine, factors, count),
+        ),
+        Fold::Survival => number_folds::survival_over(fine, factors, count),
+        Fold::Expectancy => number_folds::expectancy_over(fine, factors, count),
+        Fold::Annuity(rate) => number_annuity::annuity_over(fine, factors, count, rate as u64),
     }
 }

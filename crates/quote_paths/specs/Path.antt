@@ -41,6 +41,6 @@ unfoldable pub orderFactors : Params → List Place → ℕ → List Bracket
 orderFactors p path j = map (λ (c : Place). orderSurvival p (c .age) (c .year) (c .part) j) path
 
 -- "A survival or expectancy needs those of all its factors; span 0 needs none."
-unfoldable pub pathInRange : Params → List Place → Bool
-pathInRange p [] = true
-pathInRange p (c ∷ path) = neededInRange p (c .age) (c .year) && pathInRange p path
+unfoldable pub pathInRange : Grid → Params → List Place → Bool
+pathInRange g p [] = true
+pathInRange g p (c ∷ path) = neededInRange g p (c .age) (c .year) && pathInRange g p path

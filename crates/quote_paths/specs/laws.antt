@@ -1,5 +1,6 @@
 pub mod Answers
 pub mod Oldest
+pub mod Facts
 pub mod Holds
 pub mod Narrowing
 pub mod OrdersAgree

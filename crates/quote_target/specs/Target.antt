@@ -7,9 +7,10 @@ use Prim.Native.Nat.{ℕ, zero, suc, _-_, _≤_, _<_}
 use lib.Dec.{eqb}
 use lib.IntN.{ℤ, pos, negsuc, _+ℤ_}
 use lib.Signed.{leZ}
-use Rattle.number_exponential.specs.Billionths.{billionths}
+use Rattle.number_exponential.specs.Units.{billionths}
 use Rattle.number_exponential.specs.Grid.{inUnits}
 use Rattle.number_exponential.specs.declared.Ends.{Ends}
+use Rattle.number_exponential.specs.declared.GridUnit.the-variants.{Coarse}
 use Rattle.number_exact.specs.Value.{Exact, AtLeast}
 use Rattle.set_params.specs.declared.Params.{Params}
 use Rattle.set_params.specs.Limits.{firstYears, quoteYears}
@@ -24,12 +25,13 @@ use Rattle.quote.specs.Quote.{queryPath, queryEnds, exactQuery}
 use Rattle.quote_target.specs.declared.TargetYear.{TargetYear}
 use Rattle.quote_target.specs.declared.TargetYear.the-variants.{Reached, Open, Never, Refused}
 
--- the period expectancy at an age in the year n after the start, and whether the cells that it needs are in range
+-- the period expectancy at an age in the year n after the start, of which "E9 still looks at coarse ends" (E11), and whether the
+-- cells that it needs are in range
 unfoldable pub periodEnds : Params → ℤ → ℕ → Ends
-periodEnds p age n = queryEnds p PeriodExpectancy age (p .start +ℤ pos n) (pos 0)
+periodEnds p age n = queryEnds p PeriodExpectancy age (p .start +ℤ pos n) (pos 0) Coarse
 
 unfoldable pub periodInRange : Params → ℤ → ℕ → Bool
-periodInRange p age n = pathInRange p (queryPath (p .start) PeriodExpectancy age (p .start +ℤ pos n) (pos 0))
+periodInRange p age n = pathInRange billionths p (queryPath (p .start) PeriodExpectancy age (p .start +ℤ pos n) (pos 0))
 
 -- an end is at or above the target
 unfoldable pub reaches : ℤ → ℕ → Bool

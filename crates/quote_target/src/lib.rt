@@ -44,7 +44,7 @@ fn year_tells(target: i64, e: Ends, year: i64, later: TargetYear) -> TargetYear
     TargetYear::Reached(year)
 }
 
-// The answer for a set in its limits: from the last quote year back to the first, so that every year is looked at.
+// The answer for a set in its limits, by coarse ends: from the last quote year back to the first, so that every year is looked at.
 pub fn target_within(p: Params, age: i64, target: i64) -> TargetYear
     requires { ⌜ T (inLimits p) ⌝ }
     ensures { λ r. ⌜ r ≡ targetAnswer p age target ⌝ }
@@ -56,7 +56,8 @@ pub fn target_within(p: Params, age: i64, target: i64) -> TargetYear
     let mut found = TargetYear::Never;
     while 0 < n {
         let year = p.start + n as i64;
-        let Answer::Quoted(q) = quote::quote_within(p, Kind::PeriodExpectancy, age, year, 0) else {
+        let answer = quote::answer_within(false, p, Kind::PeriodExpectancy, age, year, 0);
+        let Answer::Quoted(q) = answer else {
             return TargetYear::Refused(Refusal::LogForceOutOfRange);
         };
         let e = Ends {

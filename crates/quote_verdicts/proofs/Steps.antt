@@ -8,7 +8,7 @@ use lib.Ieee.Bits.{is-true}
 use lib.IntN.{ℤ, pos}
 use lib.ListN.{take}
 use Rattle.text_tokens.specs.Text.{Parse, taken}
-use Rattle.number_exponential.specs.Billionths.{billionths}
+use Rattle.number_exponential.specs.Units.{billionths}
 use Rattle.number_exponential.specs.declared.Ends.{Ends}
 use Rattle.set_params.specs.declared.Params.{Params}
 use Rattle.set_refusal.specs.declared.Refusal.{Refusal}
@@ -34,9 +34,9 @@ use Rattle.quote_verdicts.specs.Verdict.{
   judgedBy,
   judged,
 }
-use Rattle.quote_verdicts.specs.code.Code.{columnRead, figureIn, Honest}
+use Rattle.quote_verdicts.specs.code.Code.{columnRead, figureKept, Honest}
 use Rattle.quote_verdicts.specs.laws.VerdictLaws.{verdict-same}
-use Rattle.quote_verdicts.specs.laws.Figures.{figures-in}
+use Rattle.quote_verdicts.specs.laws.Figures.{figures-kept}
 use Rattle.quote_verdicts.specs.laws.Theorem.{verdict-honest}
 
 -- a set out of its limits
@@ -76,17 +76,17 @@ module _ (p : Params) (year : ℤ) (column : List ℕ) (t : T (inLimits p)) wher
 
   module _ (y : T (yearInTable (p .start) (ruleOf Death) year)) where
     -- a cell out of range
-    pub cell-out : pathInRange p (yearCells (p .start) year) ≡ false → Refused LogForceOutOfRange ≡ judged p year (taken column [])
+    pub cell-out : pathInRange billionths p (yearCells (p .start) year) ≡ false → Refused LogForceOutOfRange ≡ judged p year (taken column [])
     unfolding judged columnRefusal columnTests firstFailed judgedBy refusalNumber
     cell-out e = rw (is-true (inLimits p) t, is-true (yearInTable (p .start) (ruleOf Death) year) y, e)
 
     -- the verdict by the factors of the year's cells
-    pub verdict-by : (es : List Ends) {v : Verdict} → T (pathInRange p (yearCells (p .start) year))
+    pub verdict-by : (es : List Ends) {v : Verdict} → T (pathInRange billionths p (yearCells (p .start) year))
         → take columnAges es ≡ factors billionths p (yearCells (p .start) year)
-        → v ≡ verdictTo (figureIn es) (entryAt column) columnAges → Of v ≡ judged p year (taken column [])
+        → v ≡ verdictTo (figureKept p year es) (entryAt column) columnAges → Of v ≡ judged p year (taken column [])
     unfolding judged columnRefusal columnTests firstFailed judgedBy refusalNumber verdictOf entriesIn
     verdict-by es r f e =
-        rw (is-true (inLimits p) t, is-true (yearInTable (p .start) (ruleOf Death) year) y, is-true (pathInRange p (yearCells (p .start) year)) r)
+        rw (is-true (inLimits p) t, is-true (yearInTable (p .start) (ruleOf Death) year) y, is-true (pathInRange billionths p (yearCells (p .start) year)) r)
         (ap Of
-        (e ∙ verdict-same (figureIn es) _ (entryAt column) columnAges
-        (figures-in es (record { limits = t; year-in = y; range = r }) f)))
+        (e ∙ verdict-same (figureKept p year es) _ (entryAt column) columnAges
+        (figures-kept es (record { limits = t; year-in = y; range = r }) f)))

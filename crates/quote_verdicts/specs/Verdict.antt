@@ -7,6 +7,7 @@ use lib.Dec.{eqb}
 use lib.IntN.{ℤ, pos}
 use lib.ListN.{getD}
 use Rattle.text_tokens.specs.Text.{bytesOf, Parse, malformed, taken, isTaken}
+use Rattle.number_exponential.specs.Units.{billionths}
 use Rattle.set_params.specs.declared.Params.{Params}
 use Rattle.set_refusal.specs.declared.Refusal.{Refusal}
 use Rattle.set_refusal.specs.declared.Refusal.the-variants.{OutOfLimits, NoSuchYear, LogForceOutOfRange, MalformedColumn}
@@ -85,7 +86,7 @@ columnTests p year read =
     record { passed = inLimits p; refusal = OutOfLimits } ∷
     record { passed = isTaken read; refusal = MalformedColumn } ∷
     record { passed = yearInTable (p .start) (ruleOf Death) year; refusal = NoSuchYear } ∷
-    record { passed = pathInRange p (yearCells (p .start) year); refusal = LogForceOutOfRange } ∷ []
+    record { passed = pathInRange billionths p (yearCells (p .start) year); refusal = LogForceOutOfRange } ∷ []
 
 unfoldable pub columnRefusal : Params → ℤ → Parse (List ℕ) → Refusal
 columnRefusal p year read = firstFailed (columnTests p year read)

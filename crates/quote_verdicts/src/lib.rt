@@ -1,19 +1,23 @@
 // The verdict on a published column of q for one year: right, wrong or open, or one numbered refusal. The cells of the year are
-// worked once, and with them each age's figure and the year's closure.
+// worked once on the coarse grid, and with them each age's figure and the year's closure; a figure that they leave open is asked of
+// its quote.
 ghost use mathlib.Core.Path.{_≡_};
 ghost use mathlib.Core.List.{[]};
+ghost use Prim.Native.Nat.{_<_};
 ghost use lib.Dec.{T};
 ghost use Rattle.text_tokens.specs.Text.{taken};
-ghost use Rattle.number_exponential.specs.Billionths.{billionths};
+ghost use Rattle.number_exponential.specs.Units.{billionths};
 ghost use Rattle.set_limits.specs.InLimits.{inLimits};
 ghost use Rattle.number_folds.specs.code.Code.{AtMost, Chances};
-ghost use Rattle.quote_verdicts.specs.Verdict.{columnAges, entryAt, verdictTo, judged};
-ghost use Rattle.quote_verdicts.specs.code.Code.{columnRead, ageVerdict, joined, figureBy, figureIn, Honest};
+ghost use Rattle.quote.specs.Demand.{shownOf};
+ghost use Rattle.quote_verdicts.specs.Verdict.{columnAges, figureHere, entryAt, verdictTo, judged};
+ghost use Rattle.quote_verdicts.specs.code.Code.{columnRead, ageVerdict, joined, figureBy, figureKept, Honest};
 use model_closure::LAST_CLOSED;
 use number_exact::Figure;
 use number_exact::PROBABILITY_STEP;
 use number_exponential::Ends;
 use number_folds::MOST_FACTORS;
+use quote_along::Answer;
 use quote_kinds::Kind;
 use quote_paths::Path;
 use set_params::Params;
@@ -35,13 +39,19 @@ pub enum Judged {
     Refused(Refusal),
 }
 
-// The verdict on the entry of one age, by p's ends.
-fn age_verdict(p: Ends, entry: u64) -> Verdict
+// The figure of q by p's ends on the coarse grid.
+fn coarse_figure(p: Ends) -> Figure
     requires { ⌜ AtMost (billionths .unit) p ⌝ }
-    ensures { λ r. ⌜ r ≡ ageVerdict (figureBy p) entry ⌝ }
+    ensures { λ r. ⌜ r ≡ figureBy p ⌝ }
 {
-    let q = model_force::death_of(p);
-    let figure = number_exact::figure_of(PROBABILITY_STEP, q.lower, q.upper);
+    let q = model_force::death_of(false, p);
+    number_exact::figure_of(PROBABILITY_STEP, q.lower, q.upper)
+}
+
+// The verdict on the entry of one age, by its figure.
+fn age_verdict(figure: Figure, entry: u64) -> Verdict
+    ensures { λ r. ⌜ r ≡ ageVerdict (shownOf figure) entry ⌝ }
+{
     let Figure::Printed(n) = figure else {
         return Verdict::Open;
     };
@@ -49,6 +59,20 @@ fn age_verdict(p: Ends, entry: u64) -> Verdict
         return Verdict::Right;
     }
     Verdict::Wrong
+}
+
+// The verdict on the entry of one age, by the quote of its q: an open figure is worked again.
+fn verdict_again(p: Params, year: i64, age: usize, entry: u64) -> Verdict
+    requires { ⌜ T (inLimits p) × (age < columnAges) ⌝ }
+    ensures { λ r. ⌜ r ≡ ageVerdict (figureHere p year age) entry ⌝ }
+{
+    let answer = quote::quote_within(p, Kind::Death, age as i64, year, 0);
+    let Answer::Quoted(q) = answer else {
+        // without a figure none differs and none is open
+        return Verdict::Right;
+    };
+    let figure = q.figure;
+    age_verdict(figure, entry)
 }
 
 // The verdict on some ages and one more: wrong goes before open, and open before right.
@@ -66,17 +90,27 @@ fn joined(some: Verdict, more: Verdict) -> Verdict
     }
 }
 
-// The verdict on a column by the factors of its year's cells.
-fn verdict_on(factors: [Ends; MOST_FACTORS], column: [u64; COLUMN_AGES]) -> Verdict
-    requires { ⌜ Chances factors columnAges ⌝ }
-    ensures { λ r. ⌜ r ≡ verdictTo (figureIn factors) (entryAt column) columnAges ⌝ }
+// The verdict on a column by the factors of its year's cells, with open figures asked again.
+fn verdict_on(
+    p: Params,
+    year: i64,
+    factors: [Ends; MOST_FACTORS],
+    column: [u64; COLUMN_AGES],
+) -> Verdict
+    requires { ⌜ T (inLimits p) × Chances billionths factors columnAges ⌝ }
+    ensures { λ r. ⌜ r ≡ verdictTo (figureKept p year factors) (entryAt column) columnAges ⌝ }
 {
     let mut verdict = Verdict::Right;
     let mut x = 0;
     while x < COLUMN_AGES {
-        let p = factors[x];
+        let lived = factors[x];
         let entry = column[x];
-        verdict = joined(verdict, age_verdict(p, entry));
+        let figure = coarse_figure(lived);
+        let mut more = age_verdict(figure, entry);
+        if number_exact::is_open(figure) {
+            more = verdict_again(p, year, x, entry);
+        }
+        verdict = joined(verdict, more);
         x += 1;
     }
     verdict
@@ -99,12 +133,12 @@ pub fn judge_within(p: Params, year: i64, column: [u64; COLUMN_AGES]) -> Judged
         year: n,
         count: COLUMN_AGES,
     };
-    let worked = quote_factors::factors_of(p, cells);
+    let worked = quote_factors::factors_of(false, p, cells);
     if !worked.ok {
         return Judged::Refused(Refusal::LogForceOutOfRange);
     }
     let ends = worked.ends;
-    let verdict = verdict_on(ends, column);
+    let verdict = verdict_on(p, year, ends, column);
     Judged::Of(verdict)
 }
 

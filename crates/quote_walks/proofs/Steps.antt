@@ -13,7 +13,7 @@ use lib.Seq.{take-suc, take-suc-set, length-take-le, getD-at}
 use mir.Facts.{and-yes, yes-and}
 use Rattle.number_whole.specs.Listed.{listed}
 use Rattle.number_exponential.specs.declared.Ends.{Ends}
-use Rattle.number_exponential.specs.Billionths.{billionths}
+use Rattle.number_exponential.specs.Grid.{Grid}
 use Rattle.set_params.specs.declared.Params.{Params}
 use Rattle.set_params.specs.Set.{dynamicsOf}
 use Rattle.set_params.specs.Limits.{lastYears}
@@ -38,60 +38,60 @@ along cohort age year count = record { cohort = cohort; age = age; year = year; 
 -- ---- the cell at a place
 
 -- the answer at the cell at s
-abbrev pub cellAt : Params → Path → ℕ → Cell
-cellAt p w s = cellOf p (placeOf w s .age) (placeOf w s .year)
+abbrev pub cellAt : Grid → Params → Path → ℕ → Cell
+cellAt g p w s = cellOf g p (placeOf w s .age) (placeOf w s .year)
 
-cell-in : (p : Params) (x n : ℕ) {e : Ends} → cellOf p x n ≡ Of e
-    → T (neededInRange p x n) × (e ≡ survival billionths p x n wholeYear)
-cell-in p x n q = cell-there (neededInRange p x n) (survival billionths p x n wholeYear) q
+cell-in : (g : Grid) (p : Params) (x n : ℕ) {e : Ends} → cellOf g p x n ≡ Of e
+    → T (neededInRange g p x n) × (e ≡ survival g p x n wholeYear)
+cell-in g p x n q = cell-there (neededInRange g p x n) (survival g p x n wholeYear) q
 
-cell-out : (p : Params) (x n : ℕ) → cellOf p x n ≡ LogForceOutOfRange → neededInRange p x n ≡ false
-cell-out p x n q = cell-gone (neededInRange p x n) (survival billionths p x n wholeYear) q
+cell-out : (g : Grid) (p : Params) (x n : ℕ) → cellOf g p x n ≡ LogForceOutOfRange → neededInRange g p x n ≡ false
+cell-out g p x n q = cell-gone (neededInRange g p x n) (survival g p x n wholeYear) q
 
 -- ---- the factors
 
-pub worked-none : (p : Params) (w : Path) {es : List Ends} → length es ≡ mostFactors → Worked p w es 0
+pub worked-none : (g : Grid) (p : Params) (w : Path) {es : List Ends} → length es ≡ mostFactors → Worked g p w es 0
 unfolding listed pathOf pathInRange factors
-worked-none p w h = record { some = omega arith; range = tt; ends = refl; size = h }
+worked-none g p w h = record { some = omega arith; range = tt; ends = refl; size = h }
 
-factors-more : (p : Params) (w : Path) (s : ℕ)
-    → factors billionths p (pathTo w (suc s))
-    ≡ factors billionths p (pathTo w s) ++ (survival billionths p (placeOf w s .age) (placeOf w s .year) wholeYear ∷ [])
+factors-more : (g : Grid) (p : Params) (w : Path) (s : ℕ)
+    → factors g p (pathTo w (suc s))
+    ≡ factors g p (pathTo w s) ++ (survival g p (placeOf w s .age) (placeOf w s .year) wholeYear ∷ [])
 unfolding factors placeAt
-factors-more p w s =
-    ap (factors billionths p) (path-more (w .cohort) (w .age) (w .year) s)
-    ∙ factors-append billionths p (pathTo w s) (placeOf w s ∷ [])
+factors-more g p w s =
+    ap (factors g p) (path-more (w .cohort) (w .age) (w .year) s)
+    ∙ factors-append g p (pathTo w s) (placeOf w s ∷ [])
 
-pub worked-more : {p : Params} {w : Path} {es : List Ends} {s : ℕ} {e : Ends} → Worked p w es s
-    → w .count ≤ mostFactors → s < w .count → cellAt p w s ≡ Of e → Worked p w (set es s e) (s + 1)
-worked-more {p} {w} {es} {s} {e} h m l q =
-    let r = cell-in p (placeOf w s .age) (placeOf w s .year) q in
+pub worked-more : {g : Grid} {p : Params} {w : Path} {es : List Ends} {s : ℕ} {e : Ends} → Worked g p w es s
+    → w .count ≤ mostFactors → s < w .count → cellAt g p w s ≡ Of e → Worked g p w (set es s e) (s + 1)
+worked-more {g} {p} {w} {es} {s} {e} h m l q =
+    let r = cell-in g p (placeOf w s .age) (placeOf w s .year) q in
     rw (add-one s)
     (record {
       some = l;
       range =
-          rw (in-range-more p (w .cohort) (w .age) (w .year) s)
-          (yes-and (pathInRange p (pathTo w s)) (neededInRange p (placeOf w s .age) (placeOf w s .year)) (h .range) (r .0));
-      ends = rw (factors-more p w s, take-suc-set es s e (omega (arith, h .size)), h .ends, r .1);
+          rw (in-range-more g p (w .cohort) (w .age) (w .year) s)
+          (yes-and (pathInRange g p (pathTo w s)) (neededInRange g p (placeOf w s .age) (placeOf w s .year)) (h .range) (r .0));
+      ends = rw (factors-more g p w s, take-suc-set es s e (omega (arith, h .size)), h .ends, r .1);
       size = length-set es s e ∙ h .size;
     })
 
 -- the last factor that was put
-pub worked-last : {p : Params} {w : Path} {es : List Ends} {s : ℕ} (d : Ends) → Worked p w es (suc s)
-    → w .count ≤ mostFactors → getD es s d ≡ survival billionths p (placeOf w s .age) (placeOf w s .year) wholeYear
-worked-last {p} {w} {es} {s} d h m =
+pub worked-last : {g : Grid} {p : Params} {w : Path} {es : List Ends} {s : ℕ} (d : Ends) → Worked g p w es (suc s)
+    → w .count ≤ mostFactors → getD es s d ≡ survival g p (placeOf w s .age) (placeOf w s .year) wholeYear
+worked-last {g} {p} {w} {es} {s} d h m =
     let l : s < length es = omega (arith, h .some, h .size) in
     let e : take s es ++ (getD es s d ∷ [])
-    ≡ factors billionths p (pathTo w s) ++ (survival billionths p (placeOf w s .age) (placeOf w s .year) wholeYear ∷ []) =
-    sym (take-suc es s d l) ∙ h .ends ∙ factors-more p w s in
+    ≡ factors g p (pathTo w s) ++ (survival g p (placeOf w s .age) (placeOf w s .year) wholeYear ∷ []) =
+    sym (take-suc es s d l) ∙ h .ends ∙ factors-more g p w s in
     sym (getD-at (take s es) (getD es s d) [] d s (length-take-le s es (omega arith)))
     ∙ ap (λ (l : List Ends). getD l s d) e
-    ∙ getD-at (factors billionths p (pathTo w s)) _ [] d s
-    (factors-length billionths p (pathTo w s) ∙ path-length (w .cohort) (w .age) (w .year) s)
+    ∙ getD-at (factors g p (pathTo w s)) _ [] d s
+    (factors-length g p (pathTo w s) ∙ path-length (w .cohort) (w .age) (w .year) s)
 
-pub worked-out : (p : Params) (w : Path) {s : ℕ} → s < w .count → cellAt p w s ≡ LogForceOutOfRange → pathInRange p (pathIs w) ≡ false
-worked-out p w {s} l q =
-    range-out p (w .cohort) (w .age) (w .year) s (w .count) l (cell-out p (placeOf w s .age) (placeOf w s .year) q)
+pub worked-out : (g : Grid) (p : Params) (w : Path) {s : ℕ} → s < w .count → cellAt g p w s ≡ LogForceOutOfRange → pathInRange g p (pathIs w) ≡ false
+worked-out g p w {s} l q =
+    range-out g p (w .cohort) (w .age) (w .year) s (w .count) l (cell-out g p (placeOf w s .age) (placeOf w s .year) q)
 
 -- ---- the year of the next cell
 
@@ -109,7 +109,7 @@ pub first-year : (c : Bool) (n : ℕ) → n ≡ cond c (n + 0) n
 first-year true n = omega arith
 first-year false n = refl
 
-module _ {p : Params} {w : Path} {y : Year} {s : ℕ} (k : PathWithin p w) (h : YearAt p w s y) (l : s < w .count) where
+module _ {g : Grid} {p : Params} {w : Path} {y : Year} {s : ℕ} (k : PathWithin p w) (h : YearAt g p w s y) (l : s < w .count) where
   goes : {on : Bool} → on ≡ (w .cohort && ltb (s + 1) (w .count)) → T on → (w .cohort ≡ true) × (suc s < w .count)
   goes e t =
       let b = and-yes (w .cohort) (ltb (s + 1) (w .count)) (rw e at t) in
@@ -118,7 +118,7 @@ module _ {p : Params} {w : Path} {y : Year} {s : ℕ} (k : PathWithin p w) (h : 
   room : (w .cohort ≡ true) × (suc s < w .count) → y .number < lastYears
   room g = omega (arith, h .place l, next-place w s (g .0), k .years (suc s) (g .1))
 
-  pub year-may : {on : Bool} → on ≡ (w .cohort && ltb (s + 1) (w .count)) → T on → YearWithin (dynamicsOf p) y
+  pub year-may : {on : Bool} → on ≡ (w .cohort && ltb (s + 1) (w .count)) → T on → YearWithin g (dynamicsOf p) y
   year-may e t = year-within (h .year) (room (goes e t))
 
   -- where it stays in its year
@@ -126,8 +126,8 @@ module _ {p : Params} {w : Path} {y : Year} {s : ℕ} (k : PathWithin p w) (h : 
   stays true q e m = absurd (false≢true (e ∙ lt-ltb (s + 1) (w .count) (omega arith)))
   stays false q e m = h .place l ∙ sym (same-place w s q)
 
-  pub year-step : (on : Bool) {r : Year} → on ≡ (w .cohort && ltb (s + 1) (w .count)) → Advanced (dynamicsOf p) y on r
-      → YearAt p w (s + 1) r
+  pub year-step : (on : Bool) {r : Year} → on ≡ (w .cohort && ltb (s + 1) (w .count)) → Advanced g (dynamicsOf p) y on r
+      → YearAt g p w (s + 1) r
   year-step true e a =
       let g = goes e tt in
       let n = a .next tt in

@@ -1,8 +1,9 @@
-// The walk along a path at ages to 90 on the grid of 10^-9: p's ends at each of its cells, into an array by value.
+// The walk along a path at ages to 90 on a grid: p's ends at each of its cells, into an array by value.
 ghost use mathlib.Core.Path.{_≡_};
 ghost use mathlib.Core.Bool.{_&&_};
 ghost use Prim.Native.Nat.{_-_, min};
 ghost use lib.Dec.{T, ltb};
+ghost use Rattle.number_exponential.specs.code.Flag.{gridBy};
 ghost use Rattle.model_closure.specs.Weights.{firstClosed};
 ghost use Rattle.model_log_force.specs.code.Year.{YearWithin};
 ghost use Rattle.quote_walks.specs.code.Code.{PathWithin, Advanced, WalkOf};
@@ -47,20 +48,20 @@ pub fn goes_on(cohort: bool, s: usize, count: usize) -> bool
 }
 
 // The year after, or the same.
-pub fn year_after(d: Dynamics, y: Year, on: bool) -> Year
-    requires { ⌜ (T on → YearWithin d y) ⌝ }
-    ensures { λ r. ⌜ Advanced d y on r ⌝ }
+pub fn year_after(fine: bool, d: Dynamics, y: Year, on: bool) -> Year
+    requires { ⌜ (T on → YearWithin (gridBy fine) d y) ⌝ }
+    ensures { λ r. ⌜ Advanced (gridBy fine) d y on r ⌝ }
 {
     if on {
-        return model_log_force::next_year(d, y);
+        return model_log_force::next_year(fine, d, y);
     }
     y
 }
 
 // The factors at ages to 90.
-pub fn young_factors(p: Params, path: Path) -> Walk
+pub fn young_factors(fine: bool, p: Params, path: Path) -> Walk
     requires { ⌜ PathWithin p path ⌝ }
-    ensures { λ r. ⌜ WalkOf p path r ⌝ }
+    ensures { λ r. ⌜ WalkOf (gridBy fine) p path r ⌝ }
 {
     let cohort = path.cohort;
     let age = path.age;
@@ -71,12 +72,12 @@ pub fn young_factors(p: Params, path: Path) -> Walk
         theta: p.theta,
         c: p.c,
     };
-    let mut year = model_log_force::year_at(p, path.year);
+    let mut year = model_log_force::year_at(fine, p, path.year);
     let mut ends = [Ends { lower: 0, upper: 0 }; MOST_FACTORS];
     let mut done = 0;
     while done < young {
         let four = set_params::age_of_runs(&p.level, &p.slope, &p.alpha, &p.beta, age + done);
-        let Cell::Of(e) = model_cells::young_cell(four, year) else {
+        let Cell::Of(e) = model_cells::young_cell(fine, four, year) else {
             return Walk {
                 ok: false,
                 done,
@@ -86,7 +87,7 @@ pub fn young_factors(p: Params, path: Path) -> Walk
         };
         ends[done] = e;
         done += 1;
-        year = year_after(d, year, goes_on(cohort, done, count));
+        year = year_after(fine, d, year, goes_on(cohort, done, count));
     }
     Walk {
         ok: true,

@@ -1,11 +1,13 @@
 -- "It echoes each with ` fig=` and a figure or `open`, or ` no=` and a refusal. .. A torn query prints `no=1` only": what is printed
--- after a query, with the two ends before the figure where they are shown, and the answer to a line.
+-- after a query, with the two ends and their unit before the figure where they are shown, and the answer to a line.
 use mathlib.Core.Bool.{Bool, cond}
 use mathlib.Core.List.{List, [], _++_}
 use Prim.Native.Nat.{ℕ, _-_}
 use lib.ListN.{length, take}
 use Rattle.text_tokens.specs.Text.{bytesOf, Parse, malformed, taken}
-use Rattle.text_tokens.specs.Number.{unsignedText}
+use Rattle.text_tokens.specs.Number.{decimal, unsignedText}
+use Rattle.number_exponential.specs.declared.GridUnit.{GridUnit}
+use Rattle.number_exponential.specs.declared.GridUnit.the-variants.{Coarse, Fine}
 use Rattle.set_refusal.specs.declared.Refusal.{Refusal}
 use Rattle.set_refusal.specs.declared.Refusal.the-variants.{Malformed}
 use Rattle.set_refusal.specs.Refusals.{refusalNumber}
@@ -24,13 +26,26 @@ refusalLine r = (bytesOf "no=" ++ unsignedText (refusalNumber r)) ++ bytesOf "\n
 unfoldable pub refusedText : Refusal → List ℕ
 refusedText r = bytesOf " " ++ refusalLine r
 
--- the two ends, in whole units, where they are asked for
-unfoldable pub endsText : Bool → ℕ → ℕ → List ℕ
-endsText ends lower upper = cond ends ((bytesOf " lo=" ++ unsignedText lower) ++ (bytesOf " hi=" ++ unsignedText upper)) []
+-- a number of units, of at most 16 digits: as many as an expectancy of 100 years has in units of 10^-13
+abbrev pub endDigits : ℕ
+endDigits = 16
+
+unfoldable pub endText : ℕ → List ℕ
+endText n = decimal endDigits n
+
+-- a unit of 10^-9 or of 10^-13
+unfoldable pub unitText : GridUnit → List ℕ
+unitText Coarse = bytesOf " unit=9"
+unitText Fine = bytesOf " unit=13"
+
+-- the two ends and their unit, where they are asked for
+unfoldable pub endsText : Bool → GridUnit → ℕ → ℕ → List ℕ
+endsText ends unit lower upper =
+    cond ends ((bytesOf " lo=" ++ endText lower) ++ ((bytesOf " hi=" ++ endText upper) ++ unitText unit)) []
 
 -- a quote, its figure with so many decimals
 unfoldable pub quoteText : Bool → ℕ → Quote → List ℕ
-quoteText ends d a = endsText ends (a .lower) (a .upper) ++ (shownText d (a .figure) ++ bytesOf "\n")
+quoteText ends d a = endsText ends (a .unit) (a .lower) (a .upper) ++ (shownText d (a .figure) ++ bytesOf "\n")
 
 -- the decimals of a kind's figures
 abbrev pub kindDecimals : Kind → ℕ

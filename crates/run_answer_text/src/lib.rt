@@ -7,8 +7,9 @@ ghost use lib.ListN.{length};
 ghost use Rattle.text_tokens.specs.Number.{mostDigits, unsignedText, numberText};
 ghost use Rattle.text_printing.specs.code.Put.{Room, Put};
 ghost use Rattle.run_answer_text.specs.AnswerText.{refusalLine, refusedText, endsText, quoteText, kindDecimals, answerText};
-ghost use Rattle.run_answer_text.specs.AnswerText.{withoutFeed};
+ghost use Rattle.run_answer_text.specs.AnswerText.{endDigits, endText, unitText, withoutFeed};
 ghost use Rattle.run_answer_text.specs.code.Sizes.{Sized, SizedAnswer};
+use number_exponential::GridUnit;
 use quote_along::Answer;
 use quote_along::Quote;
 use quote_kinds::Kind;
@@ -68,25 +69,67 @@ pub fn put_refused(buffer: &mut [u8], at: usize, refusal: Refusal) -> usize
     put_refusal(buffer, place, refusal)
 }
 
-// Writes the two ends where they are asked for; the place after them.
-fn put_ends(buffer: &mut [u8], at: usize, ends: bool, lower: u64, upper: u64) -> usize
-    requires { ⌜ (lower < 10 ^ mostDigits) × (upper < 10 ^ mostDigits) × Room (now buffer) at (endsText ends lower upper) ⌝ }
-    ensures { λ r. ⌜ Put (now (buffer .entry)) at (endsText ends lower upper) (now (buffer .exit)) r ⌝ }
+// Writes the digits of a number of units, one digit more than other numbers have; the place after them.
+fn put_end(buffer: &mut [u8], at: usize, n: u64) -> usize
+    requires { ⌜ (n < 10 ^ endDigits) × Room (now buffer) at (endText n) ⌝ }
+    ensures { λ r. ⌜ Put (now (buffer .entry)) at (endText n) (now (buffer .exit)) r ⌝ }
+{
+    if n < 10 {
+        return text_printing::put_digits(buffer, at, n);
+    }
+    let last = text_printing::put_digits(buffer, at, n / 10);
+    buffer[last] = b'0' + (n % 10) as u8;
+    last + 1
+}
+
+// Writes a name and a number of units; the place after them.
+pub fn put_units(buffer: &mut [u8], at: usize, name: &[u8], n: u64) -> usize
+    requires { ⌜ (n < 10 ^ endDigits) × Room (now buffer) at (now name ++ endText n) ⌝ }
+    ensures { λ r. ⌜ Put (now (buffer .entry)) at (now (name .entry) ++ endText n) (now (buffer .exit)) r ⌝ }
+{
+    let place = text_printing::put_text(buffer, at, name);
+    put_end(buffer, place, n)
+}
+
+// Writes ` unit=` and a unit; the place after it.
+pub fn put_unit(buffer: &mut [u8], at: usize, unit: GridUnit) -> usize
+    requires { ⌜ Room (now buffer) at (unitText unit) ⌝ }
+    ensures { λ r. ⌜ Put (now (buffer .entry)) at (unitText unit) (now (buffer .exit)) r ⌝ }
+{
+    match unit {
+        GridUnit::Coarse => text_printing::put_text(buffer, at, b" unit=9"),
+        GridUnit::Fine => text_printing::put_text(buffer, at, b" unit=13"),
+    }
+}
+
+// Writes the two ends and their unit where they are asked for; the place after them.
+fn put_ends(
+    buffer: &mut [u8],
+    at: usize,
+    ends: bool,
+    unit: GridUnit,
+    lower: u64,
+    upper: u64,
+) -> usize
+    requires { ⌜ (lower < 10 ^ endDigits) × (upper < 10 ^ endDigits) × Room (now buffer) at (endsText ends unit lower upper) ⌝ }
+    ensures { λ r. ⌜ Put (now (buffer .entry)) at (endsText ends unit lower upper) (now (buffer .exit)) r ⌝ }
 {
     if !ends {
         return at;
     }
-    let place = put_field(buffer, at, b" lo=", lower);
-    put_field(buffer, place, b" hi=", upper)
+    let place = put_units(buffer, at, b" lo=", lower);
+    let end = put_units(buffer, place, b" hi=", upper);
+    put_unit(buffer, end, unit)
 }
 
-// Writes what follows a query that is quoted, with the ends where they are asked for; the place after it.
+// Writes what follows a query that is quoted, with the ends and their unit where they are asked for; the place after it.
 fn put_quote(buffer: &mut [u8], at: usize, ends: bool, decimals: usize, quote: Quote) -> usize
     requires { ⌜ Sized quote × Room (now buffer) at (quoteText ends decimals quote) ⌝ }
     ensures { λ r. ⌜ Put (now (buffer .entry)) at (quoteText ends decimals quote) (now (buffer .exit)) r ⌝ }
 {
+    let unit = quote.unit;
     let figure = quote.figure;
-    let place = put_ends(buffer, at, ends, quote.lower, quote.upper);
+    let place = put_ends(buffer, at, ends, unit, quote.lower, quote.upper);
     let end = run_figure_text::put_shown(buffer, place, decimals, figure);
     text_printing::put_text(buffer, end, b"\n")
 }

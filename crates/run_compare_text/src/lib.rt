@@ -14,8 +14,8 @@ fn put_excess(buffer: &mut [u8], at: usize, word: &[u8], excess: Excess) -> usiz
     ensures { λ r. ⌜ Put (now (buffer .entry)) at (now (word .entry) ++ excessText excess) (now (buffer .exit)) r ⌝ }
 {
     let place = text_printing::put_text(buffer, at, word);
-    let end = run_answer_text::put_field(buffer, place, b" least=", excess.least);
-    run_answer_text::put_field(buffer, end, b" most=", excess.most)
+    let end = run_answer_text::put_units(buffer, place, b" least=", excess.least);
+    run_answer_text::put_units(buffer, end, b" most=", excess.most)
 }
 
 // Writes what is told of the values; the place after it.
@@ -26,11 +26,11 @@ fn put_values(buffer: &mut [u8], at: usize, values: Values) -> usize
     match values {
         Values::Below(excess) => put_excess(buffer, at, b" values=below", excess),
         Values::Above(excess) => put_excess(buffer, at, b" values=above", excess),
-        Values::Near(most) => run_answer_text::put_field(buffer, at, b" values=near most=", most),
+        Values::Near(most) => run_answer_text::put_units(buffer, at, b" values=near most=", most),
     }
 }
 
-// Writes two figures with so many decimals, what is told of the values, and the line feed; the place after it.
+// Writes two figures with so many decimals, what is told of the values, their unit, and the line feed; the place after it.
 fn put_pair(buffer: &mut [u8], at: usize, decimals: usize, pair: Pair) -> usize
     requires { ⌜ SizedPair pair × Room (now buffer) at (pairText decimals pair) ⌝ }
     ensures { λ r. ⌜ Put (now (buffer .entry)) at (pairText decimals pair) (now (buffer .exit)) r ⌝ }
@@ -38,9 +38,11 @@ fn put_pair(buffer: &mut [u8], at: usize, decimals: usize, pair: Pair) -> usize
     let first = pair.first;
     let second = pair.second;
     let values = pair.values;
+    let unit = pair.unit;
     let place = run_figure_text::put_shown(buffer, at, decimals, first);
     let told = run_figure_text::put_shown(buffer, place, decimals, second);
-    let end = put_values(buffer, told, values);
+    let valued = put_values(buffer, told, values);
+    let end = run_answer_text::put_unit(buffer, valued, unit);
     text_printing::put_text(buffer, end, b"\n")
 }
 

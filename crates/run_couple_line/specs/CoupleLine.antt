@@ -14,7 +14,7 @@ use Rattle.run_answer_text.specs.AnswerText.{kindDecimals, answerText, answered
 unfoldable pub queryCouple : Params → Params → CoupleQuery → Answer
 queryCouple p p′ q = coupleAnswer p p′ (q .kind) (q .age) (q .other) (q .year) (q .span)
 
--- what follows a query: its answer with the ends; "Steps are those of the single life", and so are the decimals
+-- what follows a query: its answer with the ends and their unit; "Steps are those of the single life", and so are the decimals
 unfoldable pub coupleReply : Params → Params → CoupleQuery → List ℕ
 coupleReply p p′ q = answerText true (kindDecimals (singleOf (q .kind))) (queryCouple p p′ q)
 
@@ -24,4 +24,4 @@ coupleLine p p′ line = answered readCouple (coupleReply p p′) line
 
 -- no answer is longer
 abbrev pub mostCouple : ℕ
-mostCouple = 163
+mostCouple = 161

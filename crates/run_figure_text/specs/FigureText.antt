@@ -1,4 +1,4 @@
--- "A probability prints five decimals, an expectancy one": a figure as text, and its steps read back from it.
+-- A figure as text, "A probability prints five decimals", an expectancy two (E11) and a price one; and its steps read back from it.
 use mathlib.Core.List.{List, [], _∷_, _++_}
 use Prim.Native.Nat.{ℕ, zero, suc, _+_, _/_, _%_, _^_}
 use Rattle.text_tokens.specs.Text.{bytesOf, Parse, takeText, andThen}

@@ -41,8 +41,8 @@ lineAnswer Targets p p′ line = targetLine p line
 
 -- no answer to a query's line is longer
 abbrev pub longestReply : Reply → ℕ
-longestReply (Quote ends) = 161
-longestReply Compared = 205
+longestReply (Quote ends) = 159
+longestReply Compared = 191
 
 -- no answer is longer
 unfoldable pub longestLine : Mode → ℕ

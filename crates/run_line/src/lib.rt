@@ -14,8 +14,8 @@ use run_target_line::MOST_TARGET;
 use set_params::Params;
 use set_refusal::Refusal;
 
-// What a program answers a line with: a query's figure, with the ends where they are asked for, its figures by two sheets, a
-// couple's figure with the ends, or the year in which a target is reached.
+// What a program answers a line with: a query's figure, with the ends and their unit where they are asked for, its figures by two
+// sheets, a couple's figure with the ends, or the year in which a target is reached.
 pub enum Mode {
     Quotes(bool),
     Compare,
@@ -30,15 +30,15 @@ pub enum Reply {
 }
 
 // No answer is longer, whichever the mode.
-pub const MOST_LINE: usize = 205;
+pub const MOST_LINE: usize = 191;
 
 // No answer of the mode is longer.
 pub fn longest_line(mode: Mode) -> usize
     ensures { λ r. ⌜ r ≡ longestLine mode ⌝ }
 {
     match mode {
-        Mode::Quotes(_) => 161,
-        Mode::Compare => 205,
+        Mode::Quotes(_) => 159,
+        Mode::Compare => 191,
         Mode::Couples => MOST_COUPLE,
         Mode::Targets => MOST_TARGET,
     }

@@ -4,6 +4,7 @@ use mathlib.Core.Bool.{Bool, true, _&&_}
 use lib.IntN.{ℤ, pos, _+ℤ_, _*ℤ_}
 use lib.Signed.{leZ}
 use Rattle.number_whole.specs.declared.SignedEnds.{SignedEnds}
+use Rattle.number_exponential.specs.Units.{billionths}
 use Rattle.set_params.specs.declared.Params.{Params}
 use Rattle.set_params.specs.declared.Age.{Age}
 use Rattle.set_params.specs.declared.Dynamics.{Dynamics}
@@ -50,7 +51,7 @@ unfoldable pub endsInLimits : SignedEnds → Bool
 endsInLimits e = within kappaLimit (e .lower) && within kappaLimit (e .upper)
 
 unfoldable pub kappaInLimits : Dynamics → ℤ → Bool
-kappaInLimits d k = allBelow (λ (n : ℕ). endsInLimits (kappaIn d k n)) (suc lastYears)
+kappaInLimits d k = allBelow (λ (n : ℕ). endsInLimits (kappaIn billionths d k n)) (suc lastYears)
 
 unfoldable pub inLimits : Params → Bool
 inLimits p =

@@ -138,7 +138,7 @@ fn kappa_in_limits(d: Dynamics, start: i64) -> bool
         if !ends_in_limits(e) {
             return false;
         }
-        e = set_series::kappa_step(d, e);
+        e = set_series::kappa_step(false, d, e);
         n += 1;
     }
     true

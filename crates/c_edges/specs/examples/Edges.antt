@@ -9,7 +9,7 @@ use lib.IntN.{ℤ, pos, negℤ}
 use lib.ListN.{replicate}
 use Rattle.number_exponential.specs.declared.Ends.{Ends}
 use Rattle.number_exponential.specs.Exponential.{expBetween}
-use Rattle.number_exponential.specs.Billionths.{billionths}
+use Rattle.number_exponential.specs.Units.{billionths}
 use Rattle.text_tokens.specs.Text.{bytesOf}
 use Rattle.set_params.specs.declared.Params.{Params}
 use Rattle.set_params.specs.declared.Table.the-variants.{Ag2014}
@@ -18,7 +18,8 @@ use Rattle.set_params.specs.Set.{ages}
 use Rattle.set_series.specs.Series.{kappa}
 use Rattle.model_log_force.specs.LogForce.{logForce}
 use Rattle.sheet.specs.Sheet.{sheetText}
-use Rattle.model_closure.specs.Weights.{firstFitted, firstClosed, lastClosed, weight, weightRow, rowTotal}
+use Rattle.model_closure.specs.Weights.{firstFitted, firstClosed, lastClosed, weight}
+use Rattle.model_closure.specs.code.Table.{weightRow, rowTotal}
 use Rattle.number_exact.specs.Figure.{figureOf}
 use Rattle.quote_paths.specs.declared.Fold.the-variants.{Death}
 use Rattle.quote_kinds.specs.Kinds.{stepOf, decimalsOf}
@@ -80,13 +81,13 @@ pub record StarredEdges : Type 0 where
   pub weight-120 : weightFrom 120 90 ≡ pos 185
   pub weights-total : (x : ℕ) → firstClosed ≤ x → x ≤ lastClosed → rowTotal (weightRow x) ≡ pos 110
   -- "a = −50,000,000, kappa 3: ends −2 and −1;" "a year on, 0 and 1."
-  pub kappa-next : kappa (setOf (minus 50000000) (pos 0) (pos 3) (pos 0)) 1 ≡ record { lower = minus 2; upper = minus 1 }
-  pub kappa-a-year-on : kappa (setOf (minus 50000000) (pos 0) (pos 3) (pos 0)) 2 ≡ record { lower = pos 0; upper = pos 1 }
+  pub kappa-next : kappa billionths (setOf (minus 50000000) (pos 0) (pos 3) (pos 0)) 1 ≡ record { lower = minus 2; upper = minus 1 }
+  pub kappa-a-year-on : kappa billionths (setOf (minus 50000000) (pos 0) (pos 3) (pos 0)) 2 ≡ record { lower = pos 0; upper = pos 1 }
   -- "K 0: theta 2,923,976,608 accepted; one more gives 2." Span 0 needs no cell.
   pub theta-accepted : callNumber "coh" (withTheta 2923976608) ≡ 0
   pub theta-one-more : callNumber "coh" (withTheta 2923976609) ≡ 2
   -- "Upper m −700,000,000 accepted, −699,999,999 gives 6."
-  pub force-highest : logForce (withForce (minus 700000000)) 65 7 .upper ≡ minus 700000000
+  pub force-highest : logForce billionths (withForce (minus 700000000)) 65 7 .upper ≡ minus 700000000
   pub force-accepted : callNumber "q" (withForce (minus 700000000)) ≡ 0
   pub force-one-more : callNumber "q" (withForce (minus 699999999)) ≡ 6
   -- "Ends 15,000 and 24,999 print 0.00002;" "14,999 and 15,000 are open."

@@ -15,7 +15,7 @@ use Rattle.number_fraction.specs.Ratio.{whole/}
 use Rattle.number_taylor.specs.Alternating.{double}
 use Rattle.number_exponential.specs.Exponential.{nextLower, nextUpper, termLower, termUpper, total, evens, odds, sumLower, sumUpper}
 use Rattle.number_exponential.specs.Exponential.{constantLower, constantUpper, expLower, expUpper, expBetween}
-use Rattle.number_exponential.specs.Billionths.{wholeParts}
+use Rattle.number_exponential.specs.Units.{wholeParts}
 use Rattle.text_tokens.specs.Text.{bytesOf, taken, takeText}
 use Rattle.text_tokens.specs.Number.{decimal, unsignedText}
 use Rattle.set_params.specs.declared.Params.{Params}
@@ -28,9 +28,10 @@ use Rattle.sheet.specs.declared.Reading.{Reading}
 use Rattle.sheet.specs.Sheet.{ifLiLee, ageValues, values, sheetText, refused, readSheet, bySheet}
 use Rattle.sheet.specs.laws.SetTrip.{Shown, ag2014-shown}
 use Rattle.sheet.specs.laws.SheetTrip.{AllSmall, in-limits-small, written-reads-back, written-out-of-limits}
-use Rattle.set_series.specs.Series.{periodIn, kappaIn, kappaStep}
+use Rattle.set_series.specs.Series.{periodIn, kappaIn, kappaStep, inGrid}
 use Rattle.model_log_force.specs.LogForce.{cellForce, logForce, inRange}
-use Rattle.model_closure.specs.Weights.{firstClosed, closed, weight, weightRow, rowTotal, beside, totalled, ruled}
+use Rattle.model_closure.specs.Weights.{firstClosed, weight}
+use Rattle.model_closure.specs.code.Table.{closed, weightRow, rowTotal, beside, totalled, ruled}
 use Rattle.model_closure.specs.laws.WeightLaws.{row-total}
 use Rattle.model_mortality.specs.Cell.{neededInRange}
 use Rattle.number_exact.specs.Figure.{halfUp, figureOf}
@@ -132,14 +133,14 @@ theta-passes = rw (is-true (inLimits (withTheta 2923976608)) theta-within)
 force-passes : refusalNumber (refusalOf (withForce (minus 700000000)) kind.Death (pos 65) (pos 2020) (pos 0)) ≡ 0
 unfolding A B alpha beta setOf refusalOf firstFailed tableTests refusalNumber yearNumber
     ageInTable yearInTable dateInTable spanInTable rateInTable ruleOf rateOf mostSpan longestSpan spanOf partOf countOf queryPath
-    pathOf partYear whole/ listed placeAt pathInRange neededInRange inRange logForce cellForce periodIn kappaIn kappaStep
+    pathOf partYear whole/ listed placeAt pathInRange neededInRange inRange logForce cellForce periodIn kappaIn kappaStep inGrid
     leastProduct greatestProduct outward floorDiv ceilDiv
 force-passes = rw (is-true (inLimits (withForce (minus 700000000))) force-within)
 
 next-fails : refusalNumber (refusalOf (withForce (minus 699999999)) kind.Death (pos 65) (pos 2020) (pos 0)) ≡ 6
 unfolding A B alpha beta setOf refusalOf firstFailed tableTests refusalNumber yearNumber
     ageInTable yearInTable dateInTable spanInTable rateInTable ruleOf rateOf mostSpan longestSpan spanOf partOf countOf queryPath
-    pathOf partYear whole/ listed placeAt pathInRange neededInRange inRange logForce cellForce periodIn kappaIn kappaStep
+    pathOf partYear whole/ listed placeAt pathInRange neededInRange inRange logForce cellForce periodIn kappaIn kappaStep inGrid
     leastProduct greatestProduct outward floorDiv ceilDiv
 next-fails = rw (is-true (inLimits (withForce (minus 699999999))) next-within)
 
@@ -157,7 +158,7 @@ table-ruled = refl
 
 pub starred-edges : StarredEdges
 unfolding nextLower nextUpper termLower termUpper total evens odds sumLower sumUpper constantLower constantUpper expLower expUpper
-    expBetween wholeParts double ceilDivℕ weight A B alpha beta setOf kappaIn kappaStep periodIn cellForce logForce leastProduct
+    expBetween wholeParts double ceilDivℕ weight A B alpha beta setOf kappaIn kappaStep inGrid periodIn cellForce logForce leastProduct
     greatestProduct outward floorDiv ceilDiv callNumber printedText stepOf decimalsOf halfUp figureOf figureText stepsText
     lastDigits unsignedText decimal bytesOf
 starred-edges =

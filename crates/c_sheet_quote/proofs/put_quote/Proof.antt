@@ -1,4 +1,4 @@
--- `put_quote` meets its contract: short, or the four numbers.
+-- `put_quote` meets its contract: short, or the five numbers.
 use borrow.Author.Needs.{needs}
 use native.Mathlib.Omega.{arith}
 use Rattle.c_sheet_quote.specs.laws.AnswerLaws.{put-short, put-whole}
@@ -11,7 +11,7 @@ returns c = put-short _ _ (omega (arith, c .before .if1 .taken)) (c .refusal-num
 returns-2 : tie.Need-returns-2
 returns-2 c =
     let p = c .before .before .before in
-    put-whole _ _ (omega (arith, p .before .before .if1 .left)) (c .refusal-number2 .ensures) (p .put-four .ensures)
+    put-whole _ _ (omega (arith, p .before .before .if1 .left)) (c .refusal-number2 .ensures) (p .put-five .ensures)
 
 pub put-quote-spec : {M : Type 1} → statement M
 put-quote-spec =

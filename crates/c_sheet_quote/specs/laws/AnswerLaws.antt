@@ -22,7 +22,7 @@ use Rattle.quote_along.specs.declared.Answer.the-variants.{Quoted, Refused}
 use Rattle.quote.specs.Quote.{answerOf}
 use Rattle.quote_kinds.specs.Kinds.{ruleOf, takesRate, withRate}
 use Rattle.c_sheet_quote.specs.SheetQuote.{wordKind, kindOf, ratedKindOf, answerTo, sheetAnswer}
-use Rattle.c_sheet_quote.specs.SheetQuote.{quoteLength, printedNumber, stepsNumber, quoteNumbers, quoteOver}
+use Rattle.c_sheet_quote.specs.SheetQuote.{quoteLength, printedNumber, stepsNumber, unitNumber, quoteNumbers, quoteOver}
 use Rattle.c_sheet_quote.specs.SheetQuote.{quotedNo, quotedAfter, quoteNo, quoteAfter}
 use Rattle.run_query.specs.declared.KindRead.{KindRead}
 use Rattle.run_query.specs.declared.KindRead.the-variants.{Malformed as NoKind, Of}
@@ -96,11 +96,12 @@ PutQuote q before number after = (number ≡ quotedNo (length before)) × (after
 abbrev pub PutAnswer : Answer → List ℕ → ℕ → List ℕ → Type 0
 PutAnswer a before number after = (number ≡ quoteNo a (length before)) × (after ≡ quoteAfter a before)
 
--- four stores in a row
-pub four-put : (q : Quote) (before : List ℕ) {p s : ℕ} → p ≡ printedNumber (q .figure) → s ≡ stepsNumber (q .figure)
-    → quoteLength ≤ length before → set (set (set (set before 0 (q .lower)) 1 (q .upper)) 2 p) 3 s ≡ quoteOver q before
+-- five stores in a row
+pub five-put : (q : Quote) (before : List ℕ) {p s u : ℕ} → p ≡ printedNumber (q .figure) → s ≡ stepsNumber (q .figure)
+    → u ≡ unitNumber (q .unit) → quoteLength ≤ length before
+    → set (set (set (set (set before 0 (q .lower)) 1 (q .upper)) 2 p) 3 s) 4 u ≡ quoteOver q before
 unfolding quoteOver quoteNumbers
-four-put q before {p} {s} e f h = sets-eq (q .lower ∷ q .upper ∷ p ∷ s ∷ []) before 0 h ∙ rw (e, f)
+five-put q before {p} {s} {u} e f g h = sets-eq (q .lower ∷ q .upper ∷ p ∷ s ∷ u ∷ []) before 0 h ∙ rw (e, f, g)
 
 module _ (q : Quote) (before : List ℕ) {number : ℕ} where
   pub put-short : length before < quoteLength → number ≡ refusalNumber BufferTooShort → PutQuote q before number before

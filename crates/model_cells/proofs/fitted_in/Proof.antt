@@ -8,7 +8,8 @@ use denote.Ref.{now}
 use borrow.Author.Needs.{needs}
 use borrow.Author.Tests.{not-true, not-false}
 use Rattle.number_whole.specs.declared.SignedEnds.{SignedEnds}
-use Rattle.number_exponential.specs.Billionths.{billionths}
+use Rattle.number_exponential.specs.Units.{gridOf}
+use Rattle.number_exponential.specs.code.Flag.{unitBy, gridBy}
 use Rattle.number_exponential.specs.Exponential.{expBetween}
 use Rattle.set_params.specs.Set.{ageOf}
 use Rattle.set_params.specs.laws.SetLaws.{four-age}
@@ -25,18 +26,18 @@ use Rattle.model_cells.proofs.fitted_in.Statement.{statement}
 use Rattle.model_cells.proofs.fitted_in.Tie as tie
 
 abbrev Inv-loop : tie.InvT-loop
-Inv-loop l s a b y fitted₀ i₀ fitted i =
-    (fitted .ok ≡ true) × ((o : LentIn l s a b y) → FittedTo (o .set) (y .number) (fitted .ends) i)
+Inv-loop fine l s a b y fitted₀ i₀ fitted i =
+    (fitted .ok ≡ true) × ((o : LentIn (gridBy fine) l s a b y) → FittedTo (gridBy fine) (o .set) (y .number) (fitted .ends) i)
 
 abbrev μ-loop : tie.MeasureT-loop
-μ-loop l s a b y fitted₀ i₀ f i = fitted - i
+μ-loop fine l s a b y fitted₀ i₀ f i = fitted - i
 
 -- the function's start, and a set that lends its runs
 abbrev start : tie.After-age-of-runs Inv-loop μ-loop → tie.Start Inv-loop μ-loop
 start c = c .before .before .before
 
 abbrev Lender : tie.Start Inv-loop μ-loop → Type 0
-Lender s = let a = s .args in LentIn (now (a .level)) (now (a .slope)) (now (a .alpha)) (now (a .beta)) (a .y)
+Lender s = let a = s .args in LentIn (gridBy (a .fine)) (now (a .level)) (now (a .slope)) (now (a .alpha)) (now (a .beta)) (a .y)
 
 -- the age of this turn
 abbrev age : tie.After-age-of-runs Inv-loop μ-loop → ℕ
@@ -47,20 +48,20 @@ age-read : (c : tie.After-age-of-runs Inv-loop μ-loop) (o : Lender (start c)) �
 age-read c o = rw (o .level, o .slope, o .alpha, o .beta) at (c .age-of-runs .ensures) ∙ four-age (o .set) (age c)
 
 forced : (c : tie.After-log-force-at Inv-loop μ-loop) (o : Lender (start (c .before)))
-    → c .log-force-at .result ≡ logForce (o .set) (age (c .before)) (start (c .before) .args .y .number)
+    → c .log-force-at .result ≡ logForce (gridBy (start (c .before) .args .fine)) (o .set) (age (c .before)) (start (c .before) .args .y .number)
 forced c o = rw (age-read (c .before) o, year-force (o .year) (age (c .before))) at (c .log-force-at .ensures)
 
 -- the code's test, of the definition's log force
 tested : (c : tie.After-in-range Inv-loop μ-loop) → let a = c .before .before in (o : Lender (start a))
-    → c .in-range .result ≡ inRange (logForce (o .set) (age a) (start a .args .y .number))
-tested c o = c .in-range .ensures ∙ ap inRange (forced (c .before) o)
+    → c .in-range .result ≡ inRange (gridBy (start a .args .fine)) (logForce (gridBy (start a .args .fine)) (o .set) (age a) (start a .args .y .number))
+tested c o = c .in-range .ensures ∙ ap (inRange (gridBy (start (c .before .before) .args .fine))) (forced (c .before) o)
 
 in-range : (c : tie.Else1 Inv-loop μ-loop) → let a = c .before .before .before in (o : Lender (start a))
-    → inRange (logForce (o .set) (age a) (start a .args .y .number)) ≡ true
+    → inRange (gridBy (start a .args .fine)) (logForce (gridBy (start a .args .fine)) (o .set) (age a) (start a .args .y .number)) ≡ true
 in-range c o = sym (tested (c .before) o) ∙ not-false _ (c .if1 .left)
 
 loop-holds : tie.Need-loop-holds Inv-loop μ-loop
-loop-holds c = (refl, λ o. fitted-none (o .set) (c .args .y .number) refl)
+loop-holds c = (refl, λ o. fitted-none (gridBy (c .args .fine)) (o .set) (c .args .y .number) refl)
 
 log-force-at-requires : tie.Need-log-force-at-requires Inv-loop μ-loop
 log-force-at-requires c κs =
@@ -72,7 +73,7 @@ returns c o =
     let a = c .before .before .before in
     let t = a .before in
     let l = t .before in
-    fitted-out (o .set) (start a .args .y .number) (l .loop .i) (l .loop .fitted .ends) (t .loop-test .taken)
+    fitted-out (gridBy (start a .args .fine)) (o .set) (start a .args .y .number) (l .loop .i) (l .loop .fitted .ends) (t .loop-test .taken)
     (sym (tested (c .before) o) ∙ not-true _ (c .if1 .taken))
 
 inverse-logistic-requires : tie.Need-inverse-logistic-requires Inv-loop μ-loop
@@ -81,7 +82,7 @@ inverse-logistic-requires c κs =
     let a = m .before in
     let o = start a .pre in
     rw (forced m o)
-    (logForce-negated (o .set) (o .year .limits) (omega (arith, a .before .loop-test .taken)) (o .year .year) (rw (in-range c o) tt))
+    (logForce-negated (gridBy (start a .args .fine)) (o .set) (o .year .limits) (omega (arith, a .before .loop-test .taken)) (o .year .year) (rw (in-range c o) tt))
 
 loop-again : tie.Need-loop-again Inv-loop μ-loop
 unfolding fittedEnds youngForce
@@ -92,7 +93,7 @@ loop-again c =
       t .before .loop .inv .0,
       λ o. fitted-more (t .before .loop .inv .1 o) (t .loop-test .taken) (rw (in-range e o) tt)
           (c .inverse-logistic .ensures
-          ∙ ap (λ (k : SignedEnds). inverseLogistic billionths k (expBetween billionths (negated k))) (forced m o)),
+          ∙ ap (λ (k : SignedEnds). inverseLogistic (gridBy (start (m .before) .args .fine)) k (expBetween (gridBy (start (m .before) .args .fine)) (negated k))) (forced m o)),
     )
 
 returns-2 : tie.Need-returns-2 Inv-loop μ-loop
@@ -100,7 +101,7 @@ returns-2 c o =
     let l = c .before in
     let f = l .loop .inv .1 o in
     let i : l .loop .i ≡ fitted = omega (arith, f .count, c .loop-test .left) in
-    fitted-all (o .set) (l .before .args .y .number) (l .loop .fitted) (o .year .limits) (o .year .year) (l .loop .inv .0) (rw i at f)
+    fitted-all (unitBy (l .before .args .fine)) (o .set) (l .before .args .y .number) (l .loop .fitted) (o .year .limits) (o .year .year) (l .loop .inv .0) (rw i at f)
 
 pub fitted-in-spec : {M : Type 1} → statement M
 fitted-in-spec =

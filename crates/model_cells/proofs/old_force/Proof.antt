@@ -2,7 +2,8 @@
 use mathlib.Core.Path.{ap, _∙_}
 use borrow.Author.Needs.{needs}
 use borrow.Author.Tests.{not-true, not-false}
-use Rattle.number_exponential.specs.Billionths.{billionths}
+use Rattle.number_exponential.specs.Units.{gridOf}
+use Rattle.number_exponential.specs.code.Flag.{unitBy, gridBy}
 use Rattle.model_logistic.specs.Logistic.{logistic}
 use Rattle.model_closure.specs.code.Code.{InLimit}
 use Rattle.model_cells.specs.declared.Cell.the-variants.{Of}
@@ -36,7 +37,7 @@ returns-2 c =
     let g = c .before in
     let e = g .before .before in
     rw (not-false (e .before .before .args .f .ok) (e .if1 .left))
-    (ap Of (c .logistic .ensures ∙ ap (logistic billionths) (g .closed-sum .ensures)))
+    (ap Of (c .logistic .ensures ∙ ap (logistic (gridBy (e .before .before .args .fine))) (g .closed-sum .ensures)))
 
 pub old-force-spec : {M : Type 1} → statement M
 old-force-spec = tie.close (tie.spec returns closed-sum-requires logistic-requires returns-2)

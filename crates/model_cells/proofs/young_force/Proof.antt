@@ -4,7 +4,8 @@ use mathlib.Core.Bool.{true}
 use borrow.Author.Needs.{needs}
 use borrow.Author.Tests.{not-true, not-false}
 use Rattle.number_exponential.specs.Exponential.{expBetween}
-use Rattle.number_exponential.specs.Billionths.{billionths}
+use Rattle.number_exponential.specs.Units.{gridOf}
+use Rattle.number_exponential.specs.code.Flag.{unitBy, gridBy}
 use Rattle.number_whole.specs.declared.SignedEnds.{SignedEnds}
 use Rattle.model_log_force.specs.LogForce.{cellForce, inRange}
 use Rattle.model_log_force.specs.laws.RangeLaws.{cell-negated}
@@ -16,13 +17,13 @@ use Rattle.model_cells.proofs.young_force.Tie as tie
 
 -- the log force of the cell
 abbrev force : tie.Start → SignedEnds
-force s = cellForce (s .args .age) (s .args .y .period) (s .args .y .kappas)
+force s = cellForce (gridBy (s .args .fine)) (s .args .age) (s .args .y .period) (s .args .y .kappas)
 
 -- the code's test, of the definition's log force
-tested : (c : tie.After-in-range) → c .in-range .result ≡ inRange (force (c .before .before))
-tested c = c .in-range .ensures ∙ ap inRange (c .before .log-force-at .ensures)
+tested : (c : tie.After-in-range) → c .in-range .result ≡ inRange (gridBy (c .before .before .args .fine)) (force (c .before .before))
+tested c = c .in-range .ensures ∙ ap (inRange (gridBy (c .before .before .args .fine))) (c .before .log-force-at .ensures)
 
-in-range : (c : tie.Else1) → inRange (force (c .before .before .before)) ≡ true
+in-range : (c : tie.Else1) → inRange (gridBy (c .before .before .before .args .fine)) (force (c .before .before .before)) ≡ true
 in-range c = sym (tested (c .before)) ∙ not-false _ (c .if1 .left)
 
 returns : tie.Need-returns
@@ -43,7 +44,7 @@ returns-2 c =
     rw (in-range e)
     (ap Of
     (c .force-to-90 .ensures
-    ∙ ap (λ (k : SignedEnds). expBetween billionths (negated k)) (m .log-force-at .ensures)))
+    ∙ ap (λ (k : SignedEnds). expBetween (gridBy (m .before .args .fine)) (negated k)) (m .log-force-at .ensures)))
 
 pub young-force-spec : {M : Type 1} → statement M
 young-force-spec =

@@ -6,7 +6,7 @@ use lib.IntN.{ℤ}
 use Rattle.number_whole.specs.declared.SignedEnds.{SignedEnds}
 use Rattle.number_exponential.specs.declared.Ends.{Ends}
 use Rattle.number_exponential.specs.Exponential.{expBetween}
-use Rattle.number_exponential.specs.Billionths.{billionths}
+use Rattle.number_exponential.specs.Grid.{Grid}
 use Rattle.set_params.specs.declared.Params.{Params}
 use Rattle.model_log_force.specs.LogForce.{inRange}
 use Rattle.model_logistic.specs.Logistic.{logistic}
@@ -23,28 +23,28 @@ unfoldable pub cellIf : Bool → Ends → Cell
 cellIf ok e = cond ok (Of e) LogForceOutOfRange
 
 -- the force at an age to 90, from its log force, and above, from its weights and the ends of H
-abbrev pub youngForceCell : SignedEnds → Cell
-youngForceCell m = cellIf (inRange m) (expBetween billionths (negated m))
+abbrev pub youngForceCell : Grid → SignedEnds → Cell
+youngForceCell g m = cellIf (inRange g m) (expBetween g (negated m))
 
-abbrev pub oldForceCell : List ℤ → Fitted → Cell
-oldForceCell row f = cellIf (f .ok) (logistic billionths (weightedMean (weightOf row) (f .ends)))
+abbrev pub oldForceCell : Grid → List ℤ → Fitted → Cell
+oldForceCell g row f = cellIf (f .ok) (logistic g (weightedMean (weightOf row) (f .ends)))
 
 -- that at age x in year n
-abbrev pub forceCell : Params → ℕ → ℕ → Cell
-forceCell p x n = cellIf (neededInRange p x n) (force billionths p x n)
+abbrev pub forceCell : Grid → Params → ℕ → ℕ → Cell
+forceCell g p x n = cellIf (neededInRange g p x n) (force g p x n)
 
 -- p of a force
-unfoldable pub livedCell : Cell → Cell
-livedCell LogForceOutOfRange = LogForceOutOfRange
-livedCell (Of f) = Of (expBetween billionths f)
+unfoldable pub livedCell : Grid → Cell → Cell
+livedCell g LogForceOutOfRange = LogForceOutOfRange
+livedCell g (Of f) = Of (expBetween g f)
 
 -- the answer at an age to 90, and above
-abbrev pub youngCell : SignedEnds → Cell
-youngCell m = cellIf (inRange m) (expBetween billionths (expBetween billionths (negated m)))
+abbrev pub youngCell : Grid → SignedEnds → Cell
+youngCell g m = cellIf (inRange g m) (expBetween g (expBetween g (negated m)))
 
-abbrev pub oldCell : List ℤ → Fitted → Cell
-oldCell row f = cellIf (f .ok) (expBetween billionths (logistic billionths (weightedMean (weightOf row) (f .ends))))
+abbrev pub oldCell : Grid → List ℤ → Fitted → Cell
+oldCell g row f = cellIf (f .ok) (expBetween g (logistic g (weightedMean (weightOf row) (f .ends))))
 
 -- the answer at age x in year n: p's ends where every needed cell is in range
-abbrev pub cellOf : Params → ℕ → ℕ → Cell
-cellOf p x n = cellIf (neededInRange p x n) (survival billionths p x n wholeYear)
+abbrev pub cellOf : Grid → Params → ℕ → ℕ → Cell
+cellOf g p x n = cellIf (neededInRange g p x n) (survival g p x n wholeYear)

@@ -7,10 +7,11 @@ use borrow.Author.Tests.{lt-ltb, le-ltb}
 use Rattle.number_whole.specs.laws.Clash.{clash}
 use Rattle.number_exponential.specs.declared.Ends.{Ends}
 use Rattle.number_exponential.specs.Exponential.{expBetween}
-use Rattle.number_exponential.specs.Billionths.{billionths}
+use Rattle.number_exponential.specs.Grid.{Grid}
 use Rattle.set_params.specs.declared.Params.{Params}
 use Rattle.model_log_force.specs.LogForce.{logForce}
-use Rattle.model_closure.specs.Weights.{firstClosed, weightRow}
+use Rattle.model_closure.specs.Weights.{firstClosed}
+use Rattle.model_closure.specs.code.Table.{weightRow}
 use Rattle.model_closure.specs.examples.Rows.{row-mean}
 use Rattle.model_mortality.specs.Cell.{youngForce, oldForce, force, survival, neededInRange}
 use Rattle.model_mortality.specs.laws.Whole.{force-whole}
@@ -33,37 +34,36 @@ cell-gone false f q = refl
 
 -- ---- the force
 
-pub young-force : (p : Params) {x : ℕ} (n : ℕ) → x < firstClosed → youngForceCell (logForce p x n) ≡ forceCell p x n
+pub young-force : (g : Grid) (p : Params) {x : ℕ} (n : ℕ) → x < firstClosed → youngForceCell g (logForce g p x n) ≡ forceCell g p x n
 unfolding neededInRange force youngForce
-young-force p {x} n l = rw (lt-ltb x firstClosed l)
+young-force g p {x} n l = rw (lt-ltb x firstClosed l)
 
 by-range : (b : Bool) (d e : Ends) → (T b → d ≡ e) → cellIf b d ≡ cellIf b e
 unfolding cellIf
 by-range true d e h = ap Of (h tt)
 by-range false d e h = refl
 
-pub old-force : {p : Params} {x n : ℕ} {f : Fitted} → FittedOf p n f → firstClosed ≤ x → oldForceCell (weightRow x) f ≡ forceCell p x n
+pub old-force : {g : Grid} {p : Params} {x n : ℕ} {f : Fitted} → FittedOf g p n f → firstClosed ≤ x → oldForceCell g (weightRow x) f ≡ forceCell g p x n
 unfolding neededInRange force oldForce
-old-force {p} {x} {n} {f} h l =
+old-force {g} {p} {x} {n} {f} h l =
     rw (le-ltb x firstClosed l, ← h .ok) (by-range (f .ok) _ _ (λ t. rw (row-mean x (f .ends), h .ends t)))
 
 -- ---- p
 
-pub lived-if : (b : Bool) (f : Ends) → livedCell (cellIf b f) ≡ cellIf b (expBetween billionths f)
+pub lived-if : (g : Grid) (b : Bool) (f : Ends) → livedCell g (cellIf b f) ≡ cellIf b (expBetween g f)
 unfolding cellIf livedCell
-lived-if true f = refl
-lived-if false f = refl
+lived-if g true f = refl
+lived-if g false f = refl
 
-lived : (b c : Bool) (d e : Ends) → cellIf b d ≡ cellIf c e
-    → cellIf b (expBetween billionths d) ≡ cellIf c (expBetween billionths e)
-lived b c d e q = sym (lived-if b d) ∙ ap livedCell q ∙ lived-if c e
+lived : (g : Grid) (b c : Bool) (d e : Ends) → cellIf b d ≡ cellIf c e → cellIf b (expBetween g d) ≡ cellIf c (expBetween g e)
+lived g b c d e q = sym (lived-if g b d) ∙ ap (livedCell g) q ∙ lived-if g c e
 
-of-cell : (p : Params) (x n : ℕ) → cellIf (neededInRange p x n) (expBetween billionths (force billionths p x n)) ≡ cellOf p x n
+of-cell : (g : Grid) (p : Params) (x n : ℕ) → cellIf (neededInRange g p x n) (expBetween g (force g p x n)) ≡ cellOf g p x n
 unfolding survival
-of-cell p x n = rw (force-whole (force billionths p x n))
+of-cell g p x n = rw (force-whole (force g p x n))
 
-pub young-cell : (p : Params) {x : ℕ} (n : ℕ) → x < firstClosed → youngCell (logForce p x n) ≡ cellOf p x n
-young-cell p {x} n l = lived _ _ _ _ (young-force p n l) ∙ of-cell p x n
+pub young-cell : (g : Grid) (p : Params) {x : ℕ} (n : ℕ) → x < firstClosed → youngCell g (logForce g p x n) ≡ cellOf g p x n
+young-cell g p {x} n l = lived g _ _ _ _ (young-force g p n l) ∙ of-cell g p x n
 
-pub old-cell : {p : Params} {x n : ℕ} {f : Fitted} → FittedOf p n f → firstClosed ≤ x → oldCell (weightRow x) f ≡ cellOf p x n
-old-cell {p} {x} {n} h l = lived _ _ _ _ (old-force h l) ∙ of-cell p x n
+pub old-cell : {g : Grid} {p : Params} {x n : ℕ} {f : Fitted} → FittedOf g p n f → firstClosed ≤ x → oldCell g (weightRow x) f ≡ cellOf g p x n
+old-cell {g} {p} {x} {n} h l = lived g _ _ _ _ (old-force h l) ∙ of-cell g p x n

@@ -13,7 +13,7 @@ use Rattle.model_closure.specs.Closure.{endsAt}
 
 -- how far from 0 an end of H and the weighted sums may lie
 abbrev pub endLimit : ℕ
-endLimit = 10 ^ 12
+endLimit = 10 ^ 15
 
 abbrev pub sumsLimit : ℕ
 sumsLimit = fitted * (weightLimit * endLimit)

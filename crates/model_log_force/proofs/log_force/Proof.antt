@@ -1,62 +1,97 @@
 -- `log_force` meets its contract: for a cell in its limits nothing overflows, and the ends are those of the definition.
 use borrow.Author.Needs.{needs}
+use mathlib.Core.Path.{_≡_}
+use lib.IntN.{_+ℤ_, _*ℤ_}
+use mir.Syntax.{w64}
+use mir.Val.{SFits}
+use Rattle.number_whole.specs.laws.Bound.{bits, back}
 use Rattle.number_whole.proofs.Signed.{both-ends}
-use Rattle.model_log_force.proofs.Cell.{fixed, trend, least-read-fits, greatest-read-fits, low, high, lower-end, upper-end}
+use Rattle.number_exponential.specs.Units.{gridOf}
+use Rattle.number_exponential.specs.code.Flag.{unitBy, gridBy}
+use Rattle.set_series.specs.Series.{inGrid}
+use Rattle.set_series.specs.laws.Mixed.{endBy}
+use Rattle.set_series.proofs.Chosen.{chosen-under, chosen-read}
+use Rattle.model_log_force.specs.LogForce.{cellForce}
+use Rattle.model_log_force.proofs.Cell.{number-under, number, fixed, trend, beta-under, within, lower-end, upper-end}
 use Rattle.model_log_force.proofs.log_force.Statement.{statement}
 use Rattle.model_log_force.proofs.log_force.Tie as tie
 
--- the function's start, from after each product
-abbrev start : tie.After-struct-told3 → tie.Start
-start c = c .before .before .before .before .before
+-- the places after both choices: the first choice, the number in the grid's units, and the function's start
+abbrev first : tie.After-end-by2 → tie.After-end-by
+first c = c .before .before .before
 
-abbrev start₁ : tie.After-least-product → tie.Start
-start₁ c = start (c .before)
+abbrev grid : tie.After-end-by2 → tie.After-in-grid
+grid c = first c .before .before .before .before .before .before
 
-abbrev start₂ : tie.After-greatest-product → tie.Start
-start₂ c = start₁ (c .before)
+abbrev start : tie.After-end-by2 → tie.Start
+start c = grid c .before .before .before
 
-add-fixed : tie.Need-add-fixed
-add-fixed c = fixed (c .before .before .pre) .0
+add-in-grid : tie.Need-add-in-grid
+add-in-grid c = let s = c .before .before in number (unitBy (s .args .fine)) (s .pre) .0
+
+in-grid-requires : tie.Need-in-grid-requires
+in-grid-requires c κs = let s = c .before .before in rw (number (unitBy (s .args .fine)) (s .pre) .1) (number-under (unitBy (s .args .fine)) (s .pre))
 
 mul-trend : tie.Need-mul-trend
-mul-trend c = trend (c .before .before .before .before .pre) .0
+mul-trend c = let s = c .before .before .before .before .before in trend (unitBy (s .args .fine)) (s .pre) .0
 
-least-product-requires : tie.Need-least-product-requires
-least-product-requires c κs = least-read-fits (start c .pre)
+-- A + alpha, and the two chosen ends, as they are read
+module _ (c : tie.After-end-by2) where
+  added : bits (grid c .in-grid .result) ≡ inGrid (gridBy (start c .args .fine)) (start c .args .age .level +ℤ start c .args .age .alpha)
+  added =
+      let s = start c in
+      fixed (unitBy (s .args .fine)) (s .pre) (number (unitBy (s .args .fine)) (s .pre) .1) (grid c .in-grid .ensures)
 
-add-least : tie.Need-add-least
-add-least c = let l = start₁ c .pre in low l (trend l .1) (c .least-product .ensures) .0
+  low : bits (first c .end-by .result) ≡ endBy (start c .args .age .beta) (start c .args .kappas .lower) (start c .args .kappas .upper)
+  low =
+      let s = start c in
+      let l = s .pre in
+      chosen-read (unitBy (s .args .fine)) (beta-under (unitBy (s .args .fine)) l) (l .kappas .low) (l .kappas .high) (first c .end-by .ensures)
 
-greatest-product-requires : tie.Need-greatest-product-requires
-greatest-product-requires c κs = greatest-read-fits (start₁ c .pre)
+  high : bits (c .end-by2 .result) ≡ endBy (start c .args .age .beta) (start c .args .kappas .upper) (start c .args .kappas .lower)
+  high =
+      let s = start c in
+      let l = s .pre in
+      chosen-read (unitBy (s .args .fine)) (beta-under (unitBy (s .args .fine)) l) (l .kappas .high) (l .kappas .low) (c .end-by2 .ensures)
 
-add-greatest : tie.Need-add-greatest
-add-greatest c = let l = start₂ c .pre in high l (trend l .1) (c .greatest-product .ensures) .0
+mixed-over-requires : tie.Need-mixed-over-requires
+mixed-over-requires c κs =
+    let s = start c in
+    let u = unitBy (s .args .fine) in
+    let l = s .pre in
+    rw (trend u l .1, back (beta-under u l) tt, low c) (within u l (chosen-under u (beta-under u l) (l .kappas .low) (l .kappas .high)))
 
-add-lower : tie.Need-add-lower
-add-lower c =
-    let d = c .before .before in
-    let l = start₁ d .pre in
-    lower-end l (fixed l .1) (low l (trend l .1) (d .least-product .ensures) .1) (c .outward-div .ensures) .0
+mixed-over-requires-2 : tie.Need-mixed-over-requires-2
+mixed-over-requires-2 m κs =
+    let c = m .before in
+    let s = start c in
+    let u = unitBy (s .args .fine) in
+    let l = s .pre in
+    rw (trend u l .1, back (beta-under u l) tt, high c) (within u l (chosen-under u (beta-under u l) (l .kappas .high) (l .kappas .low)))
 
-add-upper : tie.Need-add-upper
-add-upper c =
-    let d = c .before .before in
-    let l = start₂ d .pre in
-    upper-end l (fixed l .1) (high l (trend l .1) (d .greatest-product .ensures) .1) (c .outward-div2 .ensures) .0
+-- the two ends
+lower : (m : tie.After-mixed-over) → let c = m .before in let s = start c in
+    let r = bits (grid c .in-grid .result) +ℤ bits (m .mixed-over .result) in
+    SFits w64 r × (bits r ≡ cellForce (gridBy (s .args .fine)) (s .args .age) (s .args .period) (s .args .kappas) .lower)
+lower m =
+    let c = m .before in
+    let s = start c in
+    let u = unitBy (s .args .fine) in
+    let l = s .pre in
+    lower-end u l (added c) (rw (trend u l .1, back (beta-under u l) tt, low c) at (m .mixed-over .ensures))
 
-returns : tie.Need-returns
-returns c =
-    let q = c .before in
-    let g = q .before in
-    let d = g .before in
-    let l = start₁ d .pre in
-    let m = low l (trend l .1) (d .least-product .ensures) .1 in
-    let n = high l (trend l .1) (g .greatest-product .ensures) .1 in
-    both-ends (lower-end l (fixed l .1) m (q .outward-div .ensures) .1) (upper-end l (fixed l .1) n (c .outward-div2 .ensures) .1)
+upper : (n : tie.After-mixed-over2) → let c = n .before .before in let s = start c in
+    let r = bits (grid c .in-grid .result) +ℤ bits (n .mixed-over2 .result) in
+    SFits w64 r × (bits r ≡ cellForce (gridBy (s .args .fine)) (s .args .age) (s .args .period) (s .args .kappas) .upper)
+upper n =
+    let c = n .before .before in
+    let s = start c in
+    let u = unitBy (s .args .fine) in
+    let l = s .pre in
+    upper-end u l (added c) (rw (trend u l .1, back (beta-under u l) tt, high c) at (n .mixed-over2 .ensures))
 
 pub log-force-spec : {M : Type 1} → statement M
 log-force-spec =
     tie.close
-    (tie.spec add-fixed mul-trend least-product-requires add-least greatest-product-requires add-greatest
-    (λ c κs. search needs) add-lower (λ c κs. search needs) add-upper returns)
+    (tie.spec add-in-grid in-grid-requires mul-trend (λ c κs. search needs) (λ c κs. search needs) mixed-over-requires
+    (λ c. lower c .0) mixed-over-requires-2 (λ c. upper c .0) (λ c. both-ends (lower (c .before) .1) (upper c .1)))

@@ -17,16 +17,16 @@ kappa-step-requires c κs = let p = c .before .pre in (p .dynamics, p .kappas)
 abbrev start : tie.After-kappa-step → tie.Start
 start c = c .before .before
 
-add-t5 : tie.Need-add-t5
-add-t5 c = omega (arith, start (c .before) .pre .number)
+add-t6 : tie.Need-add-t6
+add-t6 c = omega (arith, start (c .before) .pre .number)
 
 -- K with theta
 next : (c : tie.After-kappa-step) → let y = start c .args .y in let d = start c .args .d in
     SFits w64 (bits (y .period) +ℤ bits (d .theta)) × (bits (bits (y .period) +ℤ bits (d .theta)) ≡ y .period +ℤ d .theta)
 next c = let p = start c .pre in sum (back (p .period) tt) (back (p .dynamics .theta) tt) refl (fits (p .next) tt)
 
-add-t6 : tie.Need-add-t6
-add-t6 c = next (c .before .before .before .before .before) .0
+add-t7 : tie.Need-add-t7
+add-t7 c = next (c .before .before .before .before .before) .0
 
 returns : tie.Need-returns
 returns c =
@@ -34,4 +34,4 @@ returns c =
     record { number = add-one _; period = next k .1; kappas = k .kappa-step .ensures }
 
 pub next-year-spec : {M : Type 1} → statement M
-next-year-spec = tie.close (tie.spec kappa-step-requires add-t5 add-t6 returns)
+next-year-spec = tie.close (tie.spec kappa-step-requires add-t6 add-t7 returns)

@@ -1,11 +1,13 @@
 -- `year_at` meets its contract: a set in its limits meets what K and kappa of a year require.
 use mathlib.Core.Path.{_≡_, refl}
 use native.Mathlib.Omega.{arith}
-use Rattle.number_whole.specs.laws.Bound.{fits, back}
+use Rattle.number_whole.specs.laws.Bound.{fits, back, under-weaken}
+use Rattle.number_exponential.specs.Units.{gridOf}
+use Rattle.number_exponential.specs.code.Flag.{unitBy, gridBy}
 use Rattle.set_params.specs.code.Within.{SeriesWithin}
 use Rattle.set_series.specs.laws.BoundLaws.{period-under}
 use Rattle.set_series.specs.Series.{periodIndex}
-use Rattle.set_limits.specs.laws.LimitsLaws.{in-limits-series, in-limits-kappa}
+use Rattle.set_limits.specs.laws.LimitsLaws.{in-limits-series, in-limits-kappa-on}
 use Rattle.number_whole.proofs.Signed.{read}
 use Rattle.model_log_force.proofs.year_at.Statement.{statement}
 use Rattle.model_log_force.proofs.year_at.Tie as tie
@@ -24,8 +26,11 @@ kappa-at-requires c κs =
     let s = c .before .before .before .before .before in
     let w = within s in
     let d = w .dynamics in
-    rw (back (d .a) tt, back (d .theta) tt, back (d .c) tt, back (w .kappa) tt)
-    (d, record { years = λ m h. in-limits-kappa (s .args .p) (s .pre .0) m (omega (arith, h, s .pre .1)) })
+    rw (back (d .a) tt, back (d .theta) tt, back (d .c) tt, back (w .kappa) tt) (
+      d,
+      under-weaken (w .kappa) (omega arith),
+      record { years = λ m h. in-limits-kappa-on (gridBy (s .args .fine)) (s .args .p) (s .pre .0) m (omega (arith, h, s .pre .1)) },
+    )
 
 returns : tie.Need-returns
 returns c =

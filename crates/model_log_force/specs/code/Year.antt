@@ -1,9 +1,10 @@
 -- What the code's contracts say beside the definitions: K and kappa of a year, and of the year after.
 use mathlib.Core.Path.{_≡_}
-use Prim.Native.Nat.{suc, _≤_, _<_}
+use Prim.Native.Nat.{suc, _*_, _≤_, _<_}
 use lib.Dec.{T}
 use lib.IntN.{ℤ, _+ℤ_}
 use Rattle.number_whole.specs.code.Sizes.{Under, Within}
+use Rattle.number_exponential.specs.Grid.{Grid}
 use Rattle.set_params.specs.declared.Params.{Params}
 use Rattle.set_params.specs.declared.Age.{Age}
 use Rattle.set_params.specs.declared.Dynamics.{Dynamics}
@@ -16,27 +17,27 @@ use Rattle.model_log_force.specs.code.Within.{CellLimits}
 use Rattle.model_log_force.specs.declared.Year.{Year}
 
 -- y is a year of the table with K and kappa of p, a set in its limits
-pub record YearOf (p : Params) (y : Year) : Type 0 where
+pub record YearOf (g : Grid) (p : Params) (y : Year) : Type 0 where
   pub limits : T (inLimits p)
   pub year : y .number ≤ lastYears
   pub period : y .period ≡ periodIndex p (y .number)
-  pub kappas : y .kappas ≡ kappa p (y .number)
+  pub kappas : y .kappas ≡ kappa g p (y .number)
 
 -- the year after y is in limits
-pub record YearWithin (d : Dynamics) (y : Year) : Type 0 where
+pub record YearWithin (g : Grid) (d : Dynamics) (y : Year) : Type 0 where
   pub dynamics : DynamicsWithin d
   pub number : y .number < lastYears
   pub period : Under (y .period) periodLimit
   pub next : Under (y .period +ℤ d .theta) periodLimit
-  pub kappas : Within kappaLimit (y .kappas)
+  pub kappas : Within (g .scale * kappaLimit) (y .kappas)
 
 -- r is the year after y
-pub record NextOf (d : Dynamics) (y r : Year) : Type 0 where
+pub record NextOf (g : Grid) (d : Dynamics) (y r : Year) : Type 0 where
   pub number : r .number ≡ suc (y .number)
   pub period : r .period ≡ y .period +ℤ d .theta
-  pub kappas : r .kappas ≡ kappaStep d (y .kappas)
+  pub kappas : r .kappas ≡ kappaStep g d (y .kappas)
 
 -- what a log force is formed of is in its limits, and no wider than in a year of the table
-pub record CellWithin (age : Age) (y : Year) : Type 0 where
-  pub limits : CellLimits age (y .period) (y .kappas)
+pub record CellWithin (g : Grid) (age : Age) (y : Year) : Type 0 where
+  pub limits : CellLimits g age (y .period) (y .kappas)
   pub wide : Wide (y .kappas .lower) (y .kappas .upper) lastYears

@@ -7,16 +7,19 @@ use lib.Dec.{T}
 use lib.Ieee.Fits.{and-l, and-r}
 use lib.IntN.{ℤ, pos, negsuc, negℤ}
 use lib.Signed.{_≤ℤ_, _<ℤ_, leZ, leZ-yes}
-use Rattle.number_whole.specs.Parts.{above, below}
-use Rattle.number_whole.specs.laws.Split.{split, split-add}
+use Rattle.number_whole.specs.Parts.{below}
+use Rattle.number_whole.specs.laws.Above.{above}
+use Rattle.number_whole.specs.laws.Split.{split, split-add, split-scale-left}
 use Rattle.number_whole.specs.declared.SignedEnds.{SignedEnds}
 use Rattle.number_fraction.specs.Fraction.{Fraction, _≤ℚ_, wholeℚ}
 use Rattle.number_fraction.specs.laws.FractionTerms.{negℚ}
 use Rattle.number_fraction.specs.laws.FractionLaws.{negℚ-reverse, wholeℚ-negℚ}
+use Rattle.number_exponential.specs.Grid.{Grid}
 use Rattle.set_params.specs.declared.Params.{Params}
 use Rattle.set_params.specs.declared.Age.{Age}
 use Rattle.set_params.specs.Set.{ages}
 use Rattle.set_params.specs.Limits.{lastYears}
+use Rattle.set_series.specs.Series.{inGrid}
 use Rattle.set_limits.specs.InLimits.{inLimits}
 use Rattle.number_whole.specs.laws.EndLaws.{Wide}
 use Rattle.number_fraction.specs.laws.EndsHold.{Holds}
@@ -24,16 +27,16 @@ use Rattle.model_log_force.specs.LogForce.{cellForce, logForce, lowestFo
 use Rattle.model_log_force.specs.code.Within.{CellLimits, logForceWidth, Negated}
 use Rattle.model_log_force.specs.laws.WidthLaws.{cellForce-wide, logForce-wide}
 
--- lower end at least −30,000,000,000, upper end at most −700,000,000
-pub record InRange (m : SignedEnds) : Type 0 where
-  pub low : lowestForce ≤ℤ m .lower
-  pub high : m .upper ≤ℤ highestForce
+-- lower end at least −30,000,000,000 in units of 10^-9, upper end at most −700,000,000
+pub record InRange (g : Grid) (m : SignedEnds) : Type 0 where
+  pub low : inGrid g lowestForce ≤ℤ m .lower
+  pub high : m .upper ≤ℤ inGrid g highestForce
 
-pub in-range : (m : SignedEnds) → T (inRange m) → InRange m
+pub in-range : (g : Grid) (m : SignedEnds) → T (inRange g m) → InRange g m
 unfolding inRange
-in-range m t =
-    let l = leZ lowestForce (m .lower) in
-    let h = leZ (m .upper) highestForce in
+in-range g m t =
+    let l = leZ (inGrid g lowestForce) (m .lower) in
+    let h = leZ (m .upper) (inGrid g highestForce) in
     record { low = leZ-yes (and-l l h t); high = leZ-yes (and-r l h t) }
 
 -- a number below zero is its part below zero, negated
@@ -41,8 +44,16 @@ negative : (z : ℤ) → z <ℤ pos 0 → (negℤ z ≡ pos (below z)) × (above
 negative (pos n) h = absurd (omega split)
 negative (negsuc n) h = (refl, refl)
 
-pub negated : {m : SignedEnds} {w : ℕ} → InRange m → Wide (m .lower) (m .upper) w → Negated m w
-negated {m} {w} r h =
+-- a grid has some units in 10^-9
+pub scale-some : (g : Grid) → 0 < g .scale
+scale-some g = omega (arith, g .positive, g .scaled)
+
+pub negated : (g : Grid) {m : SignedEnds} {w : ℕ} → InRange g m → Wide (m .lower) (m .upper) w → Negated g m w
+unfolding inGrid
+negated g {m} {w} r h =
+    let k = scale-some g in
+    let a = split-scale-left (g .scale) lowestForce in
+    let b = split-scale-left (g .scale) highestForce in
     let l = negative (m .lower) (omega split) in
     let u = negative (m .upper) (omega split) in
     let s = split-add (m .lower) (pos w) in
@@ -56,7 +67,7 @@ negated {m} {w} r h =
     }
 
 -- the negated ends hold −y where the ends hold y
-pub negated-holds : {m : SignedEnds} {w : ℕ} {y : Fraction} → Negated m w → Holds m y
+pub negated-holds : {g : Grid} {m : SignedEnds} {w : ℕ} {y : Fraction} → Negated g m w → Holds m y
     → (wholeℚ (pos (below (m .upper))) ≤ℚ negℚ y) × (negℚ y ≤ℚ wholeℚ (pos (below (m .lower))))
 negated-holds {m} n h = (
   rw (← n .upper, wholeℚ-negℚ (m .upper)) (negℚ-reverse (h .high)),
@@ -66,12 +77,12 @@ negated-holds {m} n h = (
 -- ---- of a log force
 
 -- the ends of −m of a cell in its limits and in range, in a year of a quote
-pub cell-negated : {a : Age} {k : ℤ} {e : SignedEnds} → CellLimits a k e → Wide (e .lower) (e .upper) lastYears
-    → T (inRange (cellForce a k e)) → Negated (cellForce a k e) logForceWidth
-cell-negated {a} {k} {e} l w r =
-    negated (in-range (cellForce a k e) r) (cellForce-wide a k logForceWidth (l .age .beta) w (omega arith))
+pub cell-negated : {g : Grid} {a : Age} {k : ℤ} {e : SignedEnds} → CellLimits g a k e → Wide (e .lower) (e .upper) lastYears
+    → T (inRange g (cellForce g a k e)) → Negated g (cellForce g a k e) logForceWidth
+cell-negated {g} {a} {k} {e} l w r =
+    negated g (in-range g (cellForce g a k e) r) (cellForce-wide g a k logForceWidth (l .age .beta) w (omega arith))
 
 -- and for a set in its limits
-pub logForce-negated : (p : Params) → T (inLimits p) → {x n : ℕ} → x < ages → n ≤ lastYears
-    → T (inRange (logForce p x n)) → Negated (logForce p x n) logForceWidth
-logForce-negated p t {x} {n} hx hn r = negated (in-range (logForce p x n) r) (logForce-wide p t hx hn)
+pub logForce-negated : (g : Grid) (p : Params) → T (inLimits p) → {x n : ℕ} → x < ages → n ≤ lastYears
+    → T (inRange g (logForce g p x n)) → Negated g (logForce g p x n) logForceWidth
+logForce-negated g p t {x} {n} hx hn r = negated g (in-range g (logForce g p x n) r) (logForce-wide g p t hx hn)

@@ -1,17 +1,18 @@
 -- A year of the table: the year after it, and its cells at ages to 90 as an age's parameters give them.
 use mathlib.Core.Path.{_≡_}
-use Prim.Native.Nat.{ℕ, suc, _<_}
+use Prim.Native.Nat.{ℕ, suc, _*_, _<_}
 use native.Mathlib.Omega.{arith}
 use lib.IntN.{ℤ, pos, _+ℤ_, _*ℤ_}
 use Rattle.number_whole.specs.laws.Split.{split, split-add, split-scale-left}
 use Rattle.number_whole.specs.code.Sizes.{Under, Within}
+use Rattle.number_exponential.specs.Grid.{Grid}
 use Rattle.set_params.specs.declared.Params.{Params}
 use Rattle.set_params.specs.Set.{ages, ageOf, dynamicsOf}
 use Rattle.set_params.specs.Limits.{lastYears, periodLimit, kappaLimit}
 use Rattle.set_series.specs.Series.{periodIn, periodIndex, kappaIn}
 use Rattle.set_series.specs.laws.BoundLaws.{period-under}
 use Rattle.set_series.specs.laws.WidthLaws.{kappa-wide}
-use Rattle.set_limits.specs.laws.LimitsLaws.{in-limits-series, in-limits-kappa}
+use Rattle.set_limits.specs.laws.LimitsLaws.{in-limits-series, in-limits-kappa-on}
 use Rattle.number_whole.specs.laws.EndLaws.{Wide, wide-more}
 use Rattle.model_log_force.specs.LogForce.{cellForce, logForce}
 use Rattle.model_log_force.specs.laws.BoundLaws.{cell-limits}
@@ -33,15 +34,15 @@ period-step : (p : Params) (n : ℕ) → periodIndex p (suc n) ≡ periodIndex p
 unfolding periodIn
 period-step p n = step-sum (p .period) (p .theta) n
 
-module _ {p : Params} {y : Year} (h : YearOf p y) where
+module _ {g : Grid} {p : Params} {y : Year} (h : YearOf g p y) where
   period-within : Under (y .period) periodLimit
   period-within = rw (h .period) (period-under (in-limits-series p (h .limits) .index) (h .year))
 
-  kappas-within : Within kappaLimit (y .kappas)
-  kappas-within = rw (h .kappas) (in-limits-kappa p (h .limits) (y .number) (h .year))
+  kappas-within : Within (g .scale * kappaLimit) (y .kappas)
+  kappas-within = rw (h .kappas) (in-limits-kappa-on g p (h .limits) (y .number) (h .year))
 
   -- the year after is in its limits where it is one of the table, and it is the set's
-  pub year-within : y .number < lastYears → YearWithin (dynamicsOf p) y
+  pub year-within : y .number < lastYears → YearWithin g (dynamicsOf p) y
   year-within l =
       let s = in-limits-series p (h .limits) in
       record {
@@ -52,7 +53,7 @@ module _ {p : Params} {y : Year} (h : YearOf p y) where
         kappas = kappas-within;
       }
 
-  pub year-next : y .number < lastYears → {r : Year} → NextOf (dynamicsOf p) y r → YearOf p r
+  pub year-next : y .number < lastYears → {r : Year} → NextOf g (dynamicsOf p) y r → YearOf g p r
   unfolding kappaIn
   year-next l e =
       record {
@@ -63,19 +64,19 @@ module _ {p : Params} {y : Year} (h : YearOf p y) where
       }
 
   -- what a log force at an age to 90 is formed of
-  pub cell-within : {x : ℕ} → x < ages → CellWithin (ageOf p x) y
+  pub cell-within : {x : ℕ} → x < ages → CellWithin g (ageOf p x) y
   cell-within {x} l =
       record {
-        limits = rw (h .period, h .kappas) (cell-limits p (h .limits) l (h .year));
+        limits = rw (h .period, h .kappas) (cell-limits g p (h .limits) l (h .year));
         wide = kappas-wide;
       }
     where
       kappas-wide : Wide (y .kappas .lower) (y .kappas .upper) lastYears
       kappas-wide =
-          let w = kappa-wide (p .kappa) (y .number) (in-limits-series p (h .limits) .dynamics) in
+          let w = kappa-wide g (p .kappa) (y .number) (in-limits-series p (h .limits) .dynamics) in
           wide-more (h .year) (rw (← h .kappas) at w)
 
   -- is the set's
-  pub year-force : (x : ℕ) → cellForce (ageOf p x) (y .period) (y .kappas) ≡ logForce p x (y .number)
+  pub year-force : (x : ℕ) → cellForce g (ageOf p x) (y .period) (y .kappas) ≡ logForce g p x (y .number)
   unfolding logForce
   year-force x = rw (h .period, h .kappas)

@@ -6,7 +6,8 @@ use native.Mathlib.Nat.{mul-le-mul-right}
 use native.Mathlib.Omega.{arith}
 use lib.Dec.{lit<}
 use lib.IntN.{ℤ, pos, negsuc}
-use Rattle.number_whole.specs.Parts.{above, below}
+use Rattle.number_whole.specs.Parts.{below}
+use Rattle.number_whole.specs.laws.Above.{above}
 use Rattle.number_whole.specs.laws.Difference.{difference, difference-pos, difference-add, difference-scale}
 use Rattle.number_fraction.specs.Ratio.{Ratio, _≤/_, whole/, _+/_, quotient/}
 use Rattle.number_fraction.specs.laws.RatioLaws.{≤/-refl, ≤/-trans, </→≤/, ≤/-+/, +/-mono, +/-comm, +/-assoc}

@@ -5,7 +5,8 @@ use Prim.Native.Nat.{ℕ, zero, suc, _+_, _*_, _≤_, _<_}
 use native.Mathlib.Nat.{mul-le-mul-left, mul-le-mul-right, le-of-mul-le-mul-right}
 use native.Mathlib.Nat.{mul-pos, le-antisymm}
 use native.Mathlib.Omega.{arith}
-use Rattle.number_taylor.specs.Taylor.{taylorDen, taylorNum, factorial}
+use Rattle.number_taylor.specs.Taylor.{taylorDen, taylorNum}
+use Rattle.number_taylor.specs.laws.Factorial.{factorial}
 use Rattle.number_taylor.specs.Positive.{taylorDen-positive, taylorNum-positive}
 use Rattle.number_taylor.specs.laws.Sums.{sum-monotone, sum-slope}
 use Rattle.number_taylor.specs.laws.Products.{sum-of-sum}

@@ -1,6 +1,7 @@
--- A cell that is answered: a set in its limits, an age and a year of the table, and every needed cell in range.
+-- A cell that is answered: a set in its limits, an age and a year of the table, and every needed cell in range on the grid of 10^-9.
 use Prim.Native.Nat.{ℕ, _≤_}
 use lib.Dec.{T}
+use Rattle.number_exponential.specs.Units.{billionths}
 use Rattle.set_params.specs.declared.Params.{Params}
 use Rattle.set_limits.specs.InLimits.{inLimits}
 use Rattle.set_params.specs.Limits.{lastYears}
@@ -11,4 +12,4 @@ pub record Answered (p : Params) (x n : ℕ) : Type 0 where
   pub limits : T (inLimits p)
   pub age : x ≤ lastClosed
   pub year : n ≤ lastYears
-  pub needed : T (neededInRange p x n)
+  pub needed : T (neededInRange billionths p x n)

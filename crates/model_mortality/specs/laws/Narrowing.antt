@@ -16,7 +16,8 @@ use Rattle.number_fraction.specs.laws.FractionLaws.{≤ℚ-refl, ≤ℚ-trans, 
 use Rattle.number_taylor.specs.Order.{leastOrder, orderLower, orderUpper}
 use Rattle.number_taylor.specs.laws.Narrowing.{narrowOrder}
 use Rattle.number_taylor.specs.laws.OrderLaws.{narrow-below, upper-below-one, brackets-agree}
-use Rattle.number_exponential.specs.Billionths.{billionths}
+use Rattle.number_exponential.specs.Units.{billionths, gridOf}
+use Rattle.number_exponential.specs.declared.GridUnit.the-variants.{Coarse}
 use Rattle.number_exponential.specs.laws.BillionthsFacts.{billionths-sound}
 use Rattle.number_exponential.specs.Grid.{inUnits}
 use Rattle.set_params.specs.declared.Params.{Params}
@@ -43,7 +44,8 @@ use Rattle.model_mortality.specs.Cell.{wholeYear}
 use Rattle.model_mortality.specs.laws.Answered.{Answered}
 use Rattle.model_mortality.specs.laws.Needed.{young-needed, old-needed}
 use Rattle.model_mortality.specs.laws.Holds.{z-overlap, order-fitted-at}
-use Rattle.model_mortality.specs.laws.Billionths.{billionths-fit}
+use Rattle.model_mortality.specs.laws.Facts.{Fit}
+use Rattle.model_mortality.specs.laws.GridFacts.{unit-fit}
 
 -- ---- parts of 1/M
 
@@ -147,8 +149,12 @@ absolute-signed L = refl
 
 -- ---- the force to 90
 
+billionths-fit : Fit billionths
+unfolding gridOf
+billionths-fit = unit-fit Coarse
+
 -- −m is at most 30, and at least the least log force
-module _ (p : Params) (x n : ℕ) (r : Negated (logForce p x n) logForceWidth) where
+module _ (p : Params) (x n : ℕ) (r : Negated billionths (logForce billionths p x n) logForceWidth) where
   z-small : exactZ p x n ≤/ whole/ 30
   unfolding inUnits whole/ negated
   z-small =
@@ -248,11 +254,11 @@ module _ {p : Params} {x n : ℕ} (a : Answered p x n) (M : ℕ) (h : 0 < M) (j 
       let e = part M h in
       let w : I .most ≤ℚ I .least +ℚ signed (whole/ 10 */ times 3 e) =
       closedSum-narrow x es (times 3 e) c (a .age) (λ i k. rw (order-fitted-at p n j i k)
-      (fitted-parts p (firstFitted + i) n (old-needed a c i k) j M h (omega arith) (omega arith) (omega arith))) in
+      (fitted-parts p (firstFitted + i) n (old-needed billionths a c i k) j M h (omega arith) (omega arith) (omega arith))) in
       let w′ : I .most ≤ℚ I .least +ℚ signed (times 30 e) =
       ≤ℚ-trans w (+ℚ-mono (≤ℚ-refl (I .least)) (signed-≤ℚ .0 (times-times 10 3 e))) in
       let b = closedSum-bounded x es (whole/ 31) c (a .age) (λ i k. rw (order-fitted-at p n j i k)
-      (fitted-bounded p (firstFitted + i) n (old-needed a c i k) j (omega arith))) in
+      (fitted-bounded p (firstFitted + i) n (old-needed billionths a c i k) j (omega arith))) in
       more (orderLogisticLower (I .least) j) 30 e
       (logistic-narrow 310 (40 * M) (forty-positive M h) I (times 30 e) j w′ (≤/-trans (b .low) (whole/-*/ 10 31 .above))
       (≤/-trans (b .high) (whole/-*/ 10 31 .above)) (omega arith))
@@ -264,7 +270,7 @@ module _ {p : Params} {x n : ℕ} (a : Answered p x n) (M : ℕ) (h : 0 < M) (j 
   p-narrow w =
       elim (decLt x firstClosed) [
         | yes k ↦
-            let f = young-parts p x n (young-needed a k) j M h (omega arith) in
+            let f = young-parts p x n (young-needed billionths a k) j M h (omega arith) in
             survival-parts p x n j M h (omega arith) w 1 (omega arith) (rw (lt-ltb x firstClosed k) f)
             (rw (lt-ltb x firstClosed k) (upper-one p x n j))
         | no k ↦

@@ -10,6 +10,7 @@ use Rattle.number_fraction.specs.Fraction.{_≤ℚ_}
 use Rattle.number_fraction.specs.laws.FractionLaws.{≤ℚ-refl, +ℚ-mono, signed-≤ℚ}
 use Rattle.number_taylor.specs.Order.{leastOrder}
 use Rattle.number_taylor.specs.laws.OrderLaws.{orders-agree}
+use Rattle.number_exponential.specs.Units.{billionths}
 use Rattle.set_params.specs.declared.Params.{Params}
 use Rattle.model_log_force.specs.LogForce.{logForce}
 use Rattle.model_log_force.specs.code.Within.{logForceWidth, Negated}
@@ -30,7 +31,7 @@ use Rattle.model_mortality.specs.laws.Narrowing.{half-one, young-half, y
 
 -- ---- H
 
-fitted-agrees : (p : Params) (y n : ℕ) → Negated (logForce p y n) logForceWidth → (i j : ℕ) → leastOrder ≤ j
+fitted-agrees : (p : Params) (y n : ℕ) → Negated billionths (logForce billionths p y n) logForceWidth → (i j : ℕ) → leastOrder ≤ j
     → orderFitted p n i y .least ≤ℚ orderFitted p n j y .most
 unfolding orderFitted
 fitted-agrees p y n r i j l =
@@ -39,7 +40,7 @@ fitted-agrees p y n r i j l =
 
 -- ---- the closure
 
-old-agrees : (p : Params) (x n : ℕ) → ((m : ℕ) → m < fitted → Negated (logForce p (firstFitted + m) n) logForceWidth)
+old-agrees : (p : Params) (x n : ℕ) → ((m : ℕ) → m < fitted → Negated billionths (logForce billionths p (firstFitted + m) n) logForceWidth)
     → (i j : ℕ) → leastOrder ≤ i → leastOrder ≤ j → NotAbove (orderOldForce p x n i) (orderOldForce p x n j)
 unfolding orderOldForce
 old-agrees p x n r i j k l =
@@ -64,10 +65,10 @@ module _ {p : Params} {x n : ℕ} (a : Answered p x n) (i j : ℕ) (k : leastOrd
   unfolding orderForce
   force-agrees =
       elim (decLt x firstClosed) [
-        | yes h ↦ rw (lt-ltb x firstClosed h) (record { reaches = young-agrees p x n (young-needed a h) i j })
+        | yes h ↦ rw (lt-ltb x firstClosed h) (record { reaches = young-agrees p x n (young-needed billionths a h) i j })
         | no h ↦
             let c : firstClosed ≤ x = omega arith in
-            rw (le-ltb x firstClosed c) (old-agrees p x n (old-needed a c) i j k l)
+            rw (le-ltb x firstClosed c) (old-agrees p x n (old-needed billionths a c) i j k l)
       ]
 
 module _ {p : Params} {x n : ℕ} (a : Answered p x n) where

@@ -34,7 +34,8 @@ use Rattle.model_logistic.specs.laws.LogisticWidth.{logistic-width, logistic-or
 use Rattle.model_closure.specs.Closure.{closedSum}
 use Rattle.model_closure.specs.laws.SumWidth.{closedSum-width, closedSum-ordered}
 use Rattle.model_force.specs.Force.{negated, deathOf}
-use Rattle.model_mortality.specs.Cell.{youngForce, fittedEnds, fittedList, oldForce, force, wholeYear, forceOver, survival, death}
+use Rattle.model_mortality.specs.Cell.{youngForce, fittedEnds, fittedList, oldForce, force, wholeYear, forceOver, survival}
+use Rattle.model_mortality.specs.laws.Death.{death}
 use Rattle.model_mortality.specs.laws.Facts.{Fit}
 use Rattle.model_mortality.specs.laws.Answered.{Answered}
 use Rattle.model_mortality.specs.laws.Needed.{young-needed, old-needed}
@@ -115,14 +116,14 @@ module _ (g : Grid) (s : Sound g) (w : Narrow g s) where
             omega (arith, h .ordered, h .width);
       }
 
-  young-narrowed : (p : Params) (x n : ℕ) → Negated (logForce p x n) logForceWidth → Narrowed (youngForce g p x n) (youngWidth g)
+  young-narrowed : (p : Params) (x n : ℕ) → Negated g (logForce g p x n) logForceWidth → Narrowed (youngForce g p x n) (youngWidth g)
   unfolding youngForce youngWidth negated
   young-narrowed p x n r =
-      exp-narrowed (negated (logForce p x n)) logForceWidth (record { ordered = r .ordered; width = r .width })
+      exp-narrowed (negated (logForce g p x n)) logForceWidth (record { ordered = r .ordered; width = r .width })
 
   module _ (fit : Fit g) where
-    fitted-width : (p : Params) (n y : ℕ) → Negated (logForce p y n) logForceWidth
-        → logForce p y n .upper ≤ℤ (logForce p y n .lower +ℤ pos logForceWidth)
+    fitted-width : (p : Params) (n y : ℕ) → Negated g (logForce g p y n) logForceWidth
+        → logForce g p y n .upper ≤ℤ (logForce g p y n .lower +ℤ pos logForceWidth)
         → fittedEnds g p n y .upper ≤ℤ (fittedEnds g p n y .lower +ℤ pos (fittedWidth g))
     unfolding fittedEnds inverseLogistic fittedWidth
     fitted-width p n y r m =
@@ -134,7 +135,7 @@ module _ (g : Grid) (s : Sound g) (w : Narrow g s) where
           log-width g (g .positive) (u .upper) (u .lower) (youngWidth g) (half-young g s fit w p y n r)
               (k .ordered) (k .width) (fit .log),
         ) in
-        signed-sum (logForce p y n .lower) (logForce p y n .upper) (logLower g (u .lower)) (logUpper g (u .upper)) logForceWidth _ m l
+        signed-sum (logForce g p y n .lower) (logForce g p y n .upper) (logLower g (u .lower)) (logUpper g (u .upper)) logForceWidth _ m l
 
     module _ (small : Fine g (sumWidth g)) {p : Params} {x n : ℕ} (a : Answered p x n) where
       fitted-ordered : firstClosed ≤ x → (i : ℕ) → i < fitted
@@ -142,8 +143,8 @@ module _ (g : Grid) (s : Sound g) (w : Narrow g s) where
       unfolding fittedEnds inverseLogistic
       fitted-ordered l i h =
           let y = firstFitted + i in
-          let k = young-narrowed p y n (old-needed a l i h) in
-          +ℤ-mono (logForce-ordered p (a .limits) (omega arith) (a .year))
+          let k = young-narrowed p y n (old-needed g a l i h) in
+          +ℤ-mono (logForce-ordered g p (a .limits) (omega arith) (a .year))
           (pos-mono (log-ordered g s (youngForce g p y n .lower) (youngForce g p y n .upper) (k .ordered)))
 
       old-force-width : firstClosed ≤ x → oldForce g p x n .upper ≤ oldForce g p x n .lower + oldWidth g
@@ -152,8 +153,8 @@ module _ (g : Grid) (s : Sound g) (w : Narrow g s) where
           regroup _ _ _ _ _
           (logistic-width g s w (closedSum x (fittedList g p n)) (sumWidth g)
           (closedSum-width x (fittedList g p n) (fittedWidth g) l (a .age) (λ i h.
-          rw (fitted-at g p n i h) (fitted-width p n (firstFitted + i) (old-needed a l i h)
-          (logForce-width p (a .limits) (omega arith) (a .year))))) small)
+          rw (fitted-at g p n i h) (fitted-width p n (firstFitted + i) (old-needed g a l i h)
+          (logForce-width g p (a .limits) (omega arith) (a .year))))) small)
 
       old-narrowed : firstClosed ≤ x → Narrowed (oldForce g p x n) (oldWidth g)
       unfolding oldForce
@@ -172,7 +173,7 @@ module _ (g : Grid) (s : Sound g) (w : Narrow g s) where
         young-survival-width l =
             rw (lt-ltb x firstClosed l)
             (exp-narrowed (forceOver part (youngForce g p x n)) (youngWidth g + 2)
-            (part-narrowed part (youngForce g p x n) (youngWidth g) within (young-narrowed p x n (young-needed a l))))
+            (part-narrowed part (youngForce g p x n) (youngWidth g) within (young-narrowed p x n (young-needed g a l))))
 
         pub old-survival-width : firstClosed ≤ x → Narrowed (survival g p x n part) (oldDeathWidth g)
         unfolding survival force oldDeathWidth

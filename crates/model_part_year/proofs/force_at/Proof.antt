@@ -5,10 +5,13 @@ use Prim.Native.Nat.{ℕ, _-_, _≤_, _<_}
 use native.Mathlib.Omega.{arith}
 use borrow.Author.Needs.{needs}
 use lib.ListN.{getD}
+use Rattle.number_exponential.specs.Units.{gridOf}
+use Rattle.number_exponential.specs.code.Flag.{unitBy, gridBy}
 use Rattle.set_params.specs.Set.{ageOf}
 use Rattle.set_params.specs.laws.SetLaws.{four-age}
 use Rattle.model_log_force.specs.laws.YearLaws.{cell-within, year-force}
-use Rattle.model_closure.specs.Weights.{firstClosed, lastClosed, weightRow}
+use Rattle.model_closure.specs.Weights.{firstClosed, lastClosed}
+use Rattle.model_closure.specs.code.Table.{weightRow}
 use Rattle.model_closure.specs.laws.WeightLaws.{table-row}
 use Rattle.model_closure.specs.examples.Rows.{row-within}
 use Rattle.model_cells.specs.code.Fitted.{FittedOf, lent}
@@ -22,7 +25,7 @@ use Rattle.model_part_year.proofs.force_at.Tie as tie
 abbrev young : tie.After-age-of-runs → tie.Then1
 young c = c .before .before .before .before .before .before
 
-age-read : (c : tie.After-age-of-runs) → let s = young c .before .before in c .age-of-runs .result ≡ ageOf (s .args .t1) (s .args .x)
+age-read : (c : tie.After-age-of-runs) → let s = young c .before .before in c .age-of-runs .result ≡ ageOf (s .args .t2) (s .args .x)
 age-read c = c .age-of-runs .ensures ∙ four-age _ _
 
 young-force-requires : tie.Need-young-force-requires
@@ -37,8 +40,8 @@ returns c =
     let y = t .before in
     let s = y .before in
     rw (age-read a, year-force (y .year-at .ensures .1) (s .args .x)) at (c .young-force .ensures)
-    ∙ young-force (s .args .t1) (y .year-at .result .number) (t .if1 .taken)
-    ∙ ap (forceCell (s .args .t1) (s .args .x)) (y .year-at .ensures .0)
+    ∙ young-force (gridBy (s .args .fine)) (s .args .t2) (y .year-at .result .number) (t .if1 .taken)
+    ∙ ap (forceCell (gridBy (s .args .fine)) (s .args .t2) (s .args .x)) (y .year-at .ensures .0)
 
 -- ---- above
 
@@ -61,7 +64,7 @@ fitted-in-requires : tie.Need-fitted-in-requires
 fitted-in-requires c κs = lent (c .before .before .before .before .before .before .before .before .year-at .ensures .1)
 
 heights : (c : tie.After-fitted-in) → let y = tabled c .before .before in
-    FittedOf (y .before .args .t1) (y .year-at .result .number) (c .fitted-in .result)
+    FittedOf (gridBy (y .before .args .fine)) (y .before .args .t2) (y .year-at .result .number) (c .fitted-in .result)
 heights c = c .fitted-in .ensures (lent (tabled c .before .before .year-at .ensures .1))
 
 old-force-requires : tie.Need-old-force-requires
@@ -78,7 +81,7 @@ returns-2 c =
     let y = e .before in
     let s = y .before in
     rw (row-read t) at (c .old-force .ensures) ∙ old-force (heights f) (closed e)
-    ∙ ap (forceCell (s .args .t1) (s .args .x)) (y .year-at .ensures .0)
+    ∙ ap (forceCell (gridBy (s .args .fine)) (s .args .t2) (s .args .x)) (y .year-at .ensures .0)
 
 pub force-at-spec : {M : Type 1} → statement M
 force-at-spec =

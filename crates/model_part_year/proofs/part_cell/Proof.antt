@@ -4,8 +4,9 @@ use mathlib.Core.Bool.{Bool}
 use borrow.Author.Needs.{needs}
 use lib.Ieee.Bits.{is-true}
 use Rattle.number_exponential.specs.declared.Ends.{Ends}
-use Rattle.number_exponential.specs.Billionths.{billionths}
-use Rattle.number_exponential.specs.laws.BillionthsFacts.{billionths-sound}
+use Rattle.number_exponential.specs.Units.{gridOf}
+use Rattle.number_exponential.specs.code.Flag.{unitBy, gridBy}
+use Rattle.number_exponential.specs.laws.GridFacts.{unit-sound}
 use Rattle.model_mortality.specs.Cell.{force, neededInRange}
 use Rattle.model_mortality.specs.laws.AtMostOne.{force-one}
 use Rattle.model_cells.specs.declared.Cell.the-variants.{Of}
@@ -15,10 +16,10 @@ use Rattle.model_part_year.proofs.part_cell.Statement.{statement}
 use Rattle.model_part_year.proofs.part_cell.Tie as tie
 
 abbrev tested : tie.Start → Bool
-tested s = neededInRange (s .args .p) (s .args .x) (s .args .n)
+tested s = neededInRange (gridBy (s .args .fine)) (s .args .p) (s .args .x) (s .args .n)
 
 abbrev forced : tie.Start → Ends
-forced s = force billionths (s .args .p) (s .args .x) (s .args .n)
+forced s = force (gridBy (s .args .fine)) (s .args .p) (s .args .x) (s .args .n)
 
 returns : tie.Need-returns
 unfolding cellIf
@@ -31,7 +32,7 @@ exp-over-requires : tie.Need-exp-over-requires
 exp-over-requires c κs =
     let a = c .before .before .before in
     let s = a .before in
-    let o = force-one billionths billionths-sound (s .args .p) (s .args .x) (s .args .n) in
+    let o = force-one (gridBy (s .args .fine)) (unit-sound (unitBy (s .args .fine))) (s .args .p) (s .args .x) (s .args .n) in
     let t = cell-there (tested s) (forced s) (sym (a .force-at .ensures) ∙ c .before .f .given .1) in
     rw (t .1) (o .0, o .1, s .pre .3)
 

@@ -16,8 +16,8 @@ pub probabilities : Row probabilityStep 5000 5000 (Printed 1)
 unfolding halfUp figureOf
 probabilities = (refl, refl, refl)
 
--- 1.2, and both sides of its lower half-edge
-pub expectancies : Row expectancyStep 1150000000 1249999999 (Printed 12)
-    × Row expectancyStep 1149999999 1150000000 Open
+-- 1.20, and both sides of its lower half-edge
+pub expectancies : Row expectancyStep 1195000000 1204999999 (Printed 120)
+    × Row expectancyStep 1194999999 1195000000 Open
 unfolding halfUp figureOf
 expectancies = (refl, refl)

@@ -1,18 +1,14 @@
--- `next_lower` meets its contract: the product of two numbers of at most the unit fits.
-use mathlib.Core.Path.{refl}
-use native.Mathlib.Nat.{mul-le-mul}
-use native.Mathlib.Omega.{arith}
+-- `next_lower` meets its contract: nothing is added to the product.
+use mathlib.Core.Path.{_∙_}
+use native.Mathlib.Nat.{add-zero}
 use borrow.Author.Needs.{needs}
 use Rattle.number_exponential.specs.Exponential.{nextLower}
 use Rattle.number_exp_ends.proofs.next_lower.Statement.{statement}
 use Rattle.number_exp_ends.proofs.next_lower.Tie as tie
 
-mul-result : tie.Need-mul-result
-mul-result c = omega (arith, mul-le-mul (c .pre .term) (c .pre .rest))
-
 returns : tie.Need-returns
 unfolding nextLower
-returns c = refl
+returns c = rw (c .next-term .ensures, add-zero)
 
 pub next-lower-spec : {M : Type 1} → statement M
-next-lower-spec = tie.close (tie.spec mul-result (λ c. search needs) (λ c. search needs) returns)
+next-lower-spec = tie.close (tie.spec (λ c κs. search needs) returns)

@@ -6,7 +6,7 @@ use Rattle.number_whole.specs.Division.{ceilDivℕ}
 use Rattle.number_taylor.specs.Alternating.{double}
 use Rattle.number_exponential.specs.Exponential.{nextLower, nextUpper, termLower, termUpper, total, evens, odds, sumLower, sumUpper}
 use Rattle.number_exponential.specs.Exponential.{constantLower, constantUpper, expLower, expUpper, expBetween}
-use Rattle.number_exponential.specs.Billionths.{billionths, wholeParts}
+use Rattle.number_exponential.specs.Units.{billionths, wholeParts}
 
 -- the ends of the exponential of −z, at a z whose own ends are equal, are l and u
 abbrev pub Row : ℕ → ℕ → ℕ → Type 0

@@ -31,7 +31,7 @@ first-algebra (suc c) U t p q h =
 power-one : (p : ℕ) → p ^ suc zero ≡ p
 power-one p = rw (pow-suc p zero, pow-zero p) (omega arith)
 
-constant-upper-one : (g : Grid) → Sound g → (n : ℕ) → n < length (g .constants) → constantUpper g n ≤ g .unit
+pub constant-upper-one : (g : Grid) → Sound g → (n : ℕ) → n < length (g .constants) → constantUpper g n ≤ g .unit
 unfolding constantUpper taylorNum taylorDen
 constant-upper-one g s zero l = le-refl (g .unit)
 constant-upper-one g s (suc n) l =

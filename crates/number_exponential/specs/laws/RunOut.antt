@@ -31,7 +31,7 @@ ceil-none t d p = sym (ceilℕ-unique 0 (t * 0) p (omega arith) (omega arith))
 pub count-fits : (n : ℕ) {c : ℕ} → n ≤ 100 → c ≤ 2 → Fits w64 (c * n)
 count-fits n {c} h k = omega (arith, mul-le-mul k h)
 
-pub sum-fits : (s n : ℕ) {c : ℕ} → s ≤ 10 ^ 12 → n ≤ 100 → c ≤ 2 → Fits w64 (s + c * n)
+pub sum-fits : (s n : ℕ) {c : ℕ} → s ≤ 10 ^ 16 → n ≤ 100 → c ≤ 2 → Fits w64 (s + c * n)
 sum-fits s n {c} l h k = omega (arith, mul-le-mul k h)
 
 -- ---- ends that stay

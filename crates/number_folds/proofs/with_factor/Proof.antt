@@ -1,31 +1,34 @@
--- `with_factor` meets its contract: the product of two numbers of at most the unit fits, with a divisor added.
-use Prim.Native.Nat.{_*_, _≤_}
-use native.Mathlib.Nat.{mul-le-mul}
+-- `with_factor` meets its contract: a product over the unit, rounded down and up.
+use mathlib.Core.Path.{_≡_, ap, ap₂, _∙_}
+use Prim.Native.Nat.{ℕ, _+_, _-_, _*_, _/_}
+use native.Mathlib.Nat.{add-zero}
 use native.Mathlib.Omega.{arith}
-use Rattle.number_exponential.specs.Billionths.{billionths}
+use borrow.Author.Needs.{needs}
+use Rattle.number_exponential.specs.Grid.{Grid}
+use Rattle.number_exponential.specs.declared.Ends.{Ends}
+use Rattle.number_exponential.specs.Units.{gridOf}
+use Rattle.number_exponential.specs.code.Flag.{unitBy, gridBy}
 use Rattle.number_exponential.specs.Outward.{outwardOver}
+use Rattle.number_products.specs.laws.Products.{product-up}
 use Rattle.number_folds.specs.Folds.{withFactor}
 use Rattle.number_folds.proofs.with_factor.Statement.{statement}
 use Rattle.number_folds.proofs.with_factor.Tie as tie
 
--- the two products are at most that of two units
-products : (c : tie.Start) → let s = c .args .s in let p = c .args .p in
-    (s .lower * p .lower ≤ billionths .unit * billionths .unit) × (s .upper * p .upper ≤ billionths .unit * billionths .unit)
-products c =
-    (mul-le-mul (c .pre .0 .lower) (c .pre .1 .lower), mul-le-mul (c .pre .0 .upper) (c .pre .1 .upper))
+sub-up : tie.Need-sub-up
+sub-up c = omega (arith, c .unit-by .ensures, gridBy (c .before .args .fine) .positive)
 
-mul-least : tie.Need-mul-least
-mul-least c = let p = products (c .before .before) in omega arith
-
-mul-greatest : tie.Need-mul-greatest
-mul-greatest c = let p = products (c .before .before .before .before) in omega arith
-
-ceil-div-u-requires : tie.Need-ceil-div-u-requires
-ceil-div-u-requires c κs = let p = products (c .before .before .before .before) in omega arith
+-- the two products
+made : (g : Grid) (s p : Ends) (n : ℕ) {l h : ℕ} → n ≡ g .unit → l ≡ (s .lower * p .lower + 0) / g .unit
+    → h ≡ (s .upper * p .upper + (n - 1)) / g .unit → record { lower = l; upper = h } ≡ withFactor g s p
+unfolding withFactor outwardOver
+made g s p n e a b =
+    ap₂ (λ (x y : ℕ). record { lower = x; upper = y }) (a ∙ ap (λ (x : ℕ). x / g .unit) (add-zero (s .lower * p .lower)))
+    (b ∙ ap (λ (u : ℕ). (s .upper * p .upper + (u - 1)) / g .unit) e ∙ product-up g (s .upper) (p .upper))
 
 returns : tie.Need-returns
-unfolding withFactor outwardOver
-returns c = rw (c .ceil-div-u .ensures)
+returns c =
+    let v = c .before .before in
+    made _ _ _ (v .unit-by .result) (v .unit-by .ensures) (c .before .product-by .ensures) (c .product-by2 .ensures)
 
 pub with-factor-spec : {M : Type 1} → statement M
-with-factor-spec = tie.close (tie.spec mul-least mul-greatest ceil-div-u-requires returns)
+with-factor-spec = tie.close (tie.spec (λ c κs. search needs) sub-up (λ c κs. search needs) (λ c κs. search needs) returns)

@@ -2,8 +2,8 @@
 use mathlib.Core.List.{List}
 use Prim.Native.Nat.{ℕ, _≤_}
 use lib.ListN.{take}
+use Rattle.number_exponential.specs.Grid.{Grid}
 use Rattle.number_exponential.specs.declared.Ends.{Ends}
-use Rattle.number_exponential.specs.Billionths.{billionths}
 use Rattle.number_folds.specs.laws.Each.{Each}
 
 -- both ends are at most m
@@ -16,6 +16,6 @@ abbrev pub mostFactors : ℕ
 mostFactors = 171
 
 -- the first `count` factors of an array are chances: no end is above 1
-pub record Chances (factors : List Ends) (count : ℕ) : Type 0 where
+pub record Chances (g : Grid) (factors : List Ends) (count : ℕ) : Type 0 where
   pub room : count ≤ mostFactors
-  pub each : Each (AtMost (billionths .unit)) (take count factors)
+  pub each : Each (AtMost (g .unit)) (take count factors)

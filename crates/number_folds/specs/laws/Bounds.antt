@@ -1,7 +1,7 @@
 -- How great the folds can be: a survival is at most 1, and an expectancy at most one half and 1 for each factor.
 use mathlib.Core.List.{List}
-use Prim.Native.Nat.{ℕ, zero, suc, _+_, _*_, _/_, _<_}
-use native.Mathlib.Nat.{le-refl, mul-le-mul}
+use Prim.Native.Nat.{ℕ, zero, suc, _+_, _*_, _/_, _≤_, _<_}
+use native.Mathlib.Nat.{le-refl, mul-le-mul, mul-le-mul-right, div-le-self}
 use native.Mathlib.Omega.{arith}
 use lib.ListN.{length}
 use Rattle.number_exponential.specs.Grid.{Grid}
@@ -43,3 +43,10 @@ module _ (g : Grid) (positive : 0 < g .unit) where
   expectancy-at-most {ps} h =
       let a = sum-at-most (g .unit) (survivalsOver g ps) (length ps) (λ k l. survival-at-most (each-take (suc k) h)) in
       record { lower = omega (arith, a .lower); upper = omega (arith, a .upper) }
+
+  -- and so, over at most m factors, at most m + 1
+  pub years-at-most : {n : ℕ} (m : ℕ) {e : Ends} → n ≤ m → AtMost (g .unit / 2 + n * g .unit) e → AtMost (suc m * g .unit) e
+  years-at-most m l h =
+      let k = mul-le-mul-right (g .unit) l in
+      let d = div-le-self (g .unit) 2 in
+      record { lower = omega (arith, h .lower); upper = omega (arith, h .upper) }

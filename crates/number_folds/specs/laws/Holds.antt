@@ -1,6 +1,6 @@
 -- The folds on a grid hold every order's: where each factor's ends overlap its bracket, the survival's and the
 -- expectancy's overlap theirs.
-use mathlib.Core.Path.{_≡_, refl}
+use mathlib.Core.Path.{_≡_}
 use mathlib.Core.List.{List, Forall₂, Forall₂·nil, Forall₂·cons}
 use Prim.Native.Nat.{ℕ, zero, suc, _*_, _/_, _<_}
 use native.Mathlib.Nat.{le-refl}
@@ -12,7 +12,6 @@ use Rattle.number_fraction.specs.Bracket.{Bracket}
 use Rattle.number_fraction.specs.laws.Places.{places-length, places-take}
 use Rattle.number_exponential.specs.Grid.{Grid, inUnits}
 use Rattle.number_exponential.specs.declared.Ends.{Ends}
-use Rattle.number_exponential.specs.Billionths.{billionths}
 use Rattle.number_exponential.specs.laws.Overlap.{Overlap}
 use Rattle.number_exponential.specs.laws.OutwardLaws.{units-over, units-within, outward-holds}
 use Rattle.number_folds.specs.Folds.{one, half, withFactor, survivalFrom, survivalOver, survivalsOver, plus, sumOver, expectancyOver}
@@ -27,13 +26,6 @@ use Rattle.number_folds.specs.Exact.{
   orderSumOver,
   orderExpectancyOver,
 }
-
--- one half is a whole number of units
-abbrev pub Even : Grid → Type 0
-Even g = 2 * (g .unit / 2) ≡ g .unit
-
-pub billionths-even : Even billionths
-billionths-even = refl
 
 module _ (g : Grid) where
   -- the ends of a value overlap a bracket of it
@@ -50,9 +42,15 @@ module _ (g : Grid) where
   unfolding one exactly inUnits whole/
   one-over = record { below = record { cross = omega arith }; above = record { cross = omega arith } }
 
-  pub half-over : Even g → Over (half g) (exactly half/)
+  -- one half is a whole number of units
+  half-whole : 2 * (g .unit / 2) ≡ g .unit
+  half-whole = omega (arith, g .scaled)
+
+  pub half-over : Over (half g) (exactly half/)
   unfolding half exactly half/ inUnits whole/ quotient/
-  half-over e = record { below = record { cross = omega arith }; above = record { cross = omega arith } }
+  half-over =
+      let e = half-whole in
+      record { below = record { cross = omega arith }; above = record { cross = omega arith } }
 
   -- ---- one factor, and one summand
 
@@ -88,11 +86,11 @@ module _ (g : Grid) where
   unfolding survivalOver orderSurvivalOver
   survival-holds h = from-holds one-over h
 
-  pub expectancy-holds : Even g → {es : List Ends} {bs : List Bracket} → Forall₂ Over es bs
+  pub expectancy-holds : {es : List Ends} {bs : List Bracket} → Forall₂ Over es bs
       → Over (expectancyOver g es) (orderExpectancyOver bs)
   unfolding expectancyOver orderExpectancyOver
-  expectancy-holds e {es} {bs} h =
+  expectancy-holds {es} {bs} h =
       rw (← places-length h)
-      (plus-holds (half-over e)
+      (plus-holds half-over
       (sum-holds (survivalsOver g es) (orderSurvivalsOver bs) (length es)
       (λ k l. survival-holds (places-take (suc k) h))))

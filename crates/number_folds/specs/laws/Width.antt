@@ -1,6 +1,6 @@
 -- How far apart the folds' ends lie: a survival's at most as far as those of all its factors together and 2 units a
 -- factor, an expectancy's as those of all the survivals in it.
-use mathlib.Core.List.{List, [], _∷_, Forall₂, Forall₂·nil, Forall₂·cons}
+use mathlib.Core.List.{List, [], _∷_, map, Forall₂, Forall₂·nil, Forall₂·cons}
 use Prim.Native.Nat.{ℕ, zero, suc, _+_, _*_, _≤_, _<_}
 use native.Mathlib.Nat.{le-refl, le-trans, mul-le-mul, mul-le-mul-left, mul-le-mul-right}
 use native.Mathlib.Omega.{arith}
@@ -28,6 +28,12 @@ chance-wider h l = record { ordered = h .ordered; most = h .most; width = omega 
 unfoldable pub spread : List ℕ → ℕ
 spread [] = 0
 spread (w ∷ ws) = (w + 2) + spread ws
+
+-- t times as wide, it is at most t times the survival's
+pub spread-times : (t : ℕ) → 0 < t → (ws : List ℕ) → spread (map (λ (w : ℕ). t * w) ws) ≤ t * spread ws
+unfolding spread
+spread-times t l [] = omega arith
+spread-times t l (w ∷ ws) = omega (arith, spread-times t l ws)
 
 -- of the expectancy over them: those of the survivals over the first k + 1, one k for each factor
 unfoldable pub spreads : List ℕ → ℕ

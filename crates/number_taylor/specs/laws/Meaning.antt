@@ -7,7 +7,8 @@ use native.Mathlib.Omega.{arith}
 use Rattle.number_fraction.specs.Ratio.{Ratio, _≤/_, _+/_, _*/_, whole/}
 use Rattle.number_fraction.specs.laws.RatioTerms.{_≈/_}
 use Rattle.number_fraction.specs.laws.RatioLaws.{≈/-iff}
-use Rattle.number_taylor.specs.Taylor.{taylorNum, taylorDen, gap, stretchedNum, stretchedDen, factorial}
+use Rattle.number_taylor.specs.Taylor.{taylorNum, taylorDen, gap, stretchedNum, stretchedDen}
+use Rattle.number_taylor.specs.laws.Factorial.{factorial}
 use Rattle.number_taylor.specs.Order.{orderLower, orderUpper}
 use Rattle.number_taylor.specs.laws.Terms.{expSum, expTerm, expRemainder}
 

@@ -2,7 +2,8 @@
 use Prim.Native.Nat.{ℕ, zero, suc, _*_, _^_, _<_}
 use native.Mathlib.Nat.{mul-pos, one-le-pow, le-refl, zero-lt-suc}
 use Rattle.number_fraction.specs.Ratio.{Ratio, _*/_}
-use Rattle.number_taylor.specs.Taylor.{taylorNum, taylorDen, gap, factorial}
+use Rattle.number_taylor.specs.Taylor.{taylorNum, taylorDen, gap}
+use Rattle.number_taylor.specs.laws.Factorial.{factorial}
 use Rattle.number_taylor.specs.Positive.{taylorDen-positive}
 
 -- s

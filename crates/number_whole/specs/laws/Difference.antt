@@ -6,7 +6,8 @@ use Prim.Native.Nat.{ℕ, _+_, _*_, _≤_}
 use native.Mathlib.Omega.{arith}
 use lib.IntN.{ℤ, pos, negsuc, negℤ, natAbs, _+ℤ_, _*ℤ_}
 use lib.Signed.{_≤ℤ_}
-use Rattle.number_whole.specs.Parts.{above, below}
+use Rattle.number_whole.specs.Parts.{below}
+use Rattle.number_whole.specs.laws.Above.{above}
 use Rattle.number_whole.specs.laws.Split.{split, split-add, split-neg, split-mul, split-scale}
 
 -- z = p − n
@@ -52,3 +53,7 @@ difference-mul {a} {b} {p} {n} d e = omega (
 -- p − n ≤ q − m when p + m ≤ q + n, and the like for less
 pub difference-le : {a b : ℤ} {p n q m : ℕ} → Difference a p n → Difference b q m → (p + m ≤ q + n) ↔ (a ≤ℤ b)
 difference-le d e = (λ h. omega split, λ h. omega split)
+
+-- p − n = q − m when p + m = q + n
+pub difference-eq : {a b : ℤ} {p n q m : ℕ} → Difference a p n → Difference b q m → p + m ≡ q + n → a ≡ b
+difference-eq d e h = omega split

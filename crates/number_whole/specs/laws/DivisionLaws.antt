@@ -6,7 +6,8 @@ use native.Mathlib.Nat.{le-antisymm, lt-of-mul-lt-mul-right, div-mul-le-self, lt
 use native.Mathlib.Omega.{arith}
 use lib.IntN.{ℤ, pos, negsuc, negℤ, _+ℤ_, _*ℤ_}
 use lib.Signed.{_≤ℤ_}
-use Rattle.number_whole.specs.Parts.{above, below}
+use Rattle.number_whole.specs.Parts.{below}
+use Rattle.number_whole.specs.laws.Above.{above}
 use Rattle.number_whole.specs.laws.Split.{split, split-neg, split-add, split-scale, le-split}
 use Rattle.number_whole.specs.laws.Order.{≤ℤ-trans}
 use Rattle.number_whole.specs.Division.{floorDiv, ceilDiv, ceilDivℕ}
@@ -93,7 +94,7 @@ pub ceil-above : (z : ℤ) {m : ℕ} → 0 < m → z ≤ℤ (ceilDiv z m *ℤ po
 ceil-above z {m} h = omega (split, split-scale (ceilDiv z m) m, split-ceil z h)
 
 -- a·m < b·m + m only where a ≤ b
-at-most : (a b : ℤ) (m : ℕ) → above a * m + below b * m < above b * m + below a * m + m → a ≤ℤ b
+pub at-most : (a b : ℤ) (m : ℕ) → above a * m + below b * m < above b * m + below a * m + m → a ≤ℤ b
 at-most a b m h = le-split (le-of-mul-lt (above a + below b) (above b + below a) m (omega arith))
 
 -- the floor is the greatest quotient whose multiple is at most z, the ceiling the least whose multiple is at least z

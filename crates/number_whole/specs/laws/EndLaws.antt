@@ -5,7 +5,8 @@ use native.Mathlib.Nat.{mul-le-mul-left, mul-le-mul-right}
 use native.Mathlib.Omega.{arith}
 use lib.IntN.{ℤ, pos, negsuc, natAbs, _+ℤ_}
 use lib.Signed.{_≤ℤ_, nonNeg}
-use Rattle.number_whole.specs.Parts.{above, below}
+use Rattle.number_whole.specs.Parts.{below}
+use Rattle.number_whole.specs.laws.Above.{above}
 use Rattle.number_whole.specs.laws.Split.{split, split-le, split-add}
 use Rattle.number_whole.specs.laws.Difference.{Difference, difference, difference-pos, difference-add, difference-mul}
 use Rattle.number_whole.specs.laws.Difference.{difference-le}

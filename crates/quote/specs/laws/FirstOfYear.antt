@@ -10,7 +10,7 @@ use mir.Facts.{yes-and}
 use Rattle.number_whole.specs.laws.Clash.{clash}
 use Rattle.number_fraction.specs.Ratio.{whole/}
 use Rattle.number_exponential.specs.declared.Ends.{Ends}
-use Rattle.number_exponential.specs.Billionths.{billionths}
+use Rattle.number_exponential.specs.Units.{billionths}
 use Rattle.number_exact.specs.Figure.{figureOf}
 use Rattle.set_params.specs.declared.Params.{Params}
 use Rattle.set_params.specs.Set.{yearNumber}
@@ -23,6 +23,7 @@ use Rattle.quote_kinds.specs.Kinds.{ruleOf, mostSpan, longestSpan, countOf, spa
 use Rattle.quote_table_tests.specs.TableTests.{between, yearInTable, dateInTable, spanInTable, rateInTable, firstFailed, tableTests}
 use Rattle.quote_table_tests.specs.laws.TableLaws.{within}
 use Rattle.quote_along.specs.declared.Quote.{Quote}
+use Rattle.quote_along.specs.QuoteBy.{quoteBy}
 use Rattle.quote.specs.Quote.{queryPath, queryEnds, refusalOf, quoteOf, answerBy, answerOf}
 
 between-more : (a b : ℕ) (z : ℤ) → a ≤ b → T (between (pos 0) (pos a) z) → between (pos 0) (pos b) z ≡ true
@@ -70,7 +71,7 @@ module _ (p : Params) (age year date : ℤ) (is : T (isDay date)) (first : dayOf
   same-refusal = rw (day-date, cohort-date, is-true (spanInTable (ruleOf Day) age year date) inside, cohort-span, same-year, same-rate, same-path)
 
   same-quote : quoteOf p Day age year date ≡ quoteOf p CohortSurvival age year span
-  unfolding quoteOf queryEnds ruleOf
+  unfolding quoteOf queryEnds ruleOf quoteBy
   same-quote = rw same-path
 
   pub first-of-january : answerOf p Day age year date ≡ answerOf p CohortSurvival age year span

@@ -6,6 +6,7 @@ use native.Mathlib.Omega.{arith}
 use lib.Dec.{T}
 use lib.IntN.{ℤ, pos, natAbs}
 use Rattle.number_whole.specs.laws.Clash.{clash}
+use Rattle.number_exponential.specs.Units.{billionths}
 use Rattle.set_params.specs.declared.Params.{Params}
 use Rattle.set_refusal.specs.declared.Refusal.the-variants.{Accepted}
 use Rattle.set_limits.specs.InLimits.{inLimits}
@@ -29,7 +30,7 @@ use Rattle.quote.specs.Quote.{queryPath, refusalOf}
 pub record Passed (p : Params) (k : Kind) (age year term : ℤ) : Type 0 where
   pub limits : T (inLimits p)
   pub table : InTable (p .start) (ruleOf k) age year term
-  pub range : T (pathInRange p (queryPath (p .start) k age year term))
+  pub range : T (pathInRange billionths p (queryPath (p .start) k age year term))
 
 pub all-passed : (p : Params) (k : Kind) (age year term : ℤ) → refusalOf p k age year term ≡ Accepted → Passed p k age year term
 unfolding refusalOf firstFailed tableTests
@@ -40,7 +41,7 @@ all-passed p k age year term e =
     let d = passed (dateInTable (ruleOf k) term) (λ q. clash cc) (y .1) in
     let s = passed (spanInTable (ruleOf k) age year term) (λ q. clash cc) (d .1) in
     let i = passed (rateInTable (ruleOf k)) (λ q. clash cc) (s .1) in
-    let r = passed (pathInRange p (queryPath (p .start) k age year term)) (λ q. clash cc) (i .1) in
+    let r = passed (pathInRange _ p (queryPath (p .start) k age year term)) (λ q. clash cc) (i .1) in
     record {
       limits = l .0;
       table = record { age-in = a .0; year-in = y .0; date-in = d .0; span-in = s .0; rate-in = i .0 };

@@ -8,18 +8,18 @@ use native.Mathlib.Omega.{arith}
 use lib.ListN.{length, take}
 use Rattle.number_fraction.specs.Ratio.{Ratio}
 use Rattle.number_exponential.specs.declared.Ends.{Ends}
-use Rattle.number_exponential.specs.Billionths.{billionths}
+use Rattle.number_exponential.specs.code.Flag.{unitBy, gridBy}
 use Rattle.quote_paths.specs.Values.{foldOver, gridValue}
 use Rattle.quote_paths.specs.code.Code.{IsPart}
-use Rattle.quote_factors.specs.code.Code.{allPlaces, FactorsWith}
+use Rattle.quote_factors.specs.code.Code.{allPlaces}
 use Rattle.quote_kinds.specs.Kinds.{stepOf}
-use Rattle.quote_along.specs.code.Code.{pathAnswer, countWith}
-use Rattle.quote_along.proofs.Value.{places-count, places-room, places-chances, value-fits, step-small, quoted}
+use Rattle.quote_along.specs.code.Code.{inRangeOr, pathAnswer, countWith}
+use Rattle.quote_along.proofs.Value.{places-count, places-room, places-chances, value-fits, step-fits, quoted}
 use Rattle.quote_along.proofs.answer_along.Statement.{statement}
 use Rattle.quote_along.proofs.answer_along.Tie as tie
 
 returns : tie.Need-returns
-unfolding pathAnswer
+unfolding inRangeOr pathAnswer
 returns c part h =
     let f = c .before .before in
     let e = sym (f .all-factors .ensures part h .ok) ∙ not-true _ (c .if1 .taken) in
@@ -54,13 +54,13 @@ folded-requires c κs =
     let q = fraction s in
     let i = fraction-is s in
     let f = e .before .before .all-factors .ensures q i in (
-      places-chances (s .args .p) (allPlaces (s .args .path) q) (count-is c q i) (places-room (s .pre .0) (s .pre .1) i) (f .ends (rw (worked e) tt)),
+      places-chances (unitBy (s .args .fine)) (s .args .p) (allPlaces (s .args .path) q) (count-is c q i) (places-room (s .pre .0) (s .pre .1) i) (f .ends (rw (worked e) tt)),
       s .pre .2,
     )
 
 -- the fold's ends are the path's
 ends-read : (c : tie.After-folded) → let s = began (c .before .before .before) in (part : Ratio) → IsPart (s .args .part) part
-    → c .folded .result ≡ gridValue (s .args .fold) billionths (s .args .p) (allPlaces (s .args .path) part)
+    → c .folded .result ≡ gridValue (s .args .fold) (gridBy (s .args .fine)) (s .args .p) (allPlaces (s .args .path) part)
 unfolding gridValue
 ends-read c part h =
     let n = c .before in
@@ -68,7 +68,7 @@ ends-read c part h =
     let f = e .before .before in
     let s = began e in
     c .folded .ensures
-    ∙ ap (foldOver (s .args .fold) billionths)
+    ∙ ap (foldOver (s .args .fold) (gridBy (s .args .fine)))
     (ap (λ (k : ℕ). take k (f .all-factors .result .ends)) (sym (count-is n part h))
     ∙ f .all-factors .ensures part h .ends (rw (worked e) tt))
 
@@ -77,27 +77,28 @@ figure-of-requires c κs =
     let d = c .before in
     let s = began (d .before .before .before) in
     let i = fraction-is s in
-    let v = value-fits (s .args .p) (allPlaces (s .args .path) (fraction s)) (s .args .fold) (places-room (s .pre .0) (s .pre .1) i) in
+    let v = value-fits (unitBy (s .args .fine)) (s .args .p) (allPlaces (s .args .path) (fraction s)) (s .args .fold) (places-room (s .pre .0) (s .pre .1) i) in
     let e = ends-read d (fraction s) i in
     let l = ap (λ (k : Ends). k .lower) e in
     let u = ap (λ (k : Ends). k .upper) e in
-    let g = step-small (s .args .fold) in
-    let h = c .step-of .ensures in
+    let g = step-fits (unitBy (s .args .fine)) (s .args .fold) in
+    let h = c .step-on .ensures in
     (omega arith, omega arith, omega arith, omega arith)
 
 returns-2 : tie.Need-returns-2
-unfolding pathAnswer
+unfolding inRangeOr pathAnswer
 returns-2 c part h =
-    let g = c .before in
+    let k = c .before in
+    let g = k .before in
     let d = g .before in
     let e = d .before .before .before in
     let f = e .before .before in
     let s = began e in
     let r = sym (f .all-factors .ensures part h .ok) ∙ worked e in
-    rw r (quoted (stepOf (s .args .fold)) (ends-read d part h) (rw (g .step-of .ensures) at (c .figure-of .ensures)))
+    rw r (quoted (stepOf (s .args .fold)) (c .named-unit .ensures) (ends-read d part h) (rw (g .step-on .ensures) at (k .figure-of .ensures)))
 
 pub answer-along-spec : {M : Type 1} → statement M
 answer-along-spec =
     tie.close
     (tie.spec (λ c κs. (c .pre .0, c .pre .1)) returns (λ c κs. began (c .before) .pre .0 .room) folded-requires
-    (λ c κs. search needs) figure-of-requires returns-2)
+    (λ c κs. search needs) figure-of-requires (λ c κs. search needs) returns-2)

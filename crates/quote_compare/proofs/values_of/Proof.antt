@@ -5,40 +5,35 @@ use Prim.Native.Nat.{_≤_}
 use native.Mathlib.Omega.{arith}
 use Rattle.number_exponential.specs.declared.Ends.{Ends}
 use Rattle.quote_compare.specs.declared.Values.the-variants.{Below, Above, Near}
-use Rattle.quote_compare.specs.Compare.{quotedEnds}
 use Rattle.quote_compare.specs.laws.CompareLaws.{values-below, values-above, values-near, apart-first, apart-second}
 use Rattle.quote_compare.proofs.values_of.Statement.{statement}
 use Rattle.quote_compare.proofs.values_of.Tie as tie
 
 -- the ends where they are compared
 abbrev first : tie.Start → Ends
-first s = quotedEnds (s .args .a)
+first s = s .args .a
 
 abbrev second : tie.Start → Ends
-second s = quotedEnds (s .args .b)
+second s = s .args .b
 
 -- the first is not below the second
 abbrev passed : tie.Else1 → tie.Start
 passed c = c .before .before .before
 
 not-below : (c : tie.Else1) → second (passed c) .lower ≤ first (passed c) .upper
-unfolding quotedEnds
 not-below c = omega (arith, c .if1 .left)
 
 -- nor above it
 not-above : (c : tie.Else2) → let s = passed (c .before .before .before) in first s .lower ≤ second s .upper
-unfolding quotedEnds
 not-above c = omega (arith, c .if2 .left)
 
 returns : tie.Need-returns
-unfolding quotedEnds
 returns c =
     let t = c .before in
     let s = t .before .before .before in
     ap Below (c .excess-of .ensures) ∙ sym (values-below (first s) (second s) (omega (arith, t .if1 .taken)))
 
 returns-2 : tie.Need-returns-2
-unfolding quotedEnds
 returns-2 c =
     let t = c .before in
     let e = t .before .before .before in
@@ -47,7 +42,6 @@ returns-2 c =
     ∙ sym (values-above (first s) (second s) (not-below e) (omega (arith, t .if2 .taken)))
 
 returns-3 : tie.Need-returns-3
-unfolding quotedEnds
 returns-3 c =
     let f = c .before .before .before .before .before in
     let e = f .before .before .before in
@@ -57,7 +51,6 @@ returns-3 c =
     ∙ ap Near (apart-second (first s) (second s) (omega (arith, c .if3 .taken))))
 
 returns-4 : tie.Need-returns-4
-unfolding quotedEnds
 returns-4 c =
     let f = c .before .before .before .before .before in
     let e = f .before .before .before in

@@ -6,16 +6,16 @@ use native.Mathlib.Omega.{arith}
 use borrow.Author.Tests.{lt-ltb, le-ltb}
 use Rattle.number_whole.specs.laws.Clash.{clash}
 use Rattle.number_exponential.specs.declared.Ends.{Ends}
+use Rattle.number_exponential.specs.declared.GridUnit.{GridUnit}
 use Rattle.set_refusal.specs.declared.Refusal.{Refusal}
 use Rattle.quote_along.specs.declared.Quote.{Quote}
 use Rattle.quote_along.specs.declared.Answer.{Answer}
 use Rattle.quote_along.specs.declared.Answer.the-variants.{Quoted, Refused}
-use Rattle.quote.specs.Demand.{shownOf, numberOf, lowerOf, upperOf, figureShown}
 use Rattle.quote_compare.specs.declared.Values.{Values}
 use Rattle.quote_compare.specs.declared.Values.the-variants.{Below, Above, Near}
 use Rattle.quote_compare.specs.declared.Pair.{Pair}
 use Rattle.quote_compare.specs.declared.Comparison.the-variants.{Compared, NotCompared}
-use Rattle.quote_compare.specs.Compare.{excess, mostApart, valuesOf, quotedEnds, comparisonOf}
+use Rattle.quote_compare.specs.Compare.{excess, mostApart, valuesOf, finer, endsIn, pairOf, comparisonOf}
 
 -- ---- two pairs of ends
 
@@ -56,34 +56,27 @@ pub second-refused : {a b : Answer} {q : Quote} {r : Refusal} → a ≡ Quoted q
 unfolding comparisonOf
 second-refused e f = rw (e, f)
 
-pub both-quoted : {a b : Answer} {q q′ : Quote} {v : Values} → a ≡ Quoted q → b ≡ Quoted q′
-    → v ≡ valuesOf (quotedEnds q) (quotedEnds q′)
-    → comparisonOf a b ≡ Compared (record { first = q .figure; second = q′ .figure; values = v })
+pub pair-is : (q q′ : Quote) {u : GridUnit} {e e′ : Ends} {v : Values} → u ≡ finer (q .unit) (q′ .unit) → e ≡ endsIn u q
+    → e′ ≡ endsIn u q′ → v ≡ valuesOf e e′ → record { first = q .figure; second = q′ .figure; values = v; unit = u } ≡ pairOf q q′
+unfolding pairOf
+pair-is q q′ h f f′ g = rw (g, f, f′, h)
+
+pub both-quoted : {a b : Answer} {q q′ : Quote} {x : Pair} → a ≡ Quoted q → b ≡ Quoted q′ → x ≡ pairOf q q′
+    → comparisonOf a b ≡ Compared x
 unfolding comparisonOf
 both-quoted e f g = rw (e, f, g)
 
--- the ends of an answer
-unfoldable pub answerEnds : Answer → Ends
-answerEnds a = record { lower = lowerOf a; upper = upperOf a }
-
--- what was compared: two quotes, by their ends, and their figures
+-- what was compared: two quotes
 pub record Both (a b : Answer) (x : Pair) : Type 0 where
-  pub first-quoted : numberOf a ≡ 0
-  pub second-quoted : numberOf b ≡ 0
-  pub values : x .values ≡ valuesOf (answerEnds a) (answerEnds b)
-  pub first-figure : figureShown a ≡ shownOf (x .first)
-  pub second-figure : figureShown b ≡ shownOf (x .second)
+  pub first : Quote
+  pub second : Quote
+  pub first-is : a ≡ Quoted first
+  pub second-is : b ≡ Quoted second
+  pub pair : x ≡ pairOf first second
 
 pub compared-both : (a b : Answer) {x : Pair} → comparisonOf a b ≡ Compared x → Both a b x
-unfolding comparisonOf numberOf lowerOf upperOf figureShown answerEnds quotedEnds
+unfolding comparisonOf
 compared-both (Refused r) b e = clash cc
 compared-both (Quoted q) (Refused r) e = clash cc
-compared-both (Quoted q) (Quoted q′) {x} e =
-    let k : record { first = q .figure; second = q′ .figure; values = valuesOf (quotedEnds q) (quotedEnds q′) } ≡ x = cc in
-    record {
-      first-quoted = refl;
-      second-quoted = refl;
-      values = rw (← k);
-      first-figure = rw (← k);
-      second-figure = rw (← k);
-    }
+compared-both (Quoted q) (Quoted q′) e =
+    record { first = q; second = q′; first-is = refl; second-is = refl; pair = cc }

@@ -1,29 +1,25 @@
 -- `couple_within` meets its contract: starts that differ, the table's refusal, or the answer along the two lives' paths.
-use mathlib.Core.Path.{_≡_, refl, ap, ap₂, sym, _∙_}
-use mathlib.Core.List.{List}
+use mathlib.Core.Path.{_≡_, ap, ap₂, sym, _∙_}
 use borrow.Author.Needs.{needs}
-use lib.IntN.{ℤ, natAbs}
+use lib.IntN.{ℤ}
 use mir.Syntax.{w64}
 use mir.Val.{SFits, toZ, ofZ}
 use mir.Facts.{toZ-ofZ}
 use Rattle.number_whole.specs.laws.Bound.{bits}
-use Rattle.set_params.specs.Set.{yearNumber}
 use Rattle.set_params.specs.code.Within.{StartWithin}
 use Rattle.set_limits.specs.laws.LimitsLaws.{in-limits-start}
 use Rattle.set_refusal.specs.declared.Refusal.the-variants.{Accepted}
 use Rattle.set_refusal.specs.laws.RefusalLaws.{accepted}
-use Rattle.quote_paths.specs.Path.{Place}
-use Rattle.quote_paths.specs.declared.Path.{Path}
 use Rattle.quote_walks.specs.code.Code.{pathIs}
 use Rattle.quote_kinds.specs.declared.Kind.{Kind}
 use Rattle.quote_kinds.specs.declared.Rule.{Rule}
-use Rattle.quote_kinds.specs.Kinds.{ruleOf, countOf, spanOf}
+use Rattle.quote_kinds.specs.Kinds.{ruleOf}
 use Rattle.quote_couple_kinds.specs.CoupleKinds.{singleOf}
 use Rattle.quote_table_tests.specs.TableTests.{firstFailed, tableTests}
 use Rattle.quote.specs.code.Code.{pathTo}
 use Rattle.quote.proofs.Steps.{years-under}
 use Rattle.quote_couple.specs.Couple.{coupleTable}
-use Rattle.quote_couple.specs.code.Code.{pathsAnswer}
+use Rattle.quote_couple.specs.code.Code.{pathsQuote}
 use Rattle.quote_couple.specs.laws.CoupleTests.{CoupleIn, couple-in, life-in, single-plain}
 use Rattle.quote_couple.proofs.Steps.{whole-path, path-within, starts-differ, table-refuses, along-answer}
 use Rattle.quote_couple.proofs.couple_within.Statement.{statement}
@@ -165,8 +161,8 @@ second-path c =
 counts : (k : Kind) {a b : ℤ} (x y z span : ℤ) → a ≡ b → pathTo a k x z span .count ≡ pathTo b k y z span .count
 counts k x y z span e = rw e
 
-answer-along-requires : tie.Need-answer-along-requires
-answer-along-requires c κs =
+couple-along-requires : tie.Need-couple-along-requires
+couple-along-requires c κs =
     let d = c .before .before in
     let e = d .before .before in
     let s = begun e in
@@ -183,8 +179,8 @@ returns-3 c =
     let e = d .before .before in
     let s = begun e in
     let a = s .args in
-    c .answer-along .ensures
-    ∙ ap₂ (pathsAnswer (a .first) (a .second) (a .kind))
+    c .couple-along .ensures
+    ∙ ap₂ (pathsQuote (a .first) (a .second) (a .kind))
     (ap pathIs (first-path d) ∙ whole-path (a .first) (a .kind) (a .age) (a .year) (a .span))
     (ap pathIs (second-path b) ∙ whole-path (a .second) (a .kind) (a .other) (a .year) (a .span))
     ∙ along-answer (a .first) (a .second) (a .kind) (a .age) (a .other) (a .year) (a .span) (s .pre .0) (s .pre .1)
@@ -194,4 +190,4 @@ pub couple-within-spec : {M : Type 1} → statement M
 couple-within-spec =
     tie.close
     (tie.spec returns (λ c κs. search needs) (λ c κs. search needs) table-refusal-requires (λ c κs. search needs) returns-2
-    path-to-requires path-to-requires-2 answer-along-requires returns-3)
+    path-to-requires path-to-requires-2 couple-along-requires returns-3)

@@ -13,6 +13,7 @@ use mir.Facts.{and-yes}
 use lib.Ieee.Bits.{is-true}
 use Rattle.number_whole.specs.laws.Clash.{clash}
 use Rattle.number_fraction.specs.Ratio.{whole/}
+use Rattle.number_exponential.specs.Units.{billionths}
 use Rattle.set_params.specs.declared.Params.{Params}
 use Rattle.set_params.specs.Set.{yearNumber}
 use Rattle.set_refusal.specs.declared.Refusal.the-variants.{Accepted, NoSuchAge, NoSuchYear, NoSuchSpan}
@@ -169,8 +170,8 @@ all-passed p p′ k age age′ year span e =
     let y = passed (yearInTable (p .start) rule year) (λ q. clash cc) (a′ .1) in
     let s = passed (spanInTable rule age year span) (λ q. clash cc) (y .1) in
     let s′ = passed (spanInTable rule age′ year span) (λ q. clash cc) (s .1) in
-    let r = passed (pathInRange p (lifePath p k age year span)) (λ q. clash cc) (s′ .1) in
-    let r′ = passed (pathInRange p′ (lifePath p′ k age′ year span)) (λ q. clash cc) (r .1) in
+    let r = passed (pathInRange billionths p (lifePath p k age year span)) (λ q. clash cc) (s′ .1) in
+    let r′ = passed (pathInRange billionths p′ (lifePath p′ k age′ year span)) (λ q. clash cc) (r .1) in
     let d : T (dateInTable rule span) = rw (date-in rule (single-plain k) span) tt in
     let i : T (rateInTable rule) = rw (rate-in rule (single-plain k)) tt in
     let same = starts-same p p′ (z .0) in

@@ -1,15 +1,15 @@
 -- A couple's answer does not change when the two lives are exchanged: neither its refusal nor its ends nor its figure.
-use mathlib.Core.Path.{_≡_, refl, ap, ap₂, sym, _∙_}
-use mathlib.Core.Bool.{Bool, true, false, cond, _&&_, and-comm}
+use mathlib.Core.Path.{_≡_, refl, ap, sym, _∙_, fun-ext}
+use mathlib.Core.Bool.{Bool, true, false, cond}
 use mathlib.Core.List.{List}
-use Prim.Native.Nat.{ℕ, suc, _*_, _/_, _<_}
+use Prim.Native.Nat.{suc}
 use native.Mathlib.Nat.{mul-comm}
 use lib.IntN.{ℤ, natAbs}
 use lib.ListN.{length, take}
-use Rattle.number_whole.specs.Division.{ceilDivℕ}
 use Rattle.number_exponential.specs.Grid.{Grid}
 use Rattle.number_exponential.specs.declared.Ends.{Ends}
-use Rattle.number_exponential.specs.Billionths.{billionths}
+use Rattle.number_exponential.specs.Units.{billionths, gridOf}
+use Rattle.number_exponential.specs.declared.GridUnit.{GridUnit}
 use Rattle.number_exponential.specs.Outward.{outwardOver}
 use Rattle.number_folds.specs.Folds.{half, withFactor, plus, sumOver}
 use Rattle.number_folds.specs.laws.Steps.{sum-same}
@@ -17,9 +17,9 @@ use Rattle.model_force.specs.Force.{deathOf}
 use Rattle.set_params.specs.declared.Params.{Params}
 use Rattle.set_params.specs.Set.{yearNumber}
 use Rattle.set_refusal.specs.declared.Refusal.{Refusal}
-use Rattle.set_refusal.specs.declared.Refusal.the-variants.{Accepted, OutOfLimits, NoSuchAge, NoSuchYear, NoSuchSpan, LogForceOutOfRange, StartsDiffer}
+use Rattle.set_refusal.specs.declared.Refusal.the-variants.{OutOfLimits, NoSuchAge, NoSuchYear, NoSuchSpan, LogForceOutOfRange}
 use Rattle.set_limits.specs.InLimits.{inLimits}
-use Rattle.quote_paths.specs.Path.{factors, pathInRange}
+use Rattle.quote_paths.specs.Path.{pathInRange}
 use Rattle.quote_paths.specs.laws.Answers.{path-length, factors-length}
 use Rattle.quote_kinds.specs.Kinds.{ruleOf, countOf}
 use Rattle.quote_couple_kinds.specs.declared.Status.{Status}
@@ -29,7 +29,8 @@ use Rattle.quote_couple_kinds.specs.declared.CoupleKind.the-variants as kind
 use Rattle.quote_couple_kinds.specs.CoupleKinds.{singleOf}
 use Rattle.quote_table_tests.specs.TableTests.{ageInTable, yearInTable, spanInTable, firstFailed}
 use Rattle.quote_two_lives.specs.TwoLives.{statusChance, statusOver, statusesOver, statusExpectancyOver, coupleOver}
-use Rattle.quote.specs.Quote.{quoteBy, answerBy}
+use Rattle.quote_along.specs.QuoteBy.{quoteBy}
+use Rattle.quote.specs.Quote.{answerBy}
 use Rattle.quote.specs.laws.AnswerLaws.{by-refusal}
 use Rattle.quote_couple.specs.Couple.{lifePath, coupleEnds, sameStart, coupleTable, coupleRefusal, coupleStep, coupleAnswer}
 use Rattle.quote_couple.specs.laws.CoupleTests.{life-path, starts-same, same-starts, other-starts, all-passed}
@@ -91,7 +92,7 @@ module _ (p p′ : Params) (k : CoupleKind) (age age′ year span : ℤ) where
       (either (ageInTable age) (ageInTable age′) NoSuchAge
       (ap (λ (t : Refusal). cond (yearInTable (p .start) rule year) t NoSuchYear)
       (either (spanInTable rule age year span) (spanInTable rule age′ year span) NoSuchSpan
-      (either (pathInRange p (lifePath p k age year span)) (pathInRange p′ (lifePath p′ k age′ year span)) LogForceOutOfRange refl)))))
+      (either (pathInRange billionths p (lifePath p k age year span)) (pathInRange billionths p′ (lifePath p′ k age′ year span)) LogForceOutOfRange refl)))))
   refusal-by false e =
       let e′ : sameStart p′ p ≡ false = other-starts p′ p (λ q. true-not-false (sym (same-starts p p′ (sym q)) ∙ e)) in
       rw (e, e′) (either (inLimits p) (inLimits p′) OutOfLimits refl)
@@ -101,20 +102,21 @@ module _ (p p′ : Params) (k : CoupleKind) (age age′ year span : ℤ) where
 
   -- ---- the answer
 
-  ends-exchanged : p .start ≡ p′ .start → coupleEnds p p′ k age age′ year span ≡ coupleEnds p′ p k age′ age year span
+  ends-exchanged : p .start ≡ p′ .start → (u : GridUnit)
+      → coupleEnds p p′ k age age′ year span u ≡ coupleEnds p′ p k age′ age year span u
   unfolding coupleEnds
-  ends-exchanged same =
+  ends-exchanged same u =
       let f = ruleOf (singleOf k) .fold in
-      let n = factors-length billionths p (lifePath p k age year span) ∙ ap length (life-path p k age year span)
+      let n = factors-length (gridOf u) p (lifePath p k age year span) ∙ ap length (life-path p k age year span)
       ∙ path-length true (natAbs age) (yearNumber (p .start) year) _ in
-      let n′ = factors-length billionths p′ (lifePath p′ k age′ year span) ∙ ap length (life-path p′ k age′ year span)
+      let n′ = factors-length (gridOf u) p′ (lifePath p′ k age′ year span) ∙ ap length (life-path p′ k age′ year span)
       ∙ path-length true (natAbs age′) (yearNumber (p′ .start) year) _ in
-      couple-exchanged billionths k _ _
+      couple-exchanged (gridOf u) k _ _
       (n ∙ ap (λ (z : ℤ). countOf f (yearNumber z year) (natAbs span)) same ∙ sym n′)
 
   pub answer-exchanged : coupleAnswer p p′ k age age′ year span ≡ coupleAnswer p′ p k age′ age year span
   unfolding coupleAnswer
   answer-exchanged =
       by-refusal (coupleRefusal p p′ k age age′ year span) _ _
-      (λ a. ap (quoteBy (coupleStep k)) (ends-exchanged (all-passed p p′ k age age′ year span a .start)))
+      (λ a. ap (quoteBy (coupleStep k)) (fun-ext (ends-exchanged (all-passed p p′ k age age′ year span a .start))))
       ∙ ap (λ (r : Refusal). answerBy r (quoteBy (coupleStep k) (coupleEnds p′ p k age′ age year span))) refusal-exchanged

@@ -7,7 +7,8 @@ use native.Mathlib.Nat.{sub-self, sub-zero, mul-zero, zero-mul}
 use lib.IntN.{ℤ, pos}
 use Rattle.number_exponential.specs.Grid.{Grid}
 use Rattle.number_exponential.specs.declared.Ends.{Ends}
-use Rattle.number_exponential.specs.Billionths.{billionths}
+use Rattle.number_exponential.specs.declared.GridUnit.{GridUnit}
+use Rattle.number_exponential.specs.Units.{gridOf}
 use Rattle.number_whole.specs.Listed.{listed}
 use Rattle.number_whole.specs.laws.DivisionLaws.{floorℕ-exact, ceilℕ-exact}
 use Rattle.number_exponential.specs.Outward.{outwardOver}
@@ -55,15 +56,17 @@ module _ (g : Grid) where
       ap (deathOf g) (ap (withFactor g (deathOf g s)) sure-lives ∙ times-nothing (deathOf g s)) ∙ nothing-dies
 
 -- over no years, of any two lives
-no-factors : (p : Params) (age year : ℤ) → factors billionths p (lifePath p kind.JointLife age year (pos 0)) ≡ []
+no-factors : (g : Grid) (p : Params) (age year : ℤ) → factors g p (lifePath p kind.JointLife age year (pos 0)) ≡ []
 unfolding factors pathOf listed ruleOf singleOf countOf
-no-factors p age year = ap (factors billionths p) (life-path p kind.JointLife age year (pos 0))
+no-factors g p age year = ap (factors g p) (life-path p kind.JointLife age year (pos 0))
 
-module _ (p p′ : Params) (age age′ year : ℤ) where
-  pub joint-over-none : coupleEnds p p′ kind.JointLife age age′ year (pos 0) ≡ one billionths
+module _ (u : GridUnit) (p p′ : Params) (age age′ year : ℤ) where
+  pub joint-over-none : coupleEnds p p′ kind.JointLife age age′ year (pos 0) u ≡ one (gridOf u)
   unfolding coupleEnds coupleOver statusOver survivalOver survivalFrom singleOf
-  joint-over-none = rw (no-factors p age year, no-factors p′ age′ year) (joint-with-sure billionths (one billionths))
+  joint-over-none =
+      let g = gridOf u in rw (no-factors g p age year, no-factors g p′ age′ year) (joint-with-sure g (one g))
 
-  pub last-over-none : coupleEnds p p′ kind.LastSurvivor age age′ year (pos 0) ≡ one billionths
+  pub last-over-none : coupleEnds p p′ kind.LastSurvivor age age′ year (pos 0) u ≡ one (gridOf u)
   unfolding coupleEnds coupleOver statusOver survivalOver survivalFrom singleOf
-  last-over-none = rw (no-factors p age year, no-factors p′ age′ year) (last-with-sure billionths (one billionths))
+  last-over-none =
+      let g = gridOf u in rw (no-factors g p age year, no-factors g p′ age′ year) (last-with-sure g (one g))

@@ -2,20 +2,23 @@
 use mathlib.Core.Path.{_≡_, refl, ap, sym, _∙_}
 use mathlib.Core.Bool.{true}
 use mathlib.Core.Logic.{_↔_}
-use Prim.Native.Nat.{ℕ, _+_, _≤_, _<_}
+use Prim.Native.Nat.{ℕ, _+_, _*_, _≤_, _<_}
 use native.Mathlib.Omega.{arith}
 use lib.Dec.{lit<}
 use lib.ListN.{length}
 use lib.IntN.{ℤ, natAbs}
-use Rattle.number_exponential.specs.Billionths.{billionths}
+use Rattle.number_exponential.specs.Units.{billionths, gridOf, widthTimes}
+use Rattle.number_exponential.specs.declared.GridUnit.{GridUnit}
 use Rattle.number_exact.specs.Value.{OneStep}
 use Rattle.number_exact.specs.laws.Rounding.{same-step}
 use Rattle.number_folds.specs.code.Code.{mostFactors}
 use Rattle.set_params.specs.declared.Params.{Params}
+use Rattle.set_refusal.specs.declared.Refusal.the-variants.{Accepted}
 use Rattle.set_params.specs.Set.{yearNumber}
 use Rattle.model_closure.specs.Weights.{lastClosed}
 use Rattle.quote_paths.specs.Path.{factors}
 use Rattle.quote_paths.specs.laws.Answers.{AnsweredPath, path-length}
+use Rattle.quote_paths.specs.laws.Facts.{unit-facts}
 use Rattle.quote_paths.specs.declared.Fold.the-variants.{Survival}
 use Rattle.quote_kinds.specs.Kinds.{ruleOf, mostSpan, longestSpan, countOf, stepOf, foldWidth, widthOf, spanOf}
 use Rattle.quote_couple_kinds.specs.declared.CoupleKind.{CoupleKind}
@@ -29,7 +32,7 @@ use Rattle.quote_two_lives.specs.laws.OrdersAgree.{value-agrees}
 use Rattle.quote_two_lives.specs.laws.Narrowing.{value-narrows}
 use Rattle.quote_two_lives.specs.laws.Width.{status-limit, status-expectancy-limit}
 use Rattle.quote.specs.Demand.{printed, figureShown, Promised}
-use Rattle.quote.specs.laws.Promises.{Held, promised}
+use Rattle.quote.specs.laws.Promises.{Held, promised, UnitsAgree, units-agree}
 use Rattle.quote.specs.laws.Tests as life
 use Rattle.quote_couple.specs.Couple.{lifePath, coupleEnds, exactCouple, coupleRefusal, coupleStep, coupleAnswer}
 use Rattle.quote_couple.specs.Couple.{CoupleDemand3}
@@ -63,12 +66,12 @@ in-life p k age year span h =
       answered = life.query-answered h;
     }
 
-module _ {p p′ : Params} (k : CoupleKind) {age age′ year span : ℤ} (same : p .start ≡ p′ .start) (h : Life p k age year span)
+module _ (u : GridUnit) {p p′ : Params} (k : CoupleKind) {age age′ year span : ℤ} (same : p .start ≡ p′ .start) (h : Life p k age year span)
     (h′ : Life p′ k age′ year span) where
   -- a chance's ends, and an expectancy's
   chance-width : (status : Status) → ruleOf (singleOf k) .fold ≡ Survival
-      → let e = statusOver status billionths (factors billionths p (lifePath p k age year span)) (factors billionths p′ (lifePath p′ k age′ year span)) in
-      e .upper ≤ e .lower + 60000
+      → let e = statusOver status (gridOf u) (factors (gridOf u) p (lifePath p k age year span)) (factors (gridOf u) p′ (lifePath p′ k age′ year span)) in
+      e .upper ≤ e .lower + widthTimes u * 60000
   unfolding countOf mostSpan
   chance-width status f =
       let w = life-path p k age year span in
@@ -78,31 +81,31 @@ module _ {p p′ : Params} (k : CoupleKind) {age age′ year span : ℤ} (same :
       let o = h .old in
       let o′ = h′ .old in
       rw (w, w′, f)
-      (status-limit status (natAbs age) (natAbs age′) (yearNumber (p .start) year) (yearNumber (p′ .start) year) (natAbs span)
-      (omega arith) (omega arith) (rw (w, f) at (h .answered)) (rw (w′, f) at (h′ .answered)))
+      (status-limit (unit-facts u) status (natAbs age) (natAbs age′) (yearNumber (p .start) year) (yearNumber (p′ .start) year)
+      (natAbs span) (omega arith) (omega arith) (rw (w, f) at (h .answered)) (rw (w′, f) at (h′ .answered)))
 
   expectancy-width : (status : Status)
-      → let e = statusExpectancyOver status billionths (factors billionths p (lifePath p k age year span)) (factors billionths p′ (lifePath p′ k age′ year span)) in
-      e .upper ≤ e .lower + 20000000
+      → let e = statusExpectancyOver status (gridOf u) (factors (gridOf u) p (lifePath p k age year span)) (factors (gridOf u) p′ (lifePath p′ k age′ year span)) in
+      e .upper ≤ e .lower + widthTimes u * 20000000
   expectancy-width status =
       let n = ap length (life-path p k age year span) ∙ path-length true (natAbs age) (yearNumber (p .start) year) _ in
       let n′ = ap length (life-path p′ k age′ year span) ∙ path-length true (natAbs age′) (yearNumber (p′ .start) year) _ in
       let e = ap (λ (z : ℤ). countOf (ruleOf (singleOf k) .fold) (yearNumber z year) (natAbs span)) same in
-      status-expectancy-limit status (n ∙ e ∙ sym n′) (rw n (h .room)) (h .answered) (h′ .answered)
+      status-expectancy-limit (unit-facts u) status (n ∙ e ∙ sym n′) (rw n (h .room)) (h .answered) (h′ .answered)
 
-couple-width : (p p′ : Params) (k : CoupleKind) (age age′ year span : ℤ) → Passed p p′ k age age′ year span
-    → coupleEnds p p′ k age age′ year span .upper
-    ≤ coupleEnds p p′ k age age′ year span .lower + coupleWidth k (natAbs age) (natAbs span)
+couple-width : (p p′ : Params) (k : CoupleKind) (age age′ year span : ℤ) → Passed p p′ k age age′ year span → (u : GridUnit)
+    → coupleEnds p p′ k age age′ year span u .upper
+    ≤ coupleEnds p p′ k age age′ year span u .lower + widthTimes u * coupleWidth k (natAbs age) (natAbs span)
 unfolding coupleEnds coupleOver coupleWidth widthOf foldWidth ruleOf singleOf
-couple-width p p′ k age age′ year span h = go k (h .start) (in-life p k age year span (h .first)) (in-life p′ k age′ year span (h .second))
+couple-width p p′ k age age′ year span h u = go k (h .start) (in-life p k age year span (h .first)) (in-life p′ k age′ year span (h .second))
   where
     go : (k : CoupleKind) → p .start ≡ p′ .start → Life p k age year span → Life p′ k age′ year span
-        → coupleEnds p p′ k age age′ year span .upper
-        ≤ coupleEnds p p′ k age age′ year span .lower + coupleWidth k (natAbs age) (natAbs span)
-    go kind.JointLife s l l′ = chance-width kind.JointLife s l l′ JointLife refl
-    go kind.LastSurvivor s l l′ = chance-width kind.LastSurvivor s l l′ LastSurvivor refl
-    go kind.JointExpectancy s l l′ = expectancy-width kind.JointExpectancy s l l′ JointLife
-    go kind.LastExpectancy s l l′ = expectancy-width kind.LastExpectancy s l l′ LastSurvivor
+        → coupleEnds p p′ k age age′ year span u .upper
+        ≤ coupleEnds p p′ k age age′ year span u .lower + widthTimes u * coupleWidth k (natAbs age) (natAbs span)
+    go kind.JointLife s l l′ = chance-width u kind.JointLife s l l′ JointLife refl
+    go kind.LastSurvivor s l l′ = chance-width u kind.LastSurvivor s l l′ LastSurvivor refl
+    go kind.JointExpectancy s l l′ = expectancy-width u kind.JointExpectancy s l l′ JointLife
+    go kind.LastExpectancy s l l′ = expectancy-width u kind.LastExpectancy s l l′ LastSurvivor
 
 couple-held : (p p′ : Params) (k : CoupleKind) (age age′ year span : ℤ) → Passed p p′ k age age′ year span
     → Held (coupleEnds p p′ k age age′ year span) (exactCouple p p′ k age age′ year span) (coupleStep k)
@@ -113,7 +116,7 @@ couple-held p p′ k age age′ year span h =
     let a′ = life.query-answered (h .second) in
     record {
       positive = step-positive k;
-      holds = value-holds a a′ k;
+      holds = λ u. value-holds (unit-facts u) a a′ k;
       width = couple-width p p′ k age age′ year span h;
       agrees = value-agrees a a′ k;
       narrows = value-narrows a a′ k;
@@ -129,6 +132,11 @@ couple-promised : (p p′ : Params) (k : CoupleKind) (age age′ year span : ℤ
 unfolding coupleAnswer
 couple-promised p p′ k age age′ year span =
     promised (coupleRefusal p p′ k age age′ year span) _ _ _ _ (λ e. couple-held p p′ k age age′ year span (all-passed p p′ k age age′ year span e))
+
+-- fine ends and coarse ends that round alike give one step, at any step
+pub couple-units-agree : (p p′ : Params) (k : CoupleKind) (age age′ year span : ℤ) → coupleRefusal p p′ k age age′ year span ≡ Accepted
+    → (t : ℕ) → 0 < t → UnitsAgree t (coupleEnds p p′ k age age′ year span)
+couple-units-agree p p′ k age age′ year span e = units-agree (couple-held p p′ k age age′ year span (all-passed p p′ k age age′ year span e))
 
 -- two printed figures of one kind, whichever sets, ages, years and spans they come from, are equal exactly when their exact values
 -- round to one same step

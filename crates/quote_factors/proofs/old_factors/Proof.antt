@@ -6,11 +6,15 @@ use Prim.Native.Nat.{ℕ, _+_, _-_, _≤_, _<_, min}
 use native.Mathlib.Omega.{arith}
 use borrow.Author.Needs.{needs}
 use lib.ListN.{getD, set}
+use Rattle.number_exponential.specs.Grid.{Grid}
 use Rattle.number_whole.specs.laws.Bound.{back}
 use Rattle.number_exponential.specs.declared.Ends.{Ends}
+use Rattle.number_exponential.specs.Units.{gridOf}
+use Rattle.number_exponential.specs.code.Flag.{unitBy, gridBy}
 use Rattle.set_params.specs.declared.Params.{Params}
 use Rattle.set_limits.specs.laws.LimitsLaws.{in-limits-series}
-use Rattle.model_closure.specs.Weights.{firstClosed, lastClosed, weightRow}
+use Rattle.model_closure.specs.Weights.{firstClosed, lastClosed}
+use Rattle.model_closure.specs.code.Table.{weightRow}
 use Rattle.model_closure.specs.laws.WeightLaws.{table-row}
 use Rattle.model_closure.specs.examples.Rows.{row-within}
 use Rattle.number_folds.specs.code.Code.{mostFactors}
@@ -29,19 +33,19 @@ use Rattle.quote_factors.proofs.old_factors.Statement.{statement}
 use Rattle.quote_factors.proofs.old_factors.Tie as tie
 
 -- what holds on the way, whichever year the path began in
-record Going (p : Params) (w : ℕ → Path) (done₀ : ℕ) (ends₀ : List Ends) (year₀ : Year) (done : ℕ)
+record Going (g : Grid) (p : Params) (w : ℕ → Path) (done₀ : ℕ) (ends₀ : List Ends) (year₀ : Year) (done : ℕ)
     (ends : List Ends) (year : Year) (fitted : Fitted) : Type 0 where
-  so-far : (n : ℕ) → PathWithin p (w n) → Worked p (w n) ends₀ done₀ → YearAt p (w n) done₀ year₀
-      → Worked p (w n) ends done × YearAt p (w n) done year
+  so-far : (n : ℕ) → PathWithin p (w n) → Worked g p (w n) ends₀ done₀ → YearAt g p (w n) done₀ year₀
+      → Worked g p (w n) ends done × YearAt g p (w n) done year
   above : firstClosed ≤ w 0 .age + done
-  heights : FittedOf p (year .number) fitted
+  heights : FittedOf g p (year .number) fitted
 
 abbrev Inv-loop : tie.InvT-loop
-Inv-loop p cohort age count worked table d done₀ ends₀ year₀ fitted₀ done ends year fitted =
-    Going p (λ (n : ℕ). along cohort age n count) done₀ ends₀ year₀ done ends year fitted
+Inv-loop fine p cohort age count worked table d done₀ ends₀ year₀ fitted₀ done ends year fitted =
+    Going (gridBy fine) p (λ (n : ℕ). along cohort age n count) done₀ ends₀ year₀ done ends year fitted
 
 abbrev μ-loop : tie.MeasureT-loop
-μ-loop p cohort age count worked table d done₀ ends₀ year₀ fitted₀ done ends year fitted = worked - done
+μ-loop fine p cohort age count worked table d done₀ ends₀ year₀ fitted₀ done ends year fitted = worked - done
 
 -- the table of weights, and the function's start
 abbrev tabled : tie.At-loop Inv-loop μ-loop → tie.After-table Inv-loop μ-loop
@@ -52,7 +56,7 @@ begun l = tabled l .before .before
 
 -- the cells so far and the year of the next, of the function's own path
 so-far : (l : tie.At-loop Inv-loop μ-loop) → let s = begun l in
-    Worked (s .args .t1) (s .args .path) (l .loop .ends) (l .loop .done) × YearAt (s .args .t1) (s .args .path) (l .loop .done) (l .loop .year)
+    Worked (gridBy (s .args .fine)) (s .args .t2) (s .args .path) (l .loop .ends) (l .loop .done) × YearAt (gridBy (s .args .fine)) (s .args .t2) (s .args .path) (l .loop .done) (l .loop .year)
 so-far l =
     let s = begun l in
     l .loop .inv .so-far (s .args .path .year) (s .pre .0) (s .pre .1 .worked (s .pre .2)) (s .pre .1 .next (s .pre .2))
@@ -92,15 +96,15 @@ row-read c =
     ap (λ (i : ℕ). getD (tabled (c .before .before) .table .result) i []) (c .closed-row .ensures) ∙ row-is (c .before)
 
 cell-read : (c : tie.After-old-cell Inv-loop μ-loop) (n : ℕ) → let l = c .before .before .before .before in let s = begun l in
-    YearAt (s .args .t1) (from l n) (l .loop .done) (l .loop .year)
-    → cellAt (s .args .t1) (from l n) (l .loop .done) ≡ c .old-cell .result
+    YearAt (gridBy (s .args .fine)) (s .args .t2) (from l n) (l .loop .done) (l .loop .year)
+    → cellAt (gridBy (s .args .fine)) (s .args .t2) (from l n) (l .loop .done) ≡ c .old-cell .result
 unfolding placeAt
 cell-read c n y =
     let r = c .before .before in
     let t = r .before in
     let l = t .before in
     let s = begun l in
-    ap (cellOf (s .args .t1) (closing t)) (sym (y .place (on-path t)))
+    ap (cellOf (gridBy (s .args .fine)) (s .args .t2) (closing t)) (sym (y .place (on-path t)))
     ∙ sym (rw (row-read r) at (c .old-cell .ensures) ∙ old-cell (l .loop .inv .heights) (closed t .0))
 
 fitted-in-requires : tie.Need-fitted-in-requires Inv-loop μ-loop
@@ -137,7 +141,7 @@ returns c =
     let k = c .before .before in
     let t = k .before .before .before in
     let s = begun (t .before) in
-    out-all (worked-out (s .args .t1) (s .args .path) (on-path t)
+    out-all (worked-out (gridBy (s .args .fine)) (s .args .t2) (s .args .path) (on-path t)
     (cell-read k (s .args .path .year) (so-far (t .before) .1) ∙ c .enum-told .given .1))
 
 -- the turn after its cell was in range
@@ -157,16 +161,16 @@ year-after-requires : tie.Need-year-after-requires Inv-loop μ-loop
 year-after-requires g κs =
     let t = turn (g .before) in
     let s = begun (t .before) in
-    let i = in-limits-series (s .args .t1) (s .pre .0 .limits) .dynamics in
+    let i = in-limits-series (s .args .t2) (s .pre .0 .limits) .dynamics in
     λ on. rw (back (i .a) tt, back (i .theta) tt, back (i .c) tt)
     (year-may (s .pre .0) (so-far (t .before) .1) (on-path t) (g .goes-on .ensures) on)
 
 -- one cell more, whichever year the path began in
 further : (c : tie.After-year-after Inv-loop μ-loop) → let g = c .before in let k = g .before in let t = turn k in
-    let l = t .before in let s = begun l in (n : ℕ) → PathWithin (s .args .t1) (from l n)
-    → Worked (s .args .t1) (from l n) (s .args .walk .ends) (s .args .walk .done) → YearAt (s .args .t1) (from l n) (s .args .walk .done) (s .args .walk .year)
-    → Worked (s .args .t1) (from l n) (set (l .loop .ends) (l .loop .done) (k .before .e .given .0 .0)) (l .loop .done + 1)
-    × YearAt (s .args .t1) (from l n) (l .loop .done + 1) (c .year-after .result)
+    let l = t .before in let s = begun l in (n : ℕ) → PathWithin (s .args .t2) (from l n)
+    → Worked (gridBy (s .args .fine)) (s .args .t2) (from l n) (s .args .walk .ends) (s .args .walk .done) → YearAt (gridBy (s .args .fine)) (s .args .t2) (from l n) (s .args .walk .done) (s .args .walk .year)
+    → Worked (gridBy (s .args .fine)) (s .args .t2) (from l n) (set (l .loop .ends) (l .loop .done) (k .before .e .given .0 .0)) (l .loop .done + 1)
+    × YearAt (gridBy (s .args .fine)) (s .args .t2) (from l n) (l .loop .done + 1) (c .year-after .result)
 further c n h a b =
     let g = c .before in
     let k = g .before in
@@ -174,7 +178,7 @@ further c n h a b =
     let l = t .before in
     let s = begun l in
     let v = l .loop .inv .so-far n h a b in
-    let i = in-limits-series (s .args .t1) (h .limits) .dynamics in
+    let i = in-limits-series (s .args .t2) (h .limits) .dynamics in
     let y = rw (back (i .a) tt, back (i .theta) tt, back (i .c) tt) at (c .year-after .ensures) in (
       worked-more (v .0) (short s) (on-path t) (cell-read (k .before .before .before) n (v .1) ∙ k .before .e .given .1),
       year-step h (v .1) (on-path t) (g .goes-on .result) (g .goes-on .ensures) y,
@@ -182,7 +186,7 @@ further c n h a b =
 
 -- the year after is the set's
 next-year : (c : tie.After-year-after Inv-loop μ-loop) → let s = begun (turn (c .before .before) .before) in
-    YearOf (s .args .t1) (c .year-after .result)
+    YearOf (gridBy (s .args .fine)) (s .args .t2) (c .year-after .result)
 next-year c =
     let s = begun (turn (c .before .before) .before) in
     further c (s .args .path .year) (s .pre .0) (s .pre .1 .worked (s .pre .2)) (s .pre .1 .next (s .pre .2)) .1 .year

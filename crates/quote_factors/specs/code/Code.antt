@@ -6,7 +6,7 @@ use Prim.Native.Nat.{ℕ, suc, _+_, _-_, _≤_, _<_, min}
 use lib.Dec.{T}
 use lib.ListN.{length, take, getD, replicate}
 use Rattle.number_fraction.specs.Ratio.{Ratio}
-use Rattle.number_exponential.specs.Billionths.{billionths}
+use Rattle.number_exponential.specs.Grid.{Grid}
 use Rattle.number_exponential.specs.declared.Ends.{Ends}
 use Rattle.set_params.specs.declared.Params.{Params}
 use Rattle.set_params.specs.Limits.{lastYears}
@@ -41,9 +41,9 @@ pub record Repeated (es : List Ends) (done count : ℕ) (r : List Ends) : Type 0
   pub size : length r ≡ mostFactors
 
 -- the factors of the path where every needed cell is in range, and whether they are
-pub record FactorsOf (p : Params) (w : Path) (r : Factors) : Type 0 where
-  pub ok : r .ok ≡ pathInRange p (pathIs w)
-  pub ends : T (r .ok) → take (w .count) (r .ends) ≡ factors billionths p (pathIs w)
+pub record FactorsOf (g : Grid) (p : Params) (w : Path) (r : Factors) : Type 0 where
+  pub ok : r .ok ≡ pathInRange g p (pathIs w)
+  pub ends : T (r .ok) → take (w .count) (r .ends) ≡ factors g p (pathIs w)
   pub size : T (r .ok) → length (r .ends) ≡ mostFactors
 
 -- the path, and a part of a year after it
@@ -58,9 +58,9 @@ pub record PartWithin (w : Path) (r : Part) : Type 0 where
   pub room : (r .days ≡ 0 → ⊥) → w .count < mostFactors
 
 -- the factors of the path and the part
-pub record FactorsWith (p : Params) (w : Path) (part : Ratio) (r : Factors) : Type 0 where
-  pub ok : r .ok ≡ pathInRange p (allPlaces w part)
-  pub ends : T (r .ok) → take (length (allPlaces w part)) (r .ends) ≡ factors billionths p (allPlaces w part)
+pub record FactorsWith (g : Grid) (p : Params) (w : Path) (part : Ratio) (r : Factors) : Type 0 where
+  pub ok : r .ok ≡ pathInRange g p (allPlaces w part)
+  pub ends : T (r .ok) → take (length (allPlaces w part)) (r .ends) ≡ factors g p (allPlaces w part)
 
-abbrev pub AllFactorsOf : Params → Path → Part → Factors → Type 0
-AllFactorsOf p w r f = (part : Ratio) → IsPart r part → FactorsWith p w part f
+abbrev pub AllFactorsOf : Grid → Params → Path → Part → Factors → Type 0
+AllFactorsOf g p w r f = (part : Ratio) → IsPart r part → FactorsWith g p w part f

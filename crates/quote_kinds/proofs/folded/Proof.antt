@@ -1,13 +1,14 @@
 -- `folded` meets its contract, case by case.
 use borrow.Author.Needs.{needs}
 use mathlib.Core.Path.{_≡_, sym, ap, _∙_}
-use lib.Dec.{lit<}
 use lib.IntN.{ℤ}
 use lib.ListN.{take}
 use mir.Syntax.{w64}
 use mir.Val.{SFits}
 use mir.Facts.{toZ-ofZ}
-use Rattle.number_exponential.specs.Billionths.{billionths}
+use Rattle.number_exponential.specs.Grid.{Grid}
+use Rattle.number_exponential.specs.Units.{gridOf}
+use Rattle.number_exponential.specs.code.Flag.{unitBy, gridBy}
 use Rattle.number_folds.specs.code.Code.{AtMost}
 use Rattle.number_folds.specs.laws.Bounds.{survival-at-most}
 use Rattle.model_force.specs.Force.{deathOf}
@@ -20,11 +21,16 @@ use Rattle.quote_kinds.proofs.Casts.{cast-whole}
 use Rattle.quote_kinds.proofs.folded.Statement.{statement}
 use Rattle.quote_kinds.proofs.folded.Tie as tie
 
+-- the grid of the code's unit
+abbrev grid : tie.Start → Grid
+grid s = gridBy (s .args .fine)
+
 death-of-requires : tie.Need-death-of-requires
 death-of-requires c κs =
     let e = c .before .before .before in
-    let h = survival-at-most billionths (lit< tt) (e .pre .0 .each) in
-    let k : AtMost (billionths .unit) (c .survival-over .result) = rw (c .survival-over .ensures) h in
+    let g = grid e in
+    let h = survival-at-most g (g .positive) (e .pre .0 .each) in
+    let k : AtMost (g .unit) (c .survival-over .result) = rw (c .survival-over .ensures) h in
     (k .lower, k .upper)
 
 -- the rate in the annuity's arm
@@ -47,16 +53,16 @@ annuity-over-requires c κs = (c .before .before .before .pre .0, rw (toZ-ofZ (r
 
 -- the fold over the factors that the code's enum names
 at : (c : tie.Start) {f : Fold} → c .args .fold ≡ f
-    → foldOver f billionths (take (c .args .count) (c .args .factors))
-    ≡ foldOver (c .args .fold) billionths (take (c .args .count) (c .args .factors))
-at c e = ap (λ (f : Fold). foldOver f billionths (take (c .args .count) (c .args .factors))) (sym e)
+    → foldOver f (grid c) (take (c .args .count) (c .args .factors))
+    ≡ foldOver (c .args .fold) (grid c) (take (c .args .count) (c .args .factors))
+at c e = ap (λ (f : Fold). foldOver f (grid c) (take (c .args .count) (c .args .factors))) (sym e)
 
 returns : tie.Need-returns
 unfolding foldOver
 returns c =
     let v = c .before in
-    c .death-of .ensures ∙ ap (deathOf billionths) (v .survival-over .ensures)
-    ∙ at (v .before .before .before) (v .before .enum-told .given .1)
+    let s = v .before .before .before in
+    c .death-of .ensures ∙ ap (deathOf (grid s)) (v .survival-over .ensures) ∙ at s (v .before .enum-told .given .1)
 
 returns-2 : tie.Need-returns-2
 unfolding foldOver

@@ -50,20 +50,20 @@ path-repeats x n m (suc k) l =
     ∙ ap (λ (a : List Place). pathOf false x n m ++ a)
     (replicate-append-replicate k 1 (oldest n) ∙ ap (λ (i : ℕ). replicate i (oldest n)) (add-one k)))
 
-range-same : (p : Params) (c : Place) (k : ℕ) → T (neededInRange p (c .age) (c .year)) → T (pathInRange p (replicate k c))
+range-same : (g : Grid) (p : Params) (c : Place) (k : ℕ) → T (neededInRange g p (c .age) (c .year)) → T (pathInRange g p (replicate k c))
 unfolding pathInRange
-range-same p c zero t = tt
-range-same p c (suc k) t =
-    yes-and (neededInRange p (c .age) (c .year)) (pathInRange p (replicate k c)) t (range-same p c k t)
+range-same g p c zero t = tt
+range-same g p c (suc k) t =
+    yes-and (neededInRange g p (c .age) (c .year)) (pathInRange g p (replicate k c)) t (range-same g p c k t)
 
 -- so a path that has come to age 120 in range stays in range
-pub range-stays : (p : Params) (x n s k : ℕ) → lastClosed ≤ x + s → T (pathInRange p (pathOf false x n (suc s)))
-    → T (pathInRange p (pathOf false x n (suc s + k)))
-range-stays p x n s k l t =
-    let a = and-yes (pathInRange p (pathOf false x n s)) (placeInRange p false x n s) (rw (in-range-more p false x n s) at t) in
-    let c : T (neededInRange p lastClosed n) = rw (place-oldest x n s l) at (a .1) in
-    rw (path-repeats x n (suc s) k (omega arith), in-range-append p (pathOf false x n (suc s)) (replicate k (oldest n)))
-    (yes-and (pathInRange p (pathOf false x n (suc s))) (pathInRange p (replicate k (oldest n))) t (range-same p (oldest n) k c))
+pub range-stays : (g : Grid) (p : Params) (x n s k : ℕ) → lastClosed ≤ x + s → T (pathInRange g p (pathOf false x n (suc s)))
+    → T (pathInRange g p (pathOf false x n (suc s + k)))
+range-stays g p x n s k l t =
+    let a = and-yes (pathInRange g p (pathOf false x n s)) (placeInRange g p false x n s) (rw (in-range-more g p false x n s) at t) in
+    let c : T (neededInRange g p lastClosed n) = rw (place-oldest x n s l) at (a .1) in
+    rw (path-repeats x n (suc s) k (omega arith), in-range-append g p (pathOf false x n (suc s)) (replicate k (oldest n)))
+    (yes-and (pathInRange g p (pathOf false x n (suc s))) (pathInRange g p (replicate k (oldest n))) t (range-same g p (oldest n) k c))
 
 factors-same : (g : Grid) (p : Params) (c : Place) (k : ℕ) → factors g p (replicate k c) ≡ replicate k (survival g p (c .age) (c .year) (c .part))
 unfolding factors

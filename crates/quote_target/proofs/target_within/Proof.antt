@@ -1,7 +1,7 @@
 -- `target_within` meets its contract. The loop's invariant: what is found is what the years after n tell, and their cells are in
 -- range; the measure is n.
 use mathlib.Core.Path.{_≡_, refl, ap, sym, _∙_}
-use mathlib.Core.Bool.{Bool, true, false, cond}
+use mathlib.Core.Bool.{Bool, true, false}
 use Prim.Native.Nat.{ℕ, suc, _-_, _≤_}
 use native.Mathlib.Omega.{arith}
 use borrow.Author.Needs.{needs}
@@ -18,17 +18,17 @@ use Rattle.number_whole.proofs.Signed.{sum}
 use Rattle.set_params.specs.Limits.{firstYears, quoteYears}
 use Rattle.set_limits.specs.laws.LimitsLaws.{in-limits-start}
 use Rattle.set_refusal.specs.declared.Refusal.{Refusal}
-use Rattle.set_refusal.specs.declared.Refusal.the-variants.{LogForceOutOfRange}
 use Rattle.quote_kinds.specs.declared.Kind.the-variants.{PeriodExpectancy}
 use Rattle.quote_along.specs.declared.Quote.{Quote}
 use Rattle.quote_along.specs.declared.Answer.the-variants.{Quoted, Refused}
-use Rattle.quote.specs.Quote.{quoteOf, answerOf}
+use Rattle.quote_along.specs.code.Code.{inRangeOr}
+use Rattle.quote.specs.code.Code.{answerFor}
 use Rattle.quote_table_tests.specs.TableTests.{ageInTable}
 use Rattle.quote_target.specs.Target.{periodEnds, periodInRange, yearTells, soughtFrom, inRangeFrom, yearsSought}
 use Rattle.quote_target.specs.declared.TargetYear.{TargetYear}
 use Rattle.number_exponential.specs.declared.Ends.{Ends}
 use Rattle.set_params.specs.declared.Params.{Params}
-use Rattle.quote_target.specs.laws.PeriodLaws.{start-under, period-answer}
+use Rattle.quote_target.specs.laws.PeriodLaws.{start-under, periodQuote, period-answer}
 use Rattle.quote_target.specs.laws.SoughtLaws.{sought-back, range-back, range-out, no-such-age, out-of-range, all-in-range}
 use Rattle.quote_target.proofs.target_within.Statement.{statement}
 use Rattle.quote_target.proofs.target_within.Tie as tie
@@ -82,29 +82,29 @@ add-year c = let l = c .before .before .before in year-read (l .before .before .
 
 -- ---- the year's answer
 
-module _ (w : tie.After-quote-within Inv-loop μ-loop) where
+module _ (w : tie.After-answer-within Inv-loop μ-loop) where
   answer-is : let l = w .before .before .before .before in let s = l .before .before .before in
-      w .quote-within .result ≡ answerOf (s .args .p) PeriodExpectancy (s .args .age) (s .args .p .start +ℤ pos (l .loop .n)) (pos 0)
+      w .answer-within .result ≡ answerFor false (s .args .p) PeriodExpectancy (s .args .age) (s .args .p .start +ℤ pos (l .loop .n)) (pos 0)
   answer-is =
       let l = w .before .before .before .before in
       let s = l .before .before .before in
-      rw (toZ-ofZ (s .fits .age), year-read s (l .loop .n) (l .loop .inv .2) .1) at (w .quote-within .ensures)
+      rw (toZ-ofZ (s .fits .age), year-read s (l .loop .n) (l .loop .inv .2) .1) at (w .answer-within .ensures)
 
   decided : let l = w .before .before .before .before in let s = l .before .before .before in
-      w .quote-within .result
-      ≡ cond (periodInRange (s .args .p) (s .args .age) (l .loop .n))
-      (Quoted (quoteOf (s .args .p) PeriodExpectancy (s .args .age) (s .args .p .start +ℤ pos (l .loop .n)) (pos 0)))
-      (Refused LogForceOutOfRange)
+      w .answer-within .result
+      ≡ inRangeOr (periodInRange (s .args .p) (s .args .age) (l .loop .n)) (periodQuote (s .args .p) (s .args .age) (l .loop .n))
   decided =
       let l = w .before .before .before .before in
       let s = l .before .before .before in
       answer-is ∙ period-answer (s .args .p) (s .args .age) (l .loop .n) (s .pre) (age-in (l .before)) (omega arith) (l .loop .inv .2)
 
-refused-when : (b : Bool) (q : Quote) {r : Refusal} → cond b (Quoted q) (Refused LogForceOutOfRange) ≡ Refused r → b ≡ false
+refused-when : (b : Bool) (q : Quote) {r : Refusal} → inRangeOr b q ≡ Refused r → b ≡ false
+unfolding inRangeOr
 refused-when true q e = clash cc
 refused-when false q e = refl
 
-quoted-when : (b : Bool) (q : Quote) {q′ : Quote} → cond b (Quoted q) (Refused LogForceOutOfRange) ≡ Quoted q′ → (b ≡ true) × (q ≡ q′)
+quoted-when : (b : Bool) (q : Quote) {q′ : Quote} → inRangeOr b q ≡ Quoted q′ → (b ≡ true) × (q ≡ q′)
+unfolding inRangeOr
 quoted-when true q e = (refl, cc)
 quoted-when false q e = clash cc
 
@@ -122,9 +122,8 @@ told-by : {t t′ : ℤ} {e e′ : Ends} {y y′ : ℤ} {f f′ : TargetYear} �
     → {r : TargetYear} → r ≡ yearTells t e y f → r ≡ yearTells t′ e′ y′ f′
 told-by a b c d h = h ∙ rw (a, b, c, d)
 
-quote-ends : (p : Params) (age : ℤ) (n : ℕ) {q : Quote} → quoteOf p PeriodExpectancy age (p .start +ℤ pos n) (pos 0) ≡ q
+quote-ends : (p : Params) (age : ℤ) (n : ℕ) {q : Quote} → periodQuote p age n ≡ q
     → record { lower = q .lower; upper = q .upper } ≡ periodEnds p age n
-unfolding quoteOf periodEnds
 quote-ends p age n e = rw (← e)
 
 loop-again : tie.Need-loop-again Inv-loop μ-loop
@@ -137,8 +136,8 @@ loop-again c =
     let age = s .args .age in
     let h : firstYears ≤ n = omega arith in
     let a = toZ-ofZ (s .fits .age) in
-    let k = quoted-when (periodInRange p age n) (quoteOf p PeriodExpectancy age (p .start +ℤ pos n) (pos 0))
-    (sym (decided w) ∙ c .before .before .q .given .1) in (
+    let k = quoted-when (periodInRange p age n) (periodQuote p age n)
+    (sym (decided w) ∙ c .before .before .answer .given .1) in (
       told-by refl (quote-ends p age n (k .1) ∙ ap (λ (x : ℤ). periodEnds p x n) (sym a)) (year-read s n (l .loop .inv .2) .1) (l .loop .inv .0)
           (c .year-tells .ensures)
           ∙ sym (sought-back p (bits age) (bits (s .args .target)) n h (l .loop .inv .2)),

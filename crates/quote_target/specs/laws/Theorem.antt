@@ -1,6 +1,6 @@
 -- Every answer says of the exact values what it is to mean.
-use mathlib.Core.Path.{_≡_, refl, ap, sym, _∙_}
-use mathlib.Core.Bool.{Bool, true, false, cond, _&&_}
+use mathlib.Core.Path.{_≡_, refl, sym}
+use mathlib.Core.Bool.{Bool, true, false, cond}
 use Prim.Native.Nat.{ℕ, zero, suc, _+_, _≤_, _<_}
 use native.Mathlib.Decide.{decLt}
 use native.Mathlib.Omega.{arith}
@@ -11,32 +11,32 @@ use mir.Facts.{and-yes}
 use lib.IntN.{ℤ, pos, negsuc, _+ℤ_}
 use Rattle.number_whole.specs.laws.Clash.{clash}
 use Rattle.number_fraction.specs.Ratio.{_≤/_}
-use Rattle.number_exponential.specs.Billionths.{billionths}
+use Rattle.number_exponential.specs.Units.{billionths, gridOf}
 use Rattle.number_exponential.specs.Grid.{inUnits}
-use Rattle.number_exponential.specs.declared.Ends.{Ends}
 use Rattle.number_exact.specs.Value.{Exact, AtLeast, AtMost, Narrows}
-use Rattle.number_exact.specs.laws.ValueLaws.{at-least-weaken}
+use Rattle.number_exact.specs.laws.ValueLaws.{at-least-weaken, overlap-at-least, overlap-at-most}
 use Rattle.number_exact.specs.laws.OneValue.{at-least-at-most}
 use Rattle.set_params.specs.declared.Params.{Params}
 use Rattle.set_params.specs.Limits.{firstYears, quoteYears}
 use Rattle.set_limits.specs.InLimits.{inLimits}
+use Rattle.quote_paths.specs.laws.Facts.{billionths-facts}
+use Rattle.quote_paths.specs.laws.Holds.{value-holds}
+use Rattle.quote_paths.specs.laws.Narrowing.{value-narrows}
 use Rattle.quote_kinds.specs.declared.Kind.the-variants.{PeriodExpectancy}
+use Rattle.quote_kinds.specs.Kinds.{ruleOf}
 use Rattle.set_refusal.specs.declared.Refusal.{Refusal}
-use Rattle.set_refusal.specs.declared.Refusal.the-variants.{Accepted, LogForceOutOfRange}
+use Rattle.set_refusal.specs.declared.Refusal.the-variants.{Accepted}
 use Rattle.set_refusal.specs.Refusals.{refusalNumber}
 use Rattle.set_refusal.specs.laws.RefusalLaws.{accepted}
-use Rattle.quote_along.specs.declared.Answer.the-variants.{Quoted, Refused}
 use Rattle.quote_table_tests.specs.TableTests.{ageInTable, firstFailed}
 use Rattle.quote_table_tests.specs.laws.TableLaws.{passed}
-use Rattle.quote.specs.Quote.{quoteOf, answerOf}
-use Rattle.quote.specs.Demand.{numberOf, lowerOf, upperOf}
-use Rattle.quote.specs.laws.Theorem.{demand-met}
-use Rattle.quote_target.specs.declared.TargetYear.{TargetYear}
+use Rattle.quote.specs.Quote.{queryEnds, exactQuery}
+use Rattle.quote.specs.laws.Tests.{query-answered}
 use Rattle.quote_target.specs.declared.TargetYear.the-variants.{Reached, Open, Never}
 use Rattle.quote_target.specs.declared.TargetYear.the-variants as told
 use Rattle.quote_target.specs.Target.{periodEnds, periodInRange, reaches, yearTells, soughtFrom, inRangeFrom, yearsSought, targetRefusal, targetAnswer}
-use Rattle.quote_target.specs.Target.{exactPeriod, AtLeastTarget, Earliest, NoYear, Honest}
-use Rattle.quote_target.specs.laws.PeriodLaws.{period-answer}
+use Rattle.quote_target.specs.Target.{exactPeriod, AtLeastTarget, Honest}
+use Rattle.quote_target.specs.laws.PeriodLaws.{in-table}
 
 -- ---- one year
 
@@ -48,13 +48,15 @@ record Held (p : Params) (age : ℤ) (n : ℕ) : Type 0 where
 
 year-held : (p : Params) (age : ℤ) (n : ℕ) → T (inLimits p) → T (ageInTable age) → firstYears ≤ n → n ≤ quoteYears
     → periodInRange p age n ≡ true → Held p age n
-unfolding numberOf lowerOf upperOf quoteOf periodEnds
+unfolding periodEnds periodInRange queryEnds exactQuery gridOf
 year-held p age n t a l h r =
-    let q = quoteOf p PeriodExpectancy age (p .start +ℤ pos n) (pos 0) in
-    let e : answerOf p PeriodExpectancy age (p .start +ℤ pos n) (pos 0) ≡ Quoted q =
-    period-answer p age n t a l h ∙ ap (λ (b : Bool). cond b (Quoted q) (Refused LogForceOutOfRange)) r in
-    let k = demand-met p PeriodExpectancy age (p .start +ℤ pos n) (pos 0) .alone .kept (rw e) in
-    record { at-least = rw e at (k .at-least); at-most = rw e at (k .at-most); narrows = k .narrows }
+    let q = query-answered (record { limits = t; table = in-table (p .start) age n a l h; range = rw r tt }) in
+    let f = ruleOf PeriodExpectancy .fold in
+    record {
+      at-least = overlap-at-least (λ j i. value-holds billionths-facts q j i f);
+      at-most = overlap-at-most (λ j i. value-holds billionths-facts q j i f);
+      narrows = value-narrows q f;
+    }
 
 units-ordered : {a b : ℕ} → a ≤ b → inUnits billionths a ≤/ inUnits billionths b
 unfolding inUnits

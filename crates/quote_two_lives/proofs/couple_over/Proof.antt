@@ -2,19 +2,21 @@
 use borrow.Author.Needs.{needs}
 use mathlib.Core.Path.{_≡_, sym, ap, _∙_}
 use lib.ListN.{take}
-use Rattle.number_exponential.specs.Billionths.{billionths}
+use Rattle.number_exponential.specs.declared.Ends.{Ends}
+use Rattle.number_exponential.specs.Units.{gridOf}
+use Rattle.number_exponential.specs.code.Flag.{unitBy, gridBy}
 use Rattle.quote_couple_kinds.specs.declared.CoupleKind.{CoupleKind}
 use Rattle.quote_two_lives.specs.TwoLives.{coupleOver}
 use Rattle.quote_two_lives.proofs.couple_over.Statement.{statement}
 use Rattle.quote_two_lives.proofs.couple_over.Tie as tie
 
--- what the kind that the code's enum names takes of the factors
-at : (c : tie.Start) {k : CoupleKind} → c .args .kind ≡ k
-    → coupleOver k billionths (take (c .args .count) (c .args .first)) (take (c .args .count) (c .args .second))
-    ≡ coupleOver (c .args .kind) billionths (take (c .args .count) (c .args .first)) (take (c .args .count) (c .args .second))
-at c e =
-    ap (λ (k : CoupleKind). coupleOver k billionths (take (c .args .count) (c .args .first)) (take (c .args .count) (c .args .second)))
-    (sym e)
+-- what a kind takes of the factors
+abbrev over : tie.Start → CoupleKind → Ends
+over s k = coupleOver k (gridBy (s .args .fine)) (take (s .args .count) (s .args .first)) (take (s .args .count) (s .args .second))
+
+-- that is the kind that the code's enum names
+at : (c : tie.Start) {k : CoupleKind} → c .args .kind ≡ k → over c k ≡ over c (c .args .kind)
+at c e = ap (over c) (sym e)
 
 returns : tie.Need-returns
 unfolding coupleOver

@@ -1,7 +1,9 @@
 -- `status_chance` meets its contract, case by case.
 use borrow.Author.Needs.{needs}
 use mathlib.Core.Path.{_≡_, sym, ap, ap₂, _∙_}
-use Rattle.number_exponential.specs.Billionths.{billionths}
+use Rattle.number_exponential.specs.Grid.{Grid}
+use Rattle.number_exponential.specs.Units.{gridOf}
+use Rattle.number_exponential.specs.code.Flag.{unitBy, gridBy}
 use Rattle.number_exponential.specs.declared.Ends.{Ends}
 use Rattle.number_folds.specs.Folds.{withFactor}
 use Rattle.number_folds.specs.code.Code.{AtMost}
@@ -13,24 +15,30 @@ use Rattle.quote_two_lives.specs.laws.Sizes.{death-at-most}
 use Rattle.quote_two_lives.proofs.status_chance.Statement.{statement}
 use Rattle.quote_two_lives.proofs.status_chance.Tie as tie
 
--- the two death chances
-dead : (e : Ends) {r : Ends} → r ≡ deathOf billionths e → AtMost (billionths .unit) r
-dead e d = rw d (death-at-most billionths e)
+-- the grid of the code's unit
+abbrev grid : tie.Start → Grid
+grid s = gridBy (s .args .fine)
 
-both-dead : (c : tie.After-death-of2) → AtMost (billionths .unit) (c .before .death-of .result) × AtMost (billionths .unit) (c .death-of2 .result)
-both-dead c = (dead _ (c .before .death-of .ensures), dead _ (c .death-of2 .ensures))
+-- the two death chances
+dead : (g : Grid) (e : Ends) {r : Ends} → r ≡ deathOf g e → AtMost (g .unit) r
+dead g e d = rw d (death-at-most g e)
+
+both-dead : (c : tie.After-death-of2) → let g = grid (c .before .before .before .before) in
+    AtMost (g .unit) (c .before .death-of .result) × AtMost (g .unit) (c .death-of2 .result)
+both-dead c = (dead _ _ (c .before .death-of .ensures), dead _ _ (c .death-of2 .ensures))
 
 death-of-requires-3 : tie.Need-death-of-requires-3
 death-of-requires-3 c κs =
     let b = both-dead (c .before) in
-    let k : AtMost (billionths .unit) (c .with-factor2 .result) =
-    rw (c .with-factor2 .ensures) (with-factor-at-most billionths (billionths .positive) (b .0) (b .1)) in
+    let g = grid (c .before .before .before .before .before) in
+    let k : AtMost (g .unit) (c .with-factor2 .result) =
+    rw (c .with-factor2 .ensures) (with-factor-at-most g (g .positive) (b .0) (b .1)) in
     (k .lower, k .upper)
 
 -- the chance of the status that the code's enum names
 at : (c : tie.Start) {status : Status} → c .args .status ≡ status
-    → statusChance status billionths (c .args .s) (c .args .t) ≡ statusChance (c .args .status) billionths (c .args .s) (c .args .t)
-at c e = ap (λ (status : Status). statusChance status billionths (c .args .s) (c .args .t)) (sym e)
+    → statusChance status (grid c) (c .args .s) (c .args .t) ≡ statusChance (c .args .status) (grid c) (c .args .s) (c .args .t)
+at c e = ap (λ (status : Status). statusChance status (grid c) (c .args .s) (c .args .t)) (sym e)
 
 returns : tie.Need-returns
 unfolding statusChance
@@ -41,10 +49,11 @@ unfolding statusChance
 returns-2 c =
     let w = c .before in
     let d = w .before .before in
+    let s = d .before .before .before in
     c .death-of3 .ensures
-    ∙ ap (deathOf billionths)
-    (w .with-factor2 .ensures ∙ ap₂ (withFactor billionths) (d .death-of .ensures) (w .before .death-of2 .ensures))
-    ∙ at (d .before .before .before) (d .before .enum-told2 .given .1)
+    ∙ ap (deathOf (grid s))
+    (w .with-factor2 .ensures ∙ ap₂ (withFactor (grid s)) (d .death-of .ensures) (w .before .death-of2 .ensures))
+    ∙ at s (d .before .enum-told2 .given .1)
 
 pub status-chance-spec : {M : Type 1} → statement M
 status-chance-spec =

@@ -7,11 +7,11 @@ use Rattle.number_fraction.specs.laws.Places.{places-length, places-take}
 use Rattle.number_taylor.specs.Order.{leastOrder}
 use Rattle.number_exponential.specs.Grid.{Grid}
 use Rattle.number_exponential.specs.declared.Ends.{Ends}
-use Rattle.number_exponential.specs.Billionths.{billionths}
 use Rattle.set_params.specs.declared.Params.{Params}
-use Rattle.number_folds.specs.laws.Holds.{Over, Even, billionths-even, half-over, with-factor-holds, plus-holds, sum-holds, survival-holds}
+use Rattle.number_folds.specs.laws.Holds.{Over, half-over, with-factor-holds, plus-holds, sum-holds, survival-holds}
 use Rattle.quote_paths.specs.Path.{Place, factors, orderFactors}
 use Rattle.quote_paths.specs.laws.Answers.{AnsweredPath}
+use Rattle.quote_paths.specs.laws.Facts.{Facts}
 use Rattle.quote_paths.specs.laws.Holds.{death-of-holds, factors-hold}
 use Rattle.quote_couple_kinds.specs.declared.Status.{Status}
 use Rattle.quote_couple_kinds.specs.declared.Status.the-variants.{JointLife, LastSurvivor}
@@ -38,26 +38,26 @@ module _ (g : Grid) where
     unfolding statusOver orderStatusOver
     over-holds h h′ = status-holds status (survival-holds g h) (survival-holds g h′)
 
-  expectancy-holds : Even g → (status : Status) {es es′ : List Ends} {bs bs′ : List Bracket} → Forall₂ (Over g) es bs
+  expectancy-holds : (status : Status) {es es′ : List Ends} {bs bs′ : List Bracket} → Forall₂ (Over g) es bs
       → Forall₂ (Over g) es′ bs′ → Over g (statusExpectancyOver status g es es′) (orderStatusExpectancyOver status bs bs′)
   unfolding statusExpectancyOver orderStatusExpectancyOver
-  expectancy-holds even status {es} {es′} {bs} {bs′} h h′ =
+  expectancy-holds status {es} {es′} {bs} {bs′} h h′ =
       rw (← places-length h)
-      (plus-holds g (half-over g even)
+      (plus-holds g (half-over g)
       (sum-holds g (statusesOver status g es es′) (orderStatusesOver status bs bs′) (length es)
       (λ k l. over-holds status (places-take (suc k) h) (places-take (suc k) h′))))
 
-  couple-holds : Even g → (k : CoupleKind) {es es′ : List Ends} {bs bs′ : List Bracket} → Forall₂ (Over g) es bs
+  couple-holds : (k : CoupleKind) {es es′ : List Ends} {bs bs′ : List Bracket} → Forall₂ (Over g) es bs
       → Forall₂ (Over g) es′ bs′ → Over g (coupleOver k g es es′) (orderCoupleOver k bs bs′)
   unfolding coupleOver orderCoupleOver
-  couple-holds even kind.JointLife h h′ = over-holds JointLife h h′
-  couple-holds even kind.LastSurvivor h h′ = over-holds LastSurvivor h h′
-  couple-holds even kind.JointExpectancy h h′ = expectancy-holds even JointLife h h′
-  couple-holds even kind.LastExpectancy h h′ = expectancy-holds even LastSurvivor h h′
+  couple-holds kind.JointLife h h′ = over-holds JointLife h h′
+  couple-holds kind.LastSurvivor h h′ = over-holds LastSurvivor h h′
+  couple-holds kind.JointExpectancy h h′ = expectancy-holds JointLife h h′
+  couple-holds kind.LastExpectancy h h′ = expectancy-holds LastSurvivor h h′
 
 -- of two lives along answered paths
-pub value-holds : {p p′ : Params} {path path′ : List Place} → AnsweredPath p path → AnsweredPath p′ path′ → (k : CoupleKind)
-    → (j : ℕ) → leastOrder ≤ j
-    → Over billionths (coupleOver k billionths (factors billionths p path) (factors billionths p′ path′))
+pub value-holds : {g : Grid} {t : ℕ} → Facts g t → {p p′ : Params} {path path′ : List Place} → AnsweredPath p path
+    → AnsweredPath p′ path′ → (k : CoupleKind) (j : ℕ) → leastOrder ≤ j
+    → Over g (coupleOver k g (factors g p path) (factors g p′ path′))
     (orderCoupleOver k (orderFactors p path j) (orderFactors p′ path′ j))
-value-holds a a′ k j l = couple-holds billionths billionths-even k (factors-hold a j l) (factors-hold a′ j l)
+value-holds {g} f a a′ k j l = couple-holds g k (factors-hold f a j l) (factors-hold f a′ j l)

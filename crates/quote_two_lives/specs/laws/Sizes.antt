@@ -1,14 +1,13 @@
 -- How great the values of two lives can be: a chance is at most 1, and an expectancy at most one half and 1 for each factor.
 use mathlib.Core.List.{List}
 use Prim.Native.Nat.{ℕ, suc, _+_, _*_, _/_, _≤_}
-use native.Mathlib.Nat.{mul-le-mul-right, div-le-self}
 use native.Mathlib.Omega.{arith}
 use lib.ListN.{length}
 use Rattle.number_exponential.specs.Grid.{Grid}
 use Rattle.number_exponential.specs.declared.Ends.{Ends}
 use Rattle.number_folds.specs.Folds.{half, plus}
 use Rattle.number_folds.specs.laws.Each.{Each, each-take}
-use Rattle.number_folds.specs.laws.Bounds.{sum-at-most, with-factor-at-most, survival-at-most}
+use Rattle.number_folds.specs.laws.Bounds.{sum-at-most, with-factor-at-most, survival-at-most, years-at-most}
 use Rattle.number_folds.specs.code.Code.{AtMost}
 use Rattle.model_force.specs.Force.{deathOf}
 use Rattle.quote_couple_kinds.specs.declared.Status.{Status}
@@ -41,20 +40,14 @@ module _ (g : Grid) where
       (λ k l. over-at-most status (each-take (suc k) h) (each-take (suc k) h′)) in
       record { lower = omega (arith, a .lower); upper = omega (arith, a .upper) }
 
-  -- a chance, and such a sum of at most m of them, are at most m + 1
+  -- a chance, as such a sum of at most m of them, is at most m + 1
   chance : (m : ℕ) {e : Ends} → AtMost (g .unit) e → AtMost (suc m * g .unit) e
   chance m h = record { lower = omega (arith, h .lower); upper = omega (arith, h .upper) }
-
-  sum : {n : ℕ} (m : ℕ) {e : Ends} → n ≤ m → AtMost (g .unit / 2 + n * g .unit) e → AtMost (suc m * g .unit) e
-  sum m l h =
-      let k = mul-le-mul-right (g .unit) l in
-      let d = div-le-self (g .unit) 2 in
-      record { lower = omega (arith, h .lower); upper = omega (arith, h .upper) }
 
   pub couple-at-most : (k : CoupleKind) {ps ps′ : List Ends} (m : ℕ) → length ps ≤ m → Each (AtMost (g .unit)) ps
       → Each (AtMost (g .unit)) ps′ → AtMost (suc m * g .unit) (coupleOver k g ps ps′)
   unfolding coupleOver
   couple-at-most kind.JointLife m l h h′ = chance m (over-at-most JointLife h h′)
   couple-at-most kind.LastSurvivor m l h h′ = chance m (over-at-most LastSurvivor h h′)
-  couple-at-most kind.JointExpectancy m l h h′ = sum m l (expectancy-at-most JointLife h h′)
-  couple-at-most kind.LastExpectancy m l h h′ = sum m l (expectancy-at-most LastSurvivor h h′)
+  couple-at-most kind.JointExpectancy m l h h′ = years-at-most g (g .positive) m l (expectancy-at-most JointLife h h′)
+  couple-at-most kind.LastExpectancy m l h h′ = years-at-most g (g .positive) m l (expectancy-at-most LastSurvivor h h′)

@@ -9,7 +9,6 @@ use lib.ListN.{length, take, length-map}
 use Rattle.number_fraction.specs.laws.Places.{places-length, places-take}
 use Rattle.number_exponential.specs.Grid.{Grid}
 use Rattle.number_exponential.specs.declared.Ends.{Ends}
-use Rattle.number_exponential.specs.Billionths.{billionths}
 use Rattle.number_exponential.specs.Exponential.{total}
 use Rattle.set_params.specs.declared.Params.{Params}
 use Rattle.model_closure.specs.Weights.{lastClosed}
@@ -19,6 +18,7 @@ use Rattle.number_folds.specs.laws.Width.{Chance, spread, spreads, sum-width, w
 use Rattle.model_force.specs.Force.{deathOf}
 use Rattle.quote_paths.specs.Path.{Place, pathOf, factors}
 use Rattle.quote_paths.specs.laws.Answers.{AnsweredPath}
+use Rattle.quote_paths.specs.laws.Facts.{Facts}
 use Rattle.quote_paths.specs.laws.Width.{survivalLimit, expectancyLimit, pathLimits, path-chances, path-spread, path-spreads}
 use Rattle.quote_couple_kinds.specs.declared.Status.{Status}
 use Rattle.quote_couple_kinds.specs.declared.Status.the-variants.{JointLife, LastSurvivor}
@@ -68,29 +68,31 @@ module _ (g : Grid) where
 
 -- ---- of two lives along answered paths
 
-module _ (status : Status) {p p′ : Params} where
+module _ {g : Grid} {t : ℕ} (f : Facts g t) (status : Status) {p p′ : Params} where
   pub status-limit : (x x′ n n′ k : ℕ) → x + k ≤ suc lastClosed → x′ + k ≤ suc lastClosed
       → AnsweredPath p (pathOf true x n k) → AnsweredPath p′ (pathOf true x′ n′ k)
-      → let e = statusOver status billionths (factors billionths p (pathOf true x n k)) (factors billionths p′ (pathOf true x′ n′ k)) in
-      e .upper ≤ e .lower + 2 * survivalLimit
+      → let e = statusOver status g (factors g p (pathOf true x n k)) (factors g p′ (pathOf true x′ n′ k)) in
+      e .upper ≤ e .lower + t * (2 * survivalLimit)
   status-limit x x′ n n′ k l l′ a a′ =
+      let v = f .some in
       omega (
         arith,
-        over-chance billionths status (path-chances a) (path-chances a′) .width,
-        path-spread true x n k l,
-        path-spread true x′ n′ k l′,
+        over-chance g status (path-chances f a) (path-chances f a′) .width,
+        path-spread t v true x n k l,
+        path-spread t v true x′ n′ k l′,
       )
 
   pub status-expectancy-limit : {path path′ : List Place} → length path ≡ length path′ → length path ≤ mostFactors
       → AnsweredPath p path → AnsweredPath p′ path′
-      → let e = statusExpectancyOver status billionths (factors billionths p path) (factors billionths p′ path′) in
-      e .upper ≤ e .lower + 2 * expectancyLimit
+      → let e = statusExpectancyOver status g (factors g p path) (factors g p′ path′) in
+      e .upper ≤ e .lower + t * (2 * expectancyLimit)
   status-expectancy-limit {path} {path′} same l a a′ =
-      let n : length (pathLimits path) ≡ length path = length-map path _ in
-      let n′ : length (pathLimits path′) ≡ length path′ = length-map path′ _ in
+      let v = f .some in
+      let n : length (pathLimits t path) ≡ length path = length-map path _ in
+      let n′ : length (pathLimits t path′) ≡ length path′ = length-map path′ _ in
       omega (
         arith,
-        expectancy-width billionths status (n ∙ same ∙ sym n′) (path-chances a) (path-chances a′),
-        path-spreads path l,
-        path-spreads path′ (rw (← same) l),
+        expectancy-width g status (n ∙ same ∙ sym n′) (path-chances f a) (path-chances f a′),
+        path-spreads t v path l,
+        path-spreads t v path′ (rw (← same) l),
       )

@@ -2,6 +2,7 @@
 -- year's cells.
 use mathlib.Core.Path.{_≡_, ap, sym, _∙_}
 use mathlib.Core.Bool.{true, false}
+use Prim.Native.Nat.{ℕ, suc, _+_, _≤_}
 use native.Mathlib.Omega.{arith}
 use borrow.Author.Needs.{needs}
 use borrow.Author.Tests.{not-true, not-false}
@@ -9,9 +10,13 @@ use lib.IntN.{ℤ, pos}
 use mir.Syntax.{w64}
 use mir.Val.{SFits}
 use mir.Facts.{toZ-ofZ}
+use Rattle.number_exponential.specs.declared.GridUnit.the-variants.{Coarse}
+use Rattle.number_exponential.specs.Units.{gridOf, billionths}
+use Rattle.number_exponential.specs.code.Flag.{unitBy}
 use Rattle.number_whole.specs.laws.Bound.{bits}
 use Rattle.number_whole.specs.laws.Clash.{clash}
 use Rattle.set_params.specs.Set.{yearNumber}
+use Rattle.set_params.specs.Limits.{lastYears}
 use Rattle.set_params.specs.code.Within.{StartWithin}
 use Rattle.set_limits.specs.laws.LimitsLaws.{in-limits-start}
 use Rattle.set_refusal.specs.laws.RefusalLaws.{accepted}
@@ -96,6 +101,10 @@ number-is c =
 abbrev cells : ℤ → ℤ → Path
 cells start year = record { cohort = false; age = 0; year = yearNumber start year; count = columnAges }
 
+-- a path of one year reaches no other
+one-year : (n k : ℕ) → false ≡ true → n + k ≤ suc lastYears
+one-year n k e = clash cc
+
 within : (e : tie.Else1) → let s = begun e in PathWithin (s .args .p) (cells (s .args .p .start) (s .args .year))
 within e =
     let s = begun e in
@@ -105,7 +114,7 @@ within e =
       age = omega arith;
       room = omega arith;
       first = f;
-      years = path-years _ _ _ _ f (λ e. clash cc);
+      years = path-years _ _ _ _ f (one-year (yearNumber (s .args .p .start) (s .args .year)) columnAges);
     }
 
 factors-of-requires : tie.Need-factors-of-requires
@@ -113,7 +122,8 @@ factors-of-requires c κs = rw (number-is c) (within (c .before .before))
 
 -- their factors
 worked : (c : tie.After-factors-of) → let s = begun (c .before .before .before) in
-    FactorsOf (s .args .p) (cells (s .args .p .start) (s .args .year)) (c .factors-of .result)
+    FactorsOf billionths (s .args .p) (cells (s .args .p .start) (s .args .year)) (c .factors-of .result)
+unfolding gridOf unitBy
 worked c = rw (number-is (c .before)) at (c .factors-of .ensures)
 
 -- every cell is in range
@@ -121,10 +131,12 @@ ok : (c : tie.Else2) → c .before .before .factors-of .result .ok ≡ true
 ok c = not-false _ (c .if2 .left)
 
 verdict-on-requires : tie.Need-verdict-on-requires
+unfolding gridOf
 verdict-on-requires c κs =
     let e = c .before in
     let f = e .before .before in
-    path-chances (within (f .before .before .before)) (worked f .ends (rw (ok e) tt))
+    let i = f .before .before .before in
+    (begun i .pre, path-chances Coarse (within i) (worked f .ends (rw (ok e) tt)))
 
 returns-2 : tie.Need-returns-2
 unfolding yearCells
@@ -143,7 +155,7 @@ returns-3 c =
     let s = begun e in
     let w = worked f in
     verdict-by (s .args .p) (s .args .year) (s .args .column) (s .pre) (table e .year-in) (f .factors-of .result .ends)
-    (rw (← w .ok, ok o) tt) (w .ends (rw (ok o) tt)) (c .verdict-on .ensures)
+    (rw (← w .ok, ok o) tt) (w .ends (rw (ok o) tt)) (rw (toZ-ofZ (s .fits .year)) at (c .verdict-on .ensures))
 
 pub judge-within-spec : {M : Type 1} → statement M
 judge-within-spec =

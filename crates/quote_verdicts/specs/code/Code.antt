@@ -1,5 +1,5 @@
 -- What the code's contracts say beside the definitions: a column that was read or not, the verdict on one age, the figures by the
--- factors of a year's cells, and what a verdict says.
+-- factors of a year's cells and where they leave one open, and what a verdict says.
 use mathlib.Core.Path.{_≡_}
 use mathlib.Core.Bool.{Bool, true, false, cond}
 use mathlib.Core.List.{List, []}
@@ -9,8 +9,10 @@ use lib.ListN.{getD}
 use Rattle.text_tokens.specs.Text.{Parse, malformed, taken}
 use Rattle.set_params.specs.declared.Params.{Params}
 use Rattle.number_exponential.specs.declared.Ends.{Ends}
-use Rattle.number_exponential.specs.Billionths.{billionths}
+use Rattle.number_exponential.specs.Units.{billionths}
+use Rattle.number_exact.specs.declared.Figure.{Figure}
 use Rattle.number_exact.specs.Figure.{probabilityStep, figureOf}
+use Rattle.number_exact.specs.Figure as figure
 use Rattle.model_force.specs.Force.{deathOf}
 use Rattle.quote.specs.Demand.{Shown, shownOf}
 use Rattle.quote_factors.specs.code.Code.{empty}
@@ -18,7 +20,7 @@ use Rattle.quote_verdicts.specs.declared.Verdict.{Verdict}
 use Rattle.quote_verdicts.specs.declared.Verdict.the-variants.{Right, Wrong, Open}
 use Rattle.quote_verdicts.specs.declared.Judged.{Judged}
 use Rattle.quote_verdicts.specs.declared.Judged.the-variants.{Of}
-use Rattle.quote_verdicts.specs.Verdict.{differs, isOpen, EachRounded, SomeOther}
+use Rattle.quote_verdicts.specs.Verdict.{figureHere, differs, isOpen, EachRounded, SomeOther}
 
 -- a column where the whole of it was read
 unfoldable pub columnRead : Bool → List ℕ → Parse (List ℕ)
@@ -37,13 +39,17 @@ joined Open Open = Open
 joined Open Right = Open
 joined Right v = v
 
--- the figure of q by p's ends
-unfoldable pub figureBy : Ends → Shown
-figureBy p = shownOf (figureOf probabilityStep (deathOf billionths p))
+-- the figure of q by p's ends on the coarse grid
+unfoldable pub figureBy : Ends → Figure
+figureBy p = figureOf probabilityStep (deathOf billionths p)
 
 -- that of age x by the factors of its year
-unfoldable pub figureIn : List Ends → ℕ → Shown
+abbrev pub figureIn : List Ends → ℕ → Figure
 figureIn factors x = figureBy (getD factors x empty)
+
+-- and where it is open, the quote's
+unfoldable pub figureKept : Params → ℤ → List Ends → ℕ → Shown
+figureKept p year factors x = cond (figure.isOpen (figureIn factors x)) (figureHere p year x) (shownOf (figureIn factors x))
 
 -- what an answer of a column that was read says
 pub record Honest (p : Params) (year : ℤ) (column : List ℕ) (r : Judged) : Type 0 where

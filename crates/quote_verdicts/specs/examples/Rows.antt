@@ -18,7 +18,7 @@ use Rattle.set_params.specs.Set.{A, B, alpha, beta, ages, yearNumber}
 use Rattle.set_limits.specs.InLimits.{allBelow, lastStartOf, constantLimitOf, tableInLimits, seriesInLimits, ageInLimits, inLimits}
 use Rattle.set_limits.specs.laws.LimitsLaws.{sizes-decide}
 use Rattle.set_refusal.specs.Refusals.{refusalNumber}
-use Rattle.set_series.specs.Series.{periodIn, kappaIn, kappaStep}
+use Rattle.set_series.specs.Series.{periodIn, kappaIn, kappaStep, inGrid}
 use Rattle.model_log_force.specs.LogForce.{cellForce, logForce, inRange}
 use Rattle.model_mortality.specs.Cell.{neededInRange, fittedInRange}
 use Rattle.quote_paths.specs.Path.{placeAt, pathOf, pathInRange}
@@ -105,6 +105,6 @@ refusals = (rw past, rw (in-limits .0), rw (in-limits .0), rw (in-limits .0))
 pub out-of-range : (judged (withA 0) (pos 2014) (taken [] []) ≡ Refused LogForceOutOfRange)
     × (judged (withA 0) (pos 2184) (taken [] []) ≡ Refused LogForceOutOfRange)
 unfolding judged judgedBy columnRefusal columnTests firstFailed refusalNumber A B alpha beta yearInTable ruleOf yearCells
-    yearNumber pathOf listed placeAt pathInRange neededInRange fittedInRange inRange logForce cellForce periodIn kappaIn kappaStep
+    yearNumber pathOf listed placeAt pathInRange neededInRange fittedInRange inRange logForce cellForce periodIn kappaIn kappaStep inGrid
     leastProduct greatestProduct outward floorDiv ceilDiv
 out-of-range = (rw (in-limits .1), rw (in-limits .1))

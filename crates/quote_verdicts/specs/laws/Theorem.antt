@@ -21,9 +21,9 @@ use Rattle.quote_verdicts.specs.declared.Verdict.the-variants.{Right, Wr
 use Rattle.quote_verdicts.specs.declared.Judged.the-variants.{Refused}
 use Rattle.quote_verdicts.specs.Verdict.{columnAges, figureHere, entryAt, differs, isOpen, verdictOf, columnRefusal, entriesIn, judged}
 use Rattle.quote_verdicts.specs.Verdict.{EachRounded, SomeOther}
-use Rattle.quote_verdicts.specs.code.Code.{figureBy, Honest}
+use Rattle.quote_verdicts.specs.code.Code.{Honest}
 use Rattle.quote_verdicts.specs.laws.VerdictLaws.{right-none, wrong-some, verdict-given, all-passed}
-use Rattle.quote_verdicts.specs.laws.Figures.{Worked, figure-here}
+use Rattle.quote_verdicts.specs.laws.Figures.{Worked, figure-quoted}
 
 -- ---- one age
 
@@ -53,10 +53,10 @@ other-entry noFigure m d = clash cc
 module _ (p : Params) (year : ℤ) (column : List ℕ) where
   -- right: each figure here is printed and is the entry
   right-rounded : Worked p year → verdictOf p year column ≡ Right → EachRounded p year column
-  unfolding verdictOf figureHere figureBy
+  unfolding verdictOf figureHere
   right-rounded h e x l =
       let k = right-none (figureHere p year) (entryAt column) columnAges e x l in
-      let f = figure-here x l h in
+      let f = figure-quoted x l h in
       let m = entryAt column x in
       figure-rounds p Death (pos x) year (pos 0)
       (f ∙ same-entry _ m (ap (λ (s : Shown). differs s m) (sym f) ∙ k .0) (ap isOpen (sym f) ∙ k .1))

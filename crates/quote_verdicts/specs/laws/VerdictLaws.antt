@@ -11,6 +11,7 @@ use lib.Dec.{T, eqb}
 use lib.IntN.{ℤ}
 use Rattle.number_whole.specs.laws.Clash.{clash}
 use Rattle.text_tokens.specs.Text.{Parse, isTaken}
+use Rattle.number_exponential.specs.Units.{billionths}
 use Rattle.set_params.specs.declared.Params.{Params}
 use Rattle.set_refusal.specs.declared.Refusal.{Refusal}
 use Rattle.set_refusal.specs.declared.Refusal.the-variants.{Accepted}
@@ -152,7 +153,7 @@ pub record Accept (p : Params) (year : ℤ) (read : Parse (List ℕ)) : Type 0 w
   pub limits : T (inLimits p)
   pub whole : T (isTaken read)
   pub year-in : T (yearInTable (p .start) (ruleOf Death) year)
-  pub range : T (pathInRange p (yearCells (p .start) year))
+  pub range : T (pathInRange billionths p (yearCells (p .start) year))
 
 pub all-passed : (p : Params) (year : ℤ) (read : Parse (List ℕ)) → columnRefusal p year read ≡ Accepted → Accept p year read
 unfolding columnRefusal columnTests firstFailed
@@ -160,5 +161,5 @@ all-passed p year read e =
     let l = passed (inLimits p) (λ q. clash cc) e in
     let w = passed (isTaken read) (λ q. clash cc) (l .1) in
     let y = passed (yearInTable (p .start) (ruleOf Death) year) (λ q. clash cc) (w .1) in
-    let r = passed (pathInRange p (yearCells (p .start) year)) (λ q. clash cc) (y .1) in
+    let r = passed (pathInRange billionths p (yearCells (p .start) year)) (λ q. clash cc) (y .1) in
     record { limits = l .0; whole = w .0; year-in = y .0; range = r .0 }

@@ -6,6 +6,8 @@ use native.Mathlib.Nat.{min-le-left, min-le-right, min-eq-left, min-eq-right, le
 use native.Mathlib.Decide.{decLt}
 use native.Mathlib.Omega.{arith}
 use borrow.Author.Needs.{needs}
+use Rattle.number_exponential.specs.Units.{gridOf}
+use Rattle.number_exponential.specs.code.Flag.{unitBy, gridBy}
 use Rattle.number_whole.specs.laws.Bound.{back}
 use Rattle.set_limits.specs.laws.LimitsLaws.{in-limits-series}
 use Rattle.set_params.specs.Set.{ageOf}
@@ -24,10 +26,10 @@ use Rattle.quote_walks.proofs.young_factors.Statement.{statement}
 use Rattle.quote_walks.proofs.young_factors.Tie as tie
 
 abbrev Inv-loop : tie.InvT-loop
-Inv-loop p cohort age count young d year₀ ends₀ done₀ year ends done = let w = along cohort age (year₀ .number) count in Worked p w ends done × YearAt p w done year × (done ≤ young)
+Inv-loop fine p cohort age count young d year₀ ends₀ done₀ year ends done = let w = along cohort age (year₀ .number) count in Worked (gridBy fine) p w ends done × YearAt (gridBy fine) p w done year × (done ≤ young)
 
 abbrev μ-loop : tie.MeasureT-loop
-μ-loop p cohort age count young d year₀ ends₀ done₀ year ends done = young - done
+μ-loop fine p cohort age count young d year₀ ends₀ done₀ year ends done = young - done
 
 -- the function's start, and what it counted
 abbrev counted : tie.After-year-at Inv-loop μ-loop → tie.After-young-count Inv-loop μ-loop
@@ -47,7 +49,7 @@ path-is c =
     let w = begun c .args .path in
     ap (λ (n : ℕ). along (w .cohort) (w .age) n (w .count)) (c .year-at .ensures .0)
 
-within : (c : tie.After-year-at Inv-loop μ-loop) → PathWithin (begun c .args .t1) (path c)
+within : (c : tie.After-year-at Inv-loop μ-loop) → PathWithin (begun c .args .t2) (path c)
 within c = rw (path-is c) (begun c .pre)
 
 -- a turn of the loop is at an age to 90 of the path
@@ -77,12 +79,12 @@ abbrev turn : tie.After-age-of-runs Inv-loop μ-loop → tie.In-loop Inv-loop μ
 turn c = c .before .before .before .before .before .before
 
 age-read : (c : tie.After-age-of-runs Inv-loop μ-loop) → let s = begun (first (turn c)) in
-    c .age-of-runs .result ≡ ageOf (s .args .t1) (s .args .path .age + turn c .before .loop .done)
+    c .age-of-runs .result ≡ ageOf (s .args .t2) (s .args .path .age + turn c .before .loop .done)
 age-read c = c .age-of-runs .ensures ∙ four-age _ _
 
 -- so the cell is the path's
 cell-read : (c : tie.After-young-cell Inv-loop μ-loop) → let t = turn (c .before) in
-    cellAt (begun (first t) .args .t1) (path (first t)) (t .before .loop .done) ≡ c .young-cell .result
+    cellAt (gridBy (begun (first t) .args .fine)) (begun (first t) .args .t2) (path (first t)) (t .before .loop .done) ≡ c .young-cell .result
 unfolding placeAt
 cell-read c =
     let a = c .before in
@@ -92,8 +94,8 @@ cell-read c =
     let l = young-turn t in
     let e = rw (age-read a, year-force (y .year) (s .args .path .age + t .before .loop .done)) at (c .young-cell .ensures) in
     let w = path (first t) in
-    ap₂ (cellOf (s .args .t1)) (place-age (w .cohort) (w .age) (w .year) (t .before .loop .done) (omega arith)) (sym (y .place (l .0)))
-    ∙ sym (e ∙ young-cell (s .args .t1) (t .before .loop .year .number) (l .1))
+    ap₂ (cellOf (gridBy (s .args .fine)) (s .args .t2)) (place-age (w .cohort) (w .age) (w .year) (t .before .loop .done) (omega arith)) (sym (y .place (l .0)))
+    ∙ sym (e ∙ young-cell (gridBy (s .args .fine)) (s .args .t2) (t .before .loop .year .number) (l .1))
 
 year-at-requires : tie.Need-year-at-requires Inv-loop μ-loop
 year-at-requires c κs = let s = c .before .before .before .before in (s .pre .limits, s .pre .first)
@@ -101,7 +103,7 @@ year-at-requires c κs = let s = c .before .before .before .before in (s .pre .l
 loop-holds : tie.Need-loop-holds Inv-loop μ-loop
 unfolding placeAt
 loop-holds c = (
-  worked-none (begun c .args .t1) (path c) refl,
+  worked-none (gridBy (begun c .args .fine)) (begun c .args .t2) (path c) refl,
   record { year = c .year-at .ensures .1; place = λ h. first-year (path c .cohort) (c .year-at .result .number) },
   omega arith,
 )
@@ -123,7 +125,7 @@ returns c =
     let t = turn (k .before) in
     let f = first t in
     record {
-      out-of-range = λ n. rw (path-is f) at (worked-out (begun f .args .t1) (path f) (young-turn t .0) (cell-read k ∙ c .enum-told .given .1));
+      out-of-range = λ n. rw (path-is f) at (worked-out (gridBy (begun f .args .fine)) (begun f .args .t2) (path f) (young-turn t .0) (cell-read k ∙ c .enum-told .given .1));
       worked = λ n. absurd n;
       next = λ n. absurd n;
       old = λ n. absurd n;
@@ -150,7 +152,7 @@ year-after-requires : tie.Need-year-after-requires Inv-loop μ-loop
 year-after-requires c κs =
     let t = in-turn (c .before) in
     let f = first t in
-    let i = in-limits-series (begun f .args .t1) (within f .limits) .dynamics in
+    let i = in-limits-series (begun f .args .t2) (within f .limits) .dynamics in
     λ on. rw (back (i .a) tt, back (i .theta) tt, back (i .c) tt)
     (year-may (within f) (t .before .loop .inv .1) (young-turn t .0) (c .goes-on .ensures) on)
 
@@ -164,7 +166,7 @@ loop-again c =
     let t = in-turn k in
     let f = first t in
     let v = t .before .loop .inv in
-    let i = in-limits-series (begun f .args .t1) (within f .limits) .dynamics in
+    let i = in-limits-series (begun f .args .t2) (within f .limits) .dynamics in
     let a = rw (back (i .a) tt, back (i .theta) tt, back (i .c) tt) at (c .year-after .ensures) in (
       worked-more (v .0) (short f) (young-turn t .0) (cell-read (k .before .before .before) ∙ k .before .e .given .1),
       year-step (within f) (v .1) (young-turn t .0) (g .goes-on .result) (g .goes-on .ensures) a,

@@ -6,7 +6,7 @@ use mathlib.Core.List.{List}
 use Prim.Native.Nat.{ℕ, _+_, _≤_, _<_}
 use lib.Dec.{T}
 use lib.ListN.{length, take}
-use Rattle.number_exponential.specs.Billionths.{billionths}
+use Rattle.number_exponential.specs.Grid.{Grid}
 use Rattle.number_exponential.specs.declared.Ends.{Ends}
 use Rattle.set_params.specs.declared.Params.{Params}
 use Rattle.set_params.specs.declared.Dynamics.{Dynamics}
@@ -39,25 +39,25 @@ pub record PathWithin (p : Params) (w : Path) : Type 0 where
   pub years : (s : ℕ) → s < w .count → placeOf w s .year ≤ lastYears
 
 -- r is the year after y, or y itself
-pub record Advanced (d : Dynamics) (y : Year) (on : Bool) (r : Year) : Type 0 where
-  pub next : T on → NextOf d y r
+pub record Advanced (g : Grid) (d : Dynamics) (y : Year) (on : Bool) (r : Year) : Type 0 where
+  pub next : T on → NextOf g d y r
   pub same : T (not on) → r ≡ y
 
 -- the first s cells are in range, and their factors stand in the array
-pub record Worked (p : Params) (w : Path) (es : List Ends) (s : ℕ) : Type 0 where
+pub record Worked (g : Grid) (p : Params) (w : Path) (es : List Ends) (s : ℕ) : Type 0 where
   pub some : s ≤ w .count
-  pub range : T (pathInRange p (pathTo w s))
-  pub ends : take s es ≡ factors billionths p (pathTo w s)
+  pub range : T (pathInRange g p (pathTo w s))
+  pub ends : take s es ≡ factors g p (pathTo w s)
   pub size : length es ≡ mostFactors
 
 -- y is a year of the set, and that of the cell at s where the path has one
-pub record YearAt (p : Params) (w : Path) (s : ℕ) (y : Year) : Type 0 where
-  pub year : YearOf p y
+pub record YearAt (g : Grid) (p : Params) (w : Path) (s : ℕ) (y : Year) : Type 0 where
+  pub year : YearOf g p y
   pub place : s < w .count → y .number ≡ placeOf w s .year
 
 -- the ages to 90 are worked, or a cell is out of range
-pub record WalkOf (p : Params) (w : Path) (r : Walk) : Type 0 where
-  pub out-of-range : T (not (r .ok)) → pathInRange p (pathIs w) ≡ false
-  pub worked : T (r .ok) → Worked p w (r .ends) (r .done)
-  pub next : T (r .ok) → YearAt p w (r .done) (r .year)
+pub record WalkOf (g : Grid) (p : Params) (w : Path) (r : Walk) : Type 0 where
+  pub out-of-range : T (not (r .ok)) → pathInRange g p (pathIs w) ≡ false
+  pub worked : T (r .ok) → Worked g p w (r .ends) (r .done)
+  pub next : T (r .ok) → YearAt g p w (r .done) (r .year)
   pub old : T (r .ok) → r .done < w .count → firstClosed ≤ w .age + r .done

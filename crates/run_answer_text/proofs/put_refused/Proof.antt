@@ -17,6 +17,11 @@ blank : (c : tie.After-put-text) → let s = c .before .before .before .before .
 unfolding bytesOf
 blank c = put-of (c .put-text .ensures)
 
+line : (c : tie.After-put-refusal) → let b = c .before .before .before .before in
+    Put (b .put-text .last .0) (b .put-text .result) (refusalLine (b .before .before .before .before .args .refusal))
+    (c .put-refusal .last .0) (c .put-refusal .result)
+line c = c .put-refusal .ensures
+
 put-text-requires : tie.Need-put-text-requires
 unfolding bytesOf
 put-text-requires c κs = room-first {t = bytesOf " "} _ (room (c .before .before .before)) .fits
@@ -30,7 +35,7 @@ returns : tie.Need-returns
 unfolding refusedText
 returns c =
     let c₁ = c .before .before .before .before .before .before in
-    put-join (blank c₁) (c .before .before .put-refusal .ensures) (room (c₁ .before .before .before .before))
+    put-join (blank c₁) (line (c .before .before)) (room (c₁ .before .before .before .before))
 
 pub put-refused-spec : {M : Type 1} → statement M
 put-refused-spec =

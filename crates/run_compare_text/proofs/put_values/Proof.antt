@@ -27,9 +27,9 @@ put-excess-requires-2 c κs =
     let w = c .before .before .before in
     required (w .before .before .before) (w .values2 .given .1)
 
-put-field-requires : tie.Need-put-field-requires
+put-units-requires : tie.Need-put-units-requires
 unfolding SizedValues valuesText bytesOf
-put-field-requires c κs =
+put-units-requires c κs =
     let w = c .before .before .before in
     required (w .before .before .before) (w .values3 .given .1)
 
@@ -49,11 +49,11 @@ returns-3 : tie.Need-returns-3
 unfolding valuesText bytesOf
 returns-3 c =
     put-as (sym (ap valuesText (c .before .before .before .before .before .before .values3 .given .1)))
-    (c .before .before .put-field .ensures)
+    (c .before .before .put-units .ensures)
 
 pub put-values-spec : {M : Type 1} → statement M
 put-values-spec =
     tie.close
     (tie.spec (λ c. search needs) (λ c. search needs) put-excess-requires (λ c. search needs) (λ c. search needs)
-    put-excess-requires-2 (λ c. search needs) (λ c. search needs) put-field-requires (λ c. search needs) returns
+    put-excess-requires-2 (λ c. search needs) (λ c. search needs) put-units-requires (λ c. search needs) returns
     (λ c. search needs) returns-2 (λ c. search needs) returns-3)

@@ -18,7 +18,7 @@ use Rattle.run_couple_query.specs.laws.CoupleQueryLaws.{coupleText, couple-text
 use Rattle.run_answer_text.specs.AnswerText.{kindDecimals, answerText, withoutFeed}
 use Rattle.run_answer_text.specs.code.Sizes.{SizedAnswer}
 use Rattle.run_answer_text.specs.laws.SizeLaws.{small-sized}
-use Rattle.run_answer_text.specs.laws.Lengths.{decimals-most, answer-length}
+use Rattle.run_answer_text.specs.laws.Lengths.{decimals-few, answerBytes, answer-length}
 use Rattle.run_answer_text.specs.laws.LineLaws.{Bounded, Lengths, ReadsText, echoed, text-lengths, answered-bounded}
 use Rattle.run_couple_line.specs.CoupleLine.{queryCouple, coupleReply, coupleLine, mostCouple}
 
@@ -35,7 +35,7 @@ couple-echo line e = echoed reads line e
 pub couple-lengths : Lengths readCouple 36 98
 couple-lengths = text-lengths reads couple-least couple-most
 
--- ---- numbers of at most 15 digits
+-- ---- ends of at most 16 digits, and a figure of at most 8
 
 pub couple-sized : (p p′ : Params) (q : CoupleQuery) → SizedAnswer (queryCouple p p′ q)
 unfolding queryCouple SizedAnswer
@@ -44,7 +44,8 @@ couple-sized p p′ q = go (queryCouple p p′ q) refl
     go : (a : Answer) → queryCouple p p′ q ≡ a → SizedAnswer a
     go (Quoted a) e =
         let s = couple-small p p′ (q .kind) (q .age) (q .other) (q .year) (q .span) e in
-        small-sized (ruleOf (singleOf (q .kind)) .fold) a (omega (arith, s .lower)) (omega (arith, s .upper)) (s .figure)
+        small-sized (ruleOf (singleOf (q .kind)) .fold) a
+        (record { ends = record { lower = s .lower; upper = s .upper }; figure = s .figure })
     go (Refused r) e = tt
 
 -- ---- the text, from a query's decimals and its answer
@@ -57,13 +58,13 @@ reply-by p p′ q f g = rw (f, g)
 -- ---- lengths
 
 -- the most bytes that follow a query
-reply-length : (p p′ : Params) (q : CoupleQuery) → length (coupleReply p p′ q) ≤ 65
+reply-length : (p p′ : Params) (q : CoupleQuery) → length (coupleReply p p′ q) ≤ answerBytes
 unfolding coupleReply
 reply-length p p′ q =
     let k = singleOf (q .kind) in
-    omega (arith, answer-length true (kindDecimals k) (queryCouple p p′ q), decimals-most (ruleOf k .fold))
+    answer-length true (kindDecimals k) (queryCouple p p′ q) (decimals-few (ruleOf k .fold)) (couple-sized p p′ q)
 
 pub couple-bounded : (p p′ : Params) → Bounded mostCouple (coupleLine p p′)
 couple-bounded p p′ =
-    answered-bounded couple-lengths (coupleReply p p′) {n = 65} (reply-length p p′) (omega arith) (omega arith)
+    answered-bounded couple-lengths (coupleReply p p′) {n = answerBytes} (reply-length p p′) (omega arith) (omega arith)
     (omega arith)

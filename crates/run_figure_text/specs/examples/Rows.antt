@@ -18,14 +18,19 @@ impossible : figureText 5 (Printed 0) ≡ bytesOf "0.00000"
 unfolding figureText stepsText lastDigits unsignedText decimal bytesOf
 impossible = refl
 
--- expectancies: one decimal
-short-life : figureText 1 (Printed 12) ≡ bytesOf "1.2"
+-- expectancies: two decimals
+short-life : figureText 2 (Printed 275) ≡ bytesOf "2.75"
 unfolding figureText stepsText lastDigits unsignedText decimal bytesOf
 short-life = refl
 
-long-life : figureText 1 (Printed 214) ≡ bytesOf "21.4"
+long-life : figureText 2 (Printed 2143) ≡ bytesOf "21.43"
 unfolding figureText stepsText lastDigits unsignedText decimal bytesOf
 long-life = refl
+
+-- prices: one decimal
+price : figureText 1 (Printed 158) ≡ bytesOf "15.8"
+unfolding figureText stepsText lastDigits unsignedText decimal bytesOf
+price = refl
 
 -- ends that round to different steps
 not-printed : figureText 5 Open ≡ bytesOf "open"

@@ -2,12 +2,13 @@
 use borrow.Author.Needs.{needs}
 use mathlib.Core.Path.{_≡_, sym}
 use Rattle.text_printing.specs.laws.PutLaws.{put-as, room-as}
+use Rattle.quote_compare.specs.code.Sizes.{SmallAnswer}
 use Rattle.run_answer_text.specs.AnswerText.{answerText}
 use Rattle.run_answer_text.specs.code.Sizes.{SizedAnswer}
 use Rattle.run_compare_text.specs.CompareText.{comparisonText}
 use Rattle.run_compare_text.specs.code.Sizes.{SizedComparison}
 use Rattle.run_line.specs.Line.{reply}
-use Rattle.run_line.specs.laws.ReplyLaws.{query-sized, reply-quotes, reply-compare}
+use Rattle.run_line.specs.laws.ReplyLaws.{query-small, query-sized, reply-quotes, reply-compare}
 use Rattle.run_line.proofs.put_reply.Statement.{statement}
 use Rattle.run_line.proofs.put_reply.Tie as tie
 
@@ -29,6 +30,12 @@ sized c = let s = start c .args in rw (c .answer-to .ensures) (query-sized (s .f
 
 -- ---- two answers, compared
 
+small : (c : tie.After-answer-to) → SmallAnswer (c .answer-to .result)
+small c = let s = start c .args in rw (c .answer-to .ensures) (query-small (s .first) (s .query))
+
+other : (c : tie.After-answer-to2) → SmallAnswer (c .answer-to2 .result)
+other c = let s = start (c .before .before .before) .args in rw (c .answer-to2 .ensures) (query-small (s .second) (s .query))
+
 abbrev both : tie.After-compare → tie.After-answer-to
 both c = c .before .before .before .before
 
@@ -47,6 +54,9 @@ put-answer-requires c κs =
     let m = c .before .before in
     (sized (one m), room-as (quoted m) (start (one m) .pre .2))
 
+compare-requires : tie.Need-compare-requires
+compare-requires c κs = (small (c .before .before .before), other c)
+
 put-comparison-requires : tie.Need-put-comparison-requires
 put-comparison-requires c κs =
     let t = compared (c .before) in
@@ -62,5 +72,5 @@ pub put-reply-spec : {M : Type 1} → statement M
 put-reply-spec =
     tie.close
     (tie.spec (λ c κs. search needs) (λ c κs. search needs) (λ c. search needs) put-answer-requires (λ c. search needs)
-    (λ c κs. search needs) (λ c κs. search needs) put-comparison-requires (λ c. search needs) returns
+    (λ c κs. search needs) compare-requires put-comparison-requires (λ c. search needs) returns
     (λ c. search needs) returns-2)

@@ -3,4 +3,4 @@ use Prim.Native.Nat.{ℕ}
 
 -- no answer is longer, whichever the mode
 abbrev pub mostLine : ℕ
-mostLine = 205
+mostLine = 191

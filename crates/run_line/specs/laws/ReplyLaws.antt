@@ -15,10 +15,12 @@ use Rattle.run_query.specs.laws.QueryLaws.{queryText, query-text, query-least, 
 use Rattle.run_answer_text.specs.AnswerText.{kindDecimals, answerText, withoutFeed}
 use Rattle.run_answer_text.specs.code.Sizes.{SizedAnswer}
 use Rattle.run_answer_text.specs.laws.SizeLaws.{answer-sized}
-use Rattle.run_answer_text.specs.laws.Lengths.{decimals-most, answer-length}
+use Rattle.run_answer_text.specs.laws.Lengths.{decimals-few, answer-length}
 use Rattle.run_answer_text.specs.laws.LineLaws.{Bounded, Lengths, ReadsText, echoed, text-lengths, answered-bounded}
 use Rattle.quote_compare.specs.declared.Comparison.{Comparison}
 use Rattle.quote_compare.specs.Compare.{comparisonOf}
+use Rattle.quote_compare.specs.code.Sizes.{SmallAnswer}
+use Rattle.quote_compare.specs.laws.SmallLaws.{answer-small}
 use Rattle.run_compare_text.specs.CompareText.{comparisonText}
 use Rattle.run_compare_text.specs.code.Sizes.{SizedComparison}
 use Rattle.run_compare_text.specs.laws.SizeLaws.{comparison-sized}
@@ -45,11 +47,19 @@ echo line e = echoed reads line e
 pub query-lengths : Lengths readQuery 26 96
 query-lengths = text-lengths reads query-least query-most
 
--- ---- numbers of at most 15 digits
+-- ---- ends of at most 172, which have at most 16 digits, and a figure of at most 8
+
+pub query-small : (p : Params) (q : Query) → SmallAnswer (queryAnswer p q)
+unfolding queryAnswer
+query-small p q = answer-small p (q .kind) (q .age) (q .year) (q .term)
 
 pub query-sized : (p : Params) (q : Query) → SizedAnswer (queryAnswer p q)
 unfolding queryAnswer
 query-sized p q = answer-sized p (q .kind) (q .age) (q .year) (q .term)
+
+compared-sized : (p p′ : Params) (q : Query) → SizedComparison (comparisonOf (queryAnswer p q) (queryAnswer p′ q))
+compared-sized p p′ q =
+    comparison-sized (queryAnswer p q) (queryAnswer p′ q) (query-small p q) (query-small p′ q) (query-sized p q) (query-sized p′ q)
 
 -- ---- the text by what follows, from a query's decimals and its answers
 
@@ -63,8 +73,7 @@ module _ (follows : Reply) (p p′ : Params) (q : Query) {d : ℕ} (f : d ≡ ki
       → (reply follows p p′ q ≡ comparisonText d k) × SizedComparison k
   unfolding reply
   reply-compare e h k =
-      let sized = comparison-sized (queryAnswer p q) (queryAnswer p′ q) (query-sized p q) (query-sized p′ q) in
-      (rw (e, k, f, g, h), rw (k, g, h) sized)
+      (rw (e, k, f, g, h), rw (k, g, h) (compared-sized p p′ q))
 
 -- ---- lengths
 
@@ -72,12 +81,18 @@ module _ (follows : Reply) (p p′ : Params) (q : Query) {d : ℕ} (f : d ≡ ki
 pub reply-length : (follows : Reply) (p p′ : Params) (q : Query) → length (reply follows p p′ q) + 96 ≤ longestReply follows
 unfolding reply
 reply-length (Quote ends) p p′ q =
-    omega (arith, answer-length ends (kindDecimals (q .kind)) (queryAnswer p q), decimals-most (ruleOf (q .kind) .fold))
+    omega (
+      arith,
+      answer-length ends (kindDecimals (q .kind)) (queryAnswer p q) (decimals-few (ruleOf (q .kind) .fold)) (query-sized p q),
+    )
 reply-length Compared p p′ q =
     let k = comparisonOf (queryAnswer p q) (queryAnswer p′ q) in
-    omega (arith, comparison-length (kindDecimals (q .kind)) k, decimals-most (ruleOf (q .kind) .fold))
+    omega (
+      arith,
+      comparison-length (kindDecimals (q .kind)) k (decimals-few (ruleOf (q .kind) .fold)) (compared-sized p p′ q),
+    )
 
-reply-between : (follows : Reply) → (161 ≤ longestReply follows) × (longestReply follows ≤ mostLine)
+reply-between : (follows : Reply) → (159 ≤ longestReply follows) × (longestReply follows ≤ mostLine)
 reply-between (Quote ends) = omega arith
 reply-between Compared = omega arith
 

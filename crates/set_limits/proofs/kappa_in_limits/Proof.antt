@@ -11,9 +11,13 @@ use lib.IntN.{ℤ}
 use mir.Syntax.{w64}
 use mir.Val.{toZ}
 use mir.Facts.{toZ-ofZ}
+use Rattle.number_whole.proofs.Signed.{both-ends}
+use Rattle.number_exponential.specs.Units.{billionths, gridOf}
+use Rattle.number_exponential.specs.code.Flag.{unitBy}
 use Rattle.set_params.specs.declared.Dynamics.{Dynamics}
 use Rattle.set_params.specs.Limits.{lastYears}
 use Rattle.set_series.specs.Series.{kappaIn}
+use Rattle.set_series.specs.laws.Finer.{inGrid-coarse}
 use Rattle.set_limits.specs.InLimits.{allBelow, endsInLimits, kappaInLimits}
 use Rattle.set_limits.specs.laws.LimitsLaws.{all-out, ends-within}
 use Rattle.set_limits.proofs.kappa_in_limits.Statement.{statement}
@@ -21,18 +25,18 @@ use Rattle.set_limits.proofs.kappa_in_limits.Tie as tie
 
 -- kappa in a year is in limits
 abbrev yearTest : Dynamics → ℤ → ℕ → Bool
-yearTest d k n = endsInLimits (kappaIn d k n)
+yearTest d k n = endsInLimits (kappaIn billionths d k n)
 
 abbrev Inv-loop : tie.InvT-loop
 Inv-loop d start e₀ n₀ e n =
-    (e ≡ kappaIn d (toZ w64 start) n) × (n ≤ suc lastYears) × (allBelow (yearTest d (toZ w64 start)) n ≡ true)
+    (e ≡ kappaIn billionths d (toZ w64 start) n) × (n ≤ suc lastYears) × (allBelow (yearTest d (toZ w64 start)) n ≡ true)
 
 abbrev μ-loop : tie.MeasureT-loop
 μ-loop d start e₀ n₀ e n = suc lastYears - n
 
 loop-holds : tie.Need-loop-holds Inv-loop μ-loop
 unfolding kappaIn allBelow
-loop-holds c = (refl, omega arith, refl)
+loop-holds c = (both-ends (sym (inGrid-coarse _)) (sym (inGrid-coarse _)), omega arith, refl)
 
 -- the year's test is that of its kappa
 year-tested : (c : tie.After-ends-in-limits Inv-loop μ-loop) → let l = c .before .before in
@@ -50,13 +54,14 @@ returns c =
     sym (all-out _ (l .loop .n) (suc lastYears) h (sym (year-tested t) ∙ not-true _ (c .if1 .taken)))
 
 kappa-step-requires : tie.Need-kappa-step-requires Inv-loop μ-loop
+unfolding gridOf unitBy
 kappa-step-requires c κs =
     let t = c .before in
     let l = t .before .before in
     (l .before .pre, ends-within (l .loop .e) (rw (← t .ends-in-limits .ensures, not-false (t .ends-in-limits .result) (c .if1 .left)) tt))
 
 loop-again : tie.Need-loop-again Inv-loop μ-loop
-unfolding kappaIn allBelow
+unfolding kappaIn allBelow gridOf unitBy
 loop-again c =
     let e = c .before in
     let t = e .before in

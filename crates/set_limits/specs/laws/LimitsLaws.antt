@@ -2,7 +2,7 @@
 use mathlib.Core.Path.{_≡_, refl, _∙_}
 use mathlib.Core.Bool.{Bool, true, false, _&&_, and-false, and-true}
 use mathlib.Core.Logic.{⊎-elim}
-use Prim.Native.Nat.{ℕ, zero, suc, _≤_, _<_}
+use Prim.Native.Nat.{ℕ, zero, suc, _*_, _≤_, _<_}
 use native.Mathlib.Nat.{eq-or-lt-of-le, le-of-suc-le-suc}
 use native.Mathlib.Omega.{arith}
 use borrow.Author.Tests.{le-leb}
@@ -14,6 +14,9 @@ use lib.Signed.{leZ, leZ-yes}
 use Rattle.number_whole.specs.code.Sizes.{Under, Within}
 use Rattle.number_whole.specs.laws.Split.{split, split-abs}
 use Rattle.number_whole.specs.laws.Bound.{under-lit, under-weaken}
+use Rattle.number_whole.specs.laws.Nested.{nested-within}
+use Rattle.number_exponential.specs.Grid.{Grid}
+use Rattle.number_exponential.specs.Units.{billionths}
 use Rattle.number_whole.specs.declared.SignedEnds.{SignedEnds}
 use Rattle.set_params.specs.declared.Params.{Params}
 use Rattle.set_params.specs.declared.Age.{Age}
@@ -23,8 +26,10 @@ use Rattle.set_params.specs.Set.{ages, ageOf, dynamicsOf}
 use Rattle.set_params.specs.Limits.{levelLimit, slopeLimit, aLimit, thetaLimit, periodLimit, kappaLimit, constantLimit, lastYears}
 use Rattle.set_params.specs.Limits.{firstStart, lastStart, within}
 use Rattle.set_params.specs.code.Within.{AgeWithin, PeriodWithin, DynamicsWithin, SeriesWithin, StartWithin}
-use Rattle.set_series.specs.Series.{kappaIn, kappa}
+use Rattle.set_series.specs.Series.{kappa}
 use Rattle.set_series.specs.laws.BoundLaws.{kappa-under}
+use Rattle.set_series.specs.laws.WidthLaws.{kappa-wide}
+use Rattle.set_series.specs.laws.Finer.{kappa-nested}
 use Rattle.set_limits.specs.InLimits.{allBelow, lastStartOf, constantLimitOf, tableInLimits, seriesInLimits, ageInLimits}
 use Rattle.set_limits.specs.InLimits.{endsInLimits, kappaInLimits, inLimits}
 
@@ -163,11 +168,17 @@ ends-within e t =
     let (l, u) = both (within kappaLimit (e .lower)) (within kappaLimit (e .upper)) t in
     record { low = under-lit l; high = under-lit u }
 
-pub in-limits-kappa : (p : Params) → T (inLimits p) → (n : ℕ) → n ≤ lastYears → Within kappaLimit (kappa p n)
+pub in-limits-kappa : (p : Params) → T (inLimits p) → (n : ℕ) → n ≤ lastYears → Within kappaLimit (kappa billionths p n)
 unfolding kappaInLimits
 in-limits-kappa p t n h =
-    ends-within (kappa p n)
-    (all-each (λ (m : ℕ). endsInLimits (kappa p m)) (suc lastYears) (parts p t .kappa) n (omega arith))
+    ends-within (kappa billionths p n)
+    (all-each (λ (m : ℕ). endsInLimits (kappa billionths p m)) (suc lastYears) (parts p t .kappa) n (omega arith))
+
+-- on any grid, within as many of its units
+pub in-limits-kappa-on : (g : Grid) (p : Params) → T (inLimits p) → (n : ℕ) → n ≤ lastYears → Within (g .scale * kappaLimit) (kappa g p n)
+in-limits-kappa-on g p t n h =
+    let d = in-limits-series p t .dynamics in
+    nested-within (kappa-nested g (dynamicsOf p) (p .kappa) n) (kappa-wide g (p .kappa) n d .ordered) (in-limits-kappa p t n h)
 
 -- ---- a set of AG2014: kappa stays within its limit
 
@@ -181,7 +192,7 @@ unfolding kappaInLimits constantLimitOf
 steady-kappa p e t s =
     let w = series-within p s in
     let u : Under (p .c) 0 = rw e at (constant-within (p .table) (p .start) (p .c) t) in
-    all-in _ (suc lastYears) (λ n h. within-ends (kappa-under (dynamics-within p t s) (none (p .c) u) (w .kappa) n))
+    all-in _ (suc lastYears) (λ n h. within-ends (kappa-under billionths (dynamics-within p t s) (none (p .c) u) (w .kappa) n))
   where
     none : (z : ℤ) → Under z 0 → z ≡ pos 0
     none z u = omega (split, split-abs z, u .under)
