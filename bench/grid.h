@@ -23,9 +23,12 @@ typedef struct { uint64_t lower, upper; } ends;
 
 static inline uint64_t up(uint64_t n, uint64_t d) { return (n + (d - 1)) / d; }
 
-static inline int64_t floor_div(int64_t n, int64_t d) { return n < 0 ? -1 - (-1 - n) / d : n / d; }
+/* Multiples of d, within which n lies, are added and taken from the quotient, so that no sign is tested. */
+#define AWAY UINT64_C(6000000000000000000)
 
-static inline int64_t ceil_div(int64_t n, int64_t d) { return n > 0 ? 1 + (n - 1) / d : n / d; }
+static inline int64_t floor_div(int64_t n, uint64_t d) { return (int64_t)(((uint64_t)n + AWAY / d * d) / d - AWAY / d); }
+
+static inline int64_t ceil_div(int64_t n, uint64_t d) { return (int64_t)(((uint64_t)n + AWAY / d * d + (d - 1)) / d - AWAY / d); }
 
 static uint64_t exp_lower(uint64_t z) {
     if (z >= 21 * UNIT) return 0;

@@ -36,8 +36,8 @@
 
    Threads: the library has no state of its own, neither static nor by thread, and allocates nothing, so that any calls may run at
    once, also over the same sheet, as long as nothing that one of them writes is lent to another. Stack: a call needs less than
-   80 kB; measured on x86-64, read and write need some 20 kB, a couple 50, a query or a target 56, a run 59, a verdict 66, where
-   they work both grids. Earlier a call needed less than 64 kB. */
+   64 kB; measured on x86-64, read and write need some 20 kB, a query 47, a couple or a target 50, a run 53, a verdict 60, where
+   they work both grids. */
 #ifndef KULFIZAN_H
 #define KULFIZAN_H
 

@@ -18,7 +18,10 @@ pub const FIRST_CLOSED: usize = FIRST_FITTED + FITTED;
 pub const LAST_CLOSED: usize = 120;
 
 // What a weight is a part of.
-pub const WEIGHT_UNIT: i64 = 110;
+pub const WEIGHT_UNIT: u64 = 110;
+
+// So many of it lie beyond every weighted sum.
+const UNITS_AWAY: u64 = 20_000_000_000_000_000;
 
 // The weights in 110ths: a row for each age from 91 to 120, an entry for each age from 80 to 90.
 const WEIGHTS: [[i64; 11]; 30] = [
@@ -89,7 +92,7 @@ pub fn closed_sum(row: [i64; 11], h: [SignedEnds; 11]) -> SignedEnds
     let least = sums.lower;
     let greatest = sums.upper;
     SignedEnds {
-        lower: number_whole::outward_div(least, WEIGHT_UNIT, false),
-        upper: number_whole::outward_div(greatest, WEIGHT_UNIT, true),
+        lower: number_whole::outward_div(least, WEIGHT_UNIT, UNITS_AWAY, false),
+        upper: number_whole::outward_div(greatest, WEIGHT_UNIT, UNITS_AWAY, true),
     }
 }

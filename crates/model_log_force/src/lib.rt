@@ -1,18 +1,13 @@
 // The log force of a cell on a grid, with two signed ends; and a year of the table: K and kappa, the year after, and the log
 // force at an age of it.
 ghost use mathlib.Core.Path.{_≡_};
-ghost use Prim.Native.Nat.{_≤_};
-ghost use lib.Dec.{T};
 ghost use Rattle.number_exponential.specs.code.Flag.{gridBy};
-ghost use Rattle.set_params.specs.Limits.{lastYears};
-ghost use Rattle.set_limits.specs.InLimits.{inLimits};
 ghost use Rattle.model_log_force.specs.LogForce.{cellForce, inRange};
 ghost use Rattle.model_log_force.specs.code.Within.{CellLimits};
-ghost use Rattle.model_log_force.specs.code.Year.{YearOf, YearWithin, NextOf};
+ghost use Rattle.model_log_force.specs.code.Year.{SeriesOf, YearFrom, YearWithin, NextOf};
 use number_whole::SignedEnds;
 use set_params::Age;
 use set_params::Dynamics;
-use set_params::Params;
 
 // A needed cell's least lower end and greatest upper end, in units of 10^-9.
 pub const LOWEST_FORCE: i64 = -30_000_000_000;
@@ -50,18 +45,13 @@ pub fn in_range(fine: bool, m: SignedEnds) -> bool
     lowest <= m.lower && m.upper <= highest
 }
 
-// Year n of a set.
-pub fn year_at(fine: bool, p: Params, n: u64) -> Year
-    requires { ⌜ T (inLimits p) × (n ≤ lastYears) ⌝ }
-    ensures { λ r. ⌜ (r .number ≡ n) × YearOf (gridBy fine) p r ⌝ }
+// Year n of a set's series, of K and kappa in the start year: the set itself would be copied for the call.
+pub fn year_at(fine: bool, d: Dynamics, start: i64, kappa: i64, n: u64) -> Year
+    requires { ⌜ SeriesOf (gridBy fine) d start kappa n ⌝ }
+    ensures { λ r. ⌜ YearFrom (gridBy fine) d start kappa n r ⌝ }
 {
-    let period = set_series::period_index(p.period, p.theta, n);
-    let d = Dynamics {
-        a: p.a,
-        theta: p.theta,
-        c: p.c,
-    };
-    let kappas = set_series::kappa_at(fine, d, p.kappa, n);
+    let period = set_series::period_index(start, d.theta, n);
+    let kappas = set_series::kappa_at(fine, d, kappa, n);
     Year {
         number: n,
         period,

@@ -15,6 +15,7 @@ use model_cells::Cell;
 use model_closure::FIRST_CLOSED;
 use number_exponential::Ends;
 use number_whole::ceil_div_u;
+use set_params::Dynamics;
 use set_params::Params;
 
 // The force at an age of the table in a year.
@@ -22,7 +23,12 @@ fn force_at(fine: bool, p: Params, x: usize, n: u64) -> Cell
     requires { ⌜ T (inLimits p) × (x ≤ lastClosed) × (n ≤ lastYears) ⌝ }
     ensures { λ r. ⌜ r ≡ forceCell (gridBy fine) p x n ⌝ }
 {
-    let y = model_log_force::year_at(fine, p, n);
+    let d = Dynamics {
+        a: p.a,
+        theta: p.theta,
+        c: p.c,
+    };
+    let y = model_log_force::year_at(fine, d, p.period, p.kappa, n);
     if x < FIRST_CLOSED {
         let four = set_params::age_of_runs(&p.level, &p.slope, &p.alpha, &p.beta, x);
         return model_cells::young_force(fine, four, y);

@@ -3,11 +3,12 @@
 ghost use mathlib.Core.Path.{_≡_};
 ghost use mathlib.Core.Bool.{cond};
 ghost use Prim.Native.Nat.{_+_, _-_, _<_, _^_};
-ghost use lib.IntN.{pos, natAbs};
-ghost use lib.Signed.{_<ℤ_, nonNeg};
+ghost use lib.IntN.{pos, _+ℤ_};
+ghost use lib.Signed.{nonNeg};
 ghost use mir.Syntax.{w64};
 ghost use mir.Val.{SFits};
 ghost use Rattle.number_whole.specs.Division.{floorDiv, ceilDiv, ceilDivℕ};
+ghost use Rattle.number_whole.specs.code.Sizes.{Under, Divides};
 ghost use Rattle.number_whole.specs.SignedEnds.{leastProduct, greatestProduct};
 
 // Two ends, in units.
@@ -16,26 +17,31 @@ pub struct SignedEnds {
     pub upper: i64,
 }
 
-// n / d rounded down, toward minus infinity, for every n.
-pub fn floor_div(n: i64, d: i64) -> i64
-    requires { ⌜ pos 0 <ℤ d ⌝ }
-    ensures { λ r. ⌜ r ≡ floorDiv n (natAbs d) ⌝ }
+// z + by, for z at least −by. Both ways the machine adds once and tests nothing.
+fn shifted(z: i64, by: u64) -> u64
+    requires { ⌜ Under z by × (by < 2 ^ 63) ⌝ }
+    ensures { λ r. ⌜ pos r ≡ pos by +ℤ z ⌝ }
 {
-    if n < 0 {
-        return -1 - (-1 - n) / d;
+    if z < 0 {
+        return by - 1 - (-1 - z) as u64;
     }
-    n / d
+    by + z as u64
 }
 
-// n / d rounded up, toward plus infinity, for every n.
-pub fn ceil_div(n: i64, d: i64) -> i64
-    requires { ⌜ pos 0 <ℤ d ⌝ }
-    ensures { λ r. ⌜ r ≡ ceilDiv n (natAbs d) ⌝ }
+// z / d rounded down, toward minus infinity, for z within k·d of 0: k·d is added, so that no sign is asked for, and k taken away.
+pub fn floor_div(z: i64, d: u64, k: u64) -> i64
+    requires { ⌜ Divides z d k ⌝ }
+    ensures { λ r. ⌜ r ≡ floorDiv z d ⌝ }
 {
-    if 0 < n {
-        return 1 - (1 - n) / d;
-    }
-    n / d
+    (shifted(z, k * d) / d) as i64 - k as i64
+}
+
+// z / d rounded up, toward plus infinity.
+pub fn ceil_div(z: i64, d: u64, k: u64) -> i64
+    requires { ⌜ Divides z d k ⌝ }
+    ensures { λ r. ⌜ r ≡ ceilDiv z d ⌝ }
+{
+    (shifted(z, k * d + (d - 1)) / d) as i64 - k as i64
 }
 
 // n / d rounded up, among numbers that are at least 0.
@@ -74,12 +80,12 @@ pub fn greatest_product(c: i64, e: SignedEnds) -> i64
 }
 
 // z / d, rounded up for an upper end and down for a lower one.
-pub fn outward_div(z: i64, d: i64, upper: bool) -> i64
-    requires { ⌜ pos 0 <ℤ d ⌝ }
-    ensures { λ r. ⌜ r ≡ cond upper (ceilDiv z (natAbs d)) (floorDiv z (natAbs d)) ⌝ }
+pub fn outward_div(z: i64, d: u64, k: u64, upper: bool) -> i64
+    requires { ⌜ Divides z d k ⌝ }
+    ensures { λ r. ⌜ r ≡ cond upper (ceilDiv z d) (floorDiv z d) ⌝ }
 {
     if upper {
-        return ceil_div(z, d);
+        return ceil_div(z, d, k);
     }
-    floor_div(z, d)
+    floor_div(z, d, k)
 }

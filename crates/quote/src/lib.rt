@@ -48,14 +48,6 @@ pub fn answer_within(again: bool, p: Params, kind: Kind, age: i64, year: i64, te
     quote_along::quote_along(again, p, fold, path, quote_kinds::part_of(rule, term))
 }
 
-// The answer to a query of a set in its limits.
-pub fn quote_within(p: Params, kind: Kind, age: i64, year: i64, term: i64) -> Answer
-    requires { ⌜ T (inLimits p) ⌝ }
-    ensures { λ r. ⌜ r ≡ answerOf p kind age year term ⌝ }
-{
-    answer_within(true, p, kind, age, year, term)
-}
-
 // The answer to any query.
 pub fn quote_of(p: Params, kind: Kind, age: i64, year: i64, term: i64) -> Answer
     ensures answered { λ r. ⌜ r ≡ answerOf p kind age year term ⌝ }
@@ -64,5 +56,5 @@ pub fn quote_of(p: Params, kind: Kind, age: i64, year: i64, term: i64) -> Answer
     if !set_limits::in_limits(p) {
         return Answer::Refused(Refusal::OutOfLimits);
     }
-    quote_within(p, kind, age, year, term)
+    answer_within(true, p, kind, age, year, term)
 }

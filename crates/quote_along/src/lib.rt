@@ -78,14 +78,21 @@ pub fn is_left_open(again: bool, answer: Answer) -> bool
     number_exact::is_open(figure)
 }
 
-// The quote of a fold, worked again on the fine grid where its figure is open and it may be.
+// The quote of a fold, worked again on the fine grid where its figure is open and it may be. Two rounds of one loop, not two calls:
+// the compiler puts one call in its place, and the set is not copied for it.
 pub fn quote_along(again: bool, p: Params, fold: Fold, path: Path, part: Part) -> Answer
     requires { ⌜ PathWithin p path × PartWithin path part × RateWithin fold ⌝ }
     ensures { λ r. ⌜ QuoteAlong again p fold path part r ⌝ }
 {
-    let coarse = answer_along(false, p, fold, path, part);
-    if is_left_open(again, coarse) {
-        return answer_along(true, p, fold, path, part);
+    let mut fine = false;
+    loop {
+        let answer = answer_along(fine, p, fold, path, part);
+        if fine {
+            return answer;
+        }
+        if !is_left_open(again, answer) {
+            return answer;
+        }
+        fine = true;
     }
-    coarse
 }

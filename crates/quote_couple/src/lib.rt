@@ -69,11 +69,17 @@ fn couple_along(first: Params, second: Params, kind: CoupleKind, path: Path, oth
     requires { ⌜ PathWithin first path × PathWithin second other × (path .count ≡ other .count) ⌝ }
     ensures { λ r. ⌜ r ≡ pathsQuote first second kind (pathIs path) (pathIs other) ⌝ }
 {
-    let coarse = answer_on(false, first, second, kind, path, other);
-    if quote_along::is_left_open(true, coarse) {
-        return answer_on(true, first, second, kind, path, other);
+    let mut fine = false;
+    loop {
+        let answer = answer_on(fine, first, second, kind, path, other);
+        if fine {
+            return answer;
+        }
+        if !quote_along::is_left_open(true, answer) {
+            return answer;
+        }
+        fine = true;
     }
-    coarse
 }
 
 // The answer to a query of two lives, each with a set in its limits.

@@ -66,7 +66,7 @@ fn verdict_again(p: Params, year: i64, age: usize, entry: u64) -> Verdict
     requires { ⌜ T (inLimits p) × (age < columnAges) ⌝ }
     ensures { λ r. ⌜ r ≡ ageVerdict (figureHere p year age) entry ⌝ }
 {
-    let answer = quote::quote_within(p, Kind::Death, age as i64, year, 0);
+    let answer = quote::answer_within(true, p, Kind::Death, age as i64, year, 0);
     let Answer::Quoted(q) = answer else {
         // without a figure none differs and none is open
         return Verdict::Right;

@@ -72,7 +72,7 @@ pub fn young_factors(fine: bool, p: Params, path: Path) -> Walk
         theta: p.theta,
         c: p.c,
     };
-    let mut year = model_log_force::year_at(fine, p, path.year);
+    let mut year = model_log_force::year_at(fine, d, p.period, p.kappa, path.year);
     let mut ends = [Ends { lower: 0, upper: 0 }; MOST_FACTORS];
     let mut done = 0;
     while done < young {

@@ -50,7 +50,7 @@ pub fn answer_to(p: Params, query: Query) -> Answer
     ensures { λ r. ⌜ r ≡ queryAnswer p query ⌝ }
 {
     let kind = query.kind;
-    quote::quote_within(p, kind, query.age, query.year, query.term)
+    quote::answer_within(true, p, kind, query.age, query.year, query.term)
 }
 
 // Writes what follows a query; the place after it.

@@ -17,6 +17,15 @@ pub const COEFFICIENT_UNIT: i64 = 100_000_000;
 // Fine units in 10^-9, the unit of a set's numbers.
 const FINE_SCALE: i64 = 10_000;
 
+// Both as divisors, with multiples of them that lie beyond every number that they divide.
+const UNIT_DIVISOR: u64 = 100_000_000;
+
+const UNITS_AWAY: u64 = 60_000_000_000;
+
+const SCALE_DIVISOR: u64 = 10_000;
+
+const SCALES_AWAY: u64 = 600_000_000_000_000;
+
 // K in year n, of K in the start year and theta.
 pub fn period_index(start: i64, theta: i64, n: u64) -> i64
     requires { ⌜ PeriodWithin start theta × (n ≤ lastYears) ⌝ }
@@ -41,12 +50,12 @@ fn fine_over(p: i64, c: i64, z: i64, upper: bool) -> i64
     requires { ⌜ MixedWithin tenTrillionths p c z ⌝ }
     ensures { λ r. ⌜ r ≡ mixedOver tenTrillionths p c z upper ⌝ }
 {
-    let high = number_whole::floor_div(p, FINE_SCALE);
+    let high = number_whole::floor_div(p, SCALE_DIVISOR, SCALES_AWAY);
     let low = p - high * FINE_SCALE;
-    let wide = number_whole::floor_div(z, COEFFICIENT_UNIT);
+    let wide = number_whole::floor_div(z, UNIT_DIVISOR, UNITS_AWAY);
     let rest = z - wide * COEFFICIENT_UNIT;
     let left = low * FINE_SCALE + c * rest;
-    high + c * wide + number_whole::outward_div(left, COEFFICIENT_UNIT, upper)
+    high + c * wide + number_whole::outward_div(left, UNIT_DIVISOR, UNITS_AWAY, upper)
 }
 
 // p and c·z over 10^8, p a set's number and z in a grid's units: rounded up for an upper end and down for a lower one.
@@ -57,7 +66,7 @@ pub fn mixed_over(fine: bool, p: i64, c: i64, z: i64, upper: bool) -> i64
     if fine {
         return fine_over(p, c, z, upper);
     }
-    number_whole::outward_div(p + c * z, COEFFICIENT_UNIT, upper)
+    number_whole::outward_div(p + c * z, UNIT_DIVISOR, UNITS_AWAY, upper)
 }
 
 // Kappa a year on: multiplied by a and divided by the rate's unit, outward, and then c added.

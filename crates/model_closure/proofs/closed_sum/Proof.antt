@@ -3,11 +3,12 @@
 use mathlib.Core.Path.{_≡_, refl, ap, _∙_}
 use Prim.Native.Nat.{_-_, _≤_}
 use native.Mathlib.Omega.{arith}
-use borrow.Author.Needs.{needs}
-use Rattle.number_whole.specs.laws.Bound.{bits, fits, back}
+use lib.Dec.{lit≤}
+use lib.IntN.{ℤ}
+use Rattle.number_whole.specs.laws.Bound.{bits, fits, back, under-weaken, divides}
 use Rattle.number_whole.specs.declared.SignedEnds.{SignedEnds}
 use Rattle.number_whole.specs.SignedEnds.{outward}
-use Rattle.number_whole.specs.code.Sizes.{Within}
+use Rattle.number_whole.specs.code.Sizes.{Under, Within, Divides}
 use Rattle.number_whole.proofs.Signed.{read, read-floor, read-ceil, both-ends}
 use Rattle.model_closure.specs.Weights.{fitted, weightUnit}
 use Rattle.model_closure.specs.Closure.{leastSum, greatestSum, weightedMean}
@@ -59,6 +60,16 @@ loop-again c =
     let e = rw (l .loop .inv .0, weight-read (c .before)) at (c .add-product .ensures) in
     (e ∙ sums-next (weightOf (s .args .t1)) (s .args .t2) (l .loop .i), omega arith)
 
+-- a sum lies within the multiples that are added
+asked : {z : ℤ} → Under z sumsLimit → Divides (bits z) weightUnit 20000000000000000
+asked u = rw (back u tt) (divides tt (under-weaken u (lit≤ tt)) tt)
+
+outward-div-requires : tie.Need-outward-div-requires Inv-loop μ-loop
+outward-div-requires c κs = asked (sums-small (c .before .before .before) .low)
+
+outward-div2-requires : tie.Need-outward-div-requires-2 Inv-loop μ-loop
+outward-div2-requires c κs = asked (sums-small (c .before .before .before .before) .high)
+
 returns : tie.Need-returns Inv-loop μ-loop
 unfolding weightedMean outward
 returns c =
@@ -78,5 +89,5 @@ pub closed-sum-spec : {M : Type 1} → statement M
 closed-sum-spec =
     tie.close
     (tie.spec Inv-loop μ-loop loop-holds (λ c. omega arith) (λ c. omega arith) (λ c. omega arith) (λ c. omega arith)
-    add-product-requires (λ c. omega arith) (λ c. omega arith) loop-again (λ c κs. search needs) (λ c κs. search needs)
+    add-product-requires (λ c. omega arith) (λ c. omega arith) loop-again outward-div-requires outward-div2-requires
     returns)

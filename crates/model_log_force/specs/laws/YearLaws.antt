@@ -1,23 +1,28 @@
 -- A year of the table: the year after it, and its cells at ages to 90 as an age's parameters give them.
-use mathlib.Core.Path.{_≡_}
-use Prim.Native.Nat.{ℕ, suc, _*_, _<_}
+use mathlib.Core.Path.{_≡_, sym, ap, _∙_}
+use Prim.Native.Nat.{ℕ, suc, _*_, _≤_, _<_}
 use native.Mathlib.Omega.{arith}
+use lib.Dec.{T}
 use lib.IntN.{ℤ, pos, _+ℤ_, _*ℤ_}
 use Rattle.number_whole.specs.laws.Split.{split, split-add, split-scale-left}
 use Rattle.number_whole.specs.code.Sizes.{Under, Within}
+use Rattle.number_whole.specs.laws.Bound.{bits, back}
 use Rattle.number_exponential.specs.Grid.{Grid}
 use Rattle.set_params.specs.declared.Params.{Params}
+use Rattle.set_params.specs.declared.Dynamics.{Dynamics}
+use Rattle.set_params.specs.code.Within.{SeriesWithin}
 use Rattle.set_params.specs.Set.{ages, ageOf, dynamicsOf}
 use Rattle.set_params.specs.Limits.{lastYears, periodLimit, kappaLimit}
-use Rattle.set_series.specs.Series.{periodIn, periodIndex, kappaIn}
+use Rattle.set_series.specs.Series.{periodIn, periodIndex, kappaIn, kappa}
 use Rattle.set_series.specs.laws.BoundLaws.{period-under}
 use Rattle.set_series.specs.laws.WidthLaws.{kappa-wide}
+use Rattle.set_limits.specs.InLimits.{inLimits}
 use Rattle.set_limits.specs.laws.LimitsLaws.{in-limits-series, in-limits-kappa-on}
 use Rattle.number_whole.specs.laws.EndLaws.{Wide, wide-more}
 use Rattle.model_log_force.specs.LogForce.{cellForce, logForce}
 use Rattle.model_log_force.specs.laws.BoundLaws.{cell-limits}
 use Rattle.model_log_force.specs.declared.Year.{Year}
-use Rattle.model_log_force.specs.code.Year.{YearOf, YearWithin, NextOf, CellWithin}
+use Rattle.model_log_force.specs.code.Year.{SeriesOf, YearFrom, YearOf, YearWithin, NextOf, CellWithin}
 
 step-sum : (k t : ℤ) (n : ℕ) → k +ℤ pos (suc n) *ℤ t ≡ (k +ℤ pos n *ℤ t) +ℤ t
 step-sum k t n =
@@ -33,6 +38,37 @@ step-sum k t n =
 period-step : (p : Params) (n : ℕ) → periodIndex p (suc n) ≡ periodIndex p n +ℤ p .theta
 unfolding periodIn
 period-step p n = step-sum (p .period) (p .theta) n
+
+-- a year of a set in its limits, worked of its series as the code reads them
+module _ (g : Grid) (p : Params) (t : T (inLimits p)) {n : ℕ} (l : n ≤ lastYears) where
+  abbrev w : SeriesWithin p
+  w = in-limits-series p t
+
+  abbrev read-dynamics : Dynamics
+  read-dynamics = record { a = bits (p .a); theta = bits (p .theta); c = bits (p .c) }
+
+  dynamics-is : read-dynamics ≡ dynamicsOf p
+  dynamics-is = let d = w .dynamics in rw (back (d .a) tt, back (d .theta) tt, back (d .c) tt)
+
+  pub year-asked : SeriesOf g read-dynamics (bits (p .period)) (bits (p .kappa)) n
+  year-asked =
+      rw (dynamics-is, back (w .index .start) tt, back (w .kappa) tt) (record {
+        dynamics = w .dynamics;
+        index = w .index;
+        kappa = w .kappa;
+        years = record { years = λ m h. in-limits-kappa-on g p t m (omega (arith, h, l)) };
+        year = l;
+      })
+
+  pub year-given : {r : Year} → YearFrom g read-dynamics (bits (p .period)) (bits (p .kappa)) n r → YearOf g p r
+  year-given {r} f =
+      let e = rw (dynamics-is, back (w .index .start) tt, back (w .kappa) tt) at f in
+      record {
+        limits = t;
+        year = rw (f .number) l;
+        period = e .period ∙ ap (periodIndex p) (sym (f .number));
+        kappas = e .kappas ∙ ap (kappa g p) (sym (f .number));
+      }
 
 module _ {g : Grid} {p : Params} {y : Year} (h : YearOf g p y) where
   period-within : Under (y .period) periodLimit

@@ -1,24 +1,24 @@
--- `floor_div` meets its contract: below zero it goes one step down from a quotient, else it is the quotient, and nothing overflows.
-use mathlib.Core.Path.{_∙_}
-use lib.IntN.{negsuc, natAbs}
+-- `floor_div` meets its contract: the multiples that are added to the number are taken from its quotient.
+use Prim.Native.Nat.{_/_}
+use mir.Facts.{toZ-ofZ}
+use native.Mathlib.Omega.{arith}
 use Rattle.number_whole.specs.Division.{floorDiv}
-use Rattle.number_whole.proofs.Rounding.{below-zero, not-below-zero, floor-plain, floor-away, Quotient, quotient, Stepped, stepped}
+use Rattle.number_whole.proofs.Rounding.{Back, floor-back, some, shift-small}
 use Rattle.number_whole.proofs.floor_div.Statement.{statement}
 use Rattle.number_whole.proofs.floor_div.Tie as tie
 
-one-step : (c : tie.Then1) → let s = c .before in Stepped (negsuc 0) (s .args .n) (s .args .d) (floorDiv (s .args .n) (natAbs (s .args .d)))
-one-step c =
-    let s = c .before in
-    stepped (s .fits .n) (s .fits .d) (s .pre) (floor-away (below-zero (s .fits .n) (c .if1 .taken)) (s .pre) (s .fits .n))
+mul-shifted : tie.Need-mul-shifted
+mul-shifted c = record { fits = omega (arith, shift-small (c .pre)) }
 
-plain : (c : tie.Else1) → let s = c .before in Quotient (s .args .n) (s .args .d)
-plain c = let s = c .before in quotient (s .fits .n) (s .fits .d) (s .pre)
+shifted-requires : tie.Need-shifted-requires
+shifted-requires c κs = (rw (toZ-ofZ (c .fits .z)) (c .pre .within), omega (arith, shift-small (c .pre)))
 
-returns-2 : tie.Need-returns-2
-returns-2 c = let s = c .before in plain c .is ∙ floor-plain (not-below-zero (s .fits .n) (c .if1 .left)) (s .pre)
+quotient : (c : tie.After-shifted) → let s = c .before in
+    Back (c .shifted .result / s .args .d) (s .args .k) (floorDiv (s .args .z) (s .args .d))
+quotient c = let s = c .before in floor-back (s .pre) (rw (toZ-ofZ (s .fits .z)) at (c .shifted .ensures))
 
 pub floor-div-spec : {M : Type 1} → statement M
 floor-div-spec =
     tie.close
-    (tie.spec (λ c. one-step c .first) (λ c. one-step c .divided) (λ c. one-step c .last) (λ c. one-step c .is)
-    (λ c. plain c .fits) returns-2)
+    (tie.spec mul-shifted shifted-requires (λ c. some (c .before .pre)) (λ c. quotient c .cast) (λ c. quotient c .times)
+    (λ c. quotient c .fits) (λ c. quotient c .is))

@@ -16,7 +16,7 @@ use Rattle.number_whole.specs.laws.Above.{above}
 use Rattle.number_whole.specs.laws.Split.{split, split-neg, split-add, split-mul, split-abs}
 use Rattle.number_whole.specs.Division.{floorDiv, ceilDiv}
 use Rattle.number_whole.specs.laws.DivisionLaws.{floorℕ-encloses, le-of-mul-lt, floor-within, ceil-within}
-use Rattle.number_whole.specs.code.Sizes.{Under}
+use Rattle.number_whole.specs.code.Sizes.{Under, Divides}
 
 pub under-pos : {n k : ℕ} → n ≤ k → Under (pos n) k
 under-pos h = record { under = h }
@@ -122,3 +122,7 @@ bits z = toZ w64 (ofZ w64 z)
 -- is the number itself
 pub back : {z : ℤ} {k : ℕ} → Under z k → T (ltb k (2 ^ 63)) → bits z ≡ z
 back u t = toZ-ofZ (fits u t)
+
+-- ---- what a division asks, at numerals: `divides tt u tt`
+pub divides : {z : ℤ} {d k : ℕ} → T (ltb 1 d) → Under z (k * d) → T (leb (k * d + d) (2 ^ 63)) → Divides z d k
+divides {z} {d} {k} s u r = record { some = ltb→lt 1 d s; within = u; room = leb→le (k * d + d) (2 ^ 63) r }

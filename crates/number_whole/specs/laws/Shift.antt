@@ -1,6 +1,6 @@
 -- Rounded division of a sum of which one part is a multiple of the divisor, and the rest of a number that was rounded down.
 use mathlib.Core.Path.{_≡_}
-use Prim.Native.Nat.{ℕ, _<_}
+use Prim.Native.Nat.{ℕ, _-_, _<_}
 use native.Mathlib.Omega.{arith}
 use lib.IntN.{ℤ, pos, _+ℤ_, _-ℤ_, _*ℤ_}
 use lib.Signed.{_≤ℤ_}
@@ -33,6 +33,14 @@ ceil-shift q r {m} h =
     (omega (arith, split-ceil x h, split-ceil r h, split-add (q *ℤ pos m) r, split-scale q m, mul-eq m (split-add q f))))
     (at-most (q +ℤ f) (ceilDiv x m) m
     (omega (arith, split-ceil x h, split-ceil r h, split-add (q *ℤ pos m) r, split-scale q m, mul-eq m (split-add q f))))
+
+-- rounded up it is what one less than the divisor more is, rounded down
+pub ceil-is-floor : (z : ℤ) {m : ℕ} → 0 < m → floorDiv (pos (m - 1) +ℤ z) m ≡ ceilDiv z m
+ceil-is-floor z {m} h =
+    let x = pos (m - 1) +ℤ z in
+    ≤ℤ-antisym
+    (at-most (floorDiv x m) (ceilDiv z m) m (omega (arith, split-floor x h, split-ceil z h, split-add (pos (m - 1)) z)))
+    (at-most (ceilDiv z m) (floorDiv x m) m (omega (arith, split-floor x h, split-ceil z h, split-add (pos (m - 1)) z)))
 
 -- what is left of z where the multiple of its quotient is taken away
 abbrev pub restOver : ℤ → ℕ → ℤ

@@ -1,9 +1,10 @@
 -- `quote_along` meets its contract: a coarse quote with an open figure is worked again, and a path in range is so on the fine grid.
 use borrow.Author.Needs.{needs}
+use borrow.Author.Tests.{not-true, not-false}
 use mathlib.Core.Path.{_≡_, refl, sym, ap, _∙_}
-use mathlib.Core.Bool.{Bool, true, false, _&&_}
+use mathlib.Core.Bool.{Bool, true, false, cond, _&&_}
 use mathlib.Core.List.{List}
-use lib.Dec.{T}
+use lib.Dec.{T, lit<}
 use lib.Ieee.Bits.{is-true}
 use Rattle.number_fraction.specs.Ratio.{Ratio}
 use Rattle.number_exponential.specs.Units.{billionths, gridOf, tenTrillionths}
@@ -33,23 +34,48 @@ module _ (again : Bool) (p : Params) (fold : Fold) (path : List Place) where
   unfolding pathAnswer pathQuote gridOf
   path-once = worked-once _ _ again _
 
--- what was asked of the coarse answer
-asked : (c : tie.After-is-left-open) → (part : Ratio) → let s = c .before .before in IsPart (s .args .part) part
-    → s .args .again && leftOpen (pathAnswer Coarse (s .args .p) (s .args .fold) (allPlaces (s .args .path) part)) ≡ c .is-left-open .result
+-- the loop's invariant: on the fine grid, the coarse answer was left open; the measure is the rounds left
+abbrev Inv-loop : tie.InvT-loop
+Inv-loop again p fold w r fine₀ fine =
+    (part : Ratio) → IsPart r part → T fine → again && leftOpen (pathAnswer Coarse p fold (allPlaces w part)) ≡ true
+
+abbrev μ-loop : tie.MeasureT-loop
+μ-loop again p fold w r fine₀ fine = cond fine 0 1
+
+-- the answer of a round, on a grid that is known
+answered : (c : tie.After-answer-along Inv-loop μ-loop) {fine : Bool} → let l = c .before in l .loop .fine ≡ fine → let s = l .before in
+    (part : Ratio) → IsPart (s .args .part) part
+    → c .answer-along .result ≡ pathAnswer (unitBy fine) (s .args .p) (s .args .fold) (allPlaces (s .args .path) part)
+answered c e part h = rw e at (c .answer-along .ensures part h)
+
+-- what was asked of the coarse one
+asked : (c : tie.After-is-left-open Inv-loop μ-loop) (part : Ratio) → let l = c .before .before .before in let s = l .before in
+    IsPart (s .args .part) part
+    → c .is-left-open .result ≡ s .args .again && leftOpen (pathAnswer Coarse (s .args .p) (s .args .fold) (allPlaces (s .args .path) part))
 unfolding unitBy
 asked c part h =
-    let s = c .before .before in
-    ap (λ (r : Answer). s .args .again && leftOpen r) (sym (c .before .answer-along .ensures part h)) ∙ sym (c .is-left-open .ensures)
+    let e = c .before in
+    let s = e .before .before .before in
+    c .is-left-open .ensures ∙ ap (λ (r : Answer). s .args .again && leftOpen r) (answered (e .before) (e .if1 .left) part h)
 
-returns : tie.Need-returns
+returns : tie.Need-returns Inv-loop μ-loop
 unfolding unitBy
 returns c part h =
-    let i = c .before in
-    c .answer-along2 .ensures part h ∙ path-again _ _ _ _ (asked (i .before) part h ∙ i .if1 .taken)
+    let a = c .before in
+    answered a (c .if1 .taken) part h ∙ path-again _ _ _ _ (a .before .loop .inv part h (rw (c .if1 .taken) tt))
 
-returns-2 : tie.Need-returns-2
+returns-2 : tie.Need-returns-2 Inv-loop μ-loop
 unfolding unitBy
-returns-2 c part h = c .before .before .answer-along .ensures part h ∙ path-once _ _ _ _ (asked (c .before) part h ∙ c .if1 .left)
+returns-2 c part h =
+    let o = c .before in
+    let e = o .before in
+    answered (e .before) (e .if1 .left) part h ∙ path-once _ _ _ _ (sym (asked o part h) ∙ not-true _ (c .if2 .taken))
+
+loop-again : tie.Need-loop-again Inv-loop μ-loop
+loop-again c part h t = sym (asked (c .before) part h) ∙ not-false _ (c .if2 .left)
 
 pub quote-along-spec : {M : Type 1} → statement M
-quote-along-spec = tie.close (tie.spec (λ c κs. search needs) (λ c κs. search needs) (λ c κs. search needs) returns returns-2)
+quote-along-spec =
+    tie.close
+    (tie.spec Inv-loop μ-loop (λ c part h t. absurd t) (λ c κs. search needs) returns (λ c κs. search needs) returns-2
+    (λ c. rw (c .before .before .if1 .left) (lit< tt)) loop-again)

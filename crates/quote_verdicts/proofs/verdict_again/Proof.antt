@@ -15,6 +15,7 @@ use Rattle.quote_along.specs.declared.Answer.{Answer}
 use Rattle.quote_along.specs.declared.Answer.the-variants.{Quoted, Refused}
 use Rattle.quote.specs.Quote.{answerOf}
 use Rattle.quote.specs.Demand.{shownOf, figureShown}
+use Rattle.quote.proofs.Steps.{for-again}
 use Rattle.quote_verdicts.specs.declared.Verdict.{Verdict}
 use Rattle.quote_verdicts.specs.declared.Verdict.the-variants.{Right}
 use Rattle.quote_verdicts.specs.Verdict.{columnAges, figureHere, differs, isOpen}
@@ -38,11 +39,12 @@ quoted-here a m e f = rw e f
 age-fits : (x : ℕ) → x < columnAges → SFits w64 (pos x)
 age-fits x l = fits (under-pos {k = columnAges} (omega arith)) tt
 
-asked : (c : tie.After-quote-within) → let a = c .before .args in
-    c .quote-within .result ≡ answerOf (a .p) Death (pos (a .age)) (a .year) (pos 0)
+asked : (c : tie.After-answer-within) → let a = c .before .args in
+    c .answer-within .result ≡ answerOf (a .p) Death (pos (a .age)) (a .year) (pos 0)
 asked c =
     let s = c .before in
-    rw (toZ-ofZ (age-fits (s .args .age) (s .pre .1)), toZ-ofZ (s .fits .year)) at (c .quote-within .ensures)
+    rw (toZ-ofZ (age-fits (s .args .age) (s .pre .1)), toZ-ofZ (s .fits .year)) at (c .answer-within .ensures)
+    ∙ for-again _ _ _ _ _
 
 returns : tie.Need-returns
 unfolding figureHere

@@ -14,7 +14,7 @@ use Rattle.set_params.specs.Set.{ageOf}
 use Rattle.set_params.specs.laws.SetLaws.{four-age}
 use Rattle.model_closure.specs.Weights.{firstClosed}
 use Rattle.number_folds.specs.code.Code.{mostFactors}
-use Rattle.model_log_force.specs.laws.YearLaws.{cell-within, year-force}
+use Rattle.model_log_force.specs.laws.YearLaws.{year-asked, year-given, cell-within, year-force}
 use Rattle.model_cells.specs.laws.Answers.{young-cell}
 use Rattle.model_cells.specs.code.Code.{cellOf}
 use Rattle.quote_paths.specs.Path.{placeAt}
@@ -33,7 +33,7 @@ abbrev μ-loop : tie.MeasureT-loop
 
 -- the function's start, and what it counted
 abbrev counted : tie.After-year-at Inv-loop μ-loop → tie.After-young-count Inv-loop μ-loop
-counted c = c .before .before .before .before
+counted c = c .before .before .before .before .before .before
 
 abbrev begun : tie.After-year-at Inv-loop μ-loop → tie.Start Inv-loop μ-loop
 begun c = counted c .before
@@ -47,7 +47,7 @@ path c =
 path-is : (c : tie.After-year-at Inv-loop μ-loop) → path c ≡ begun c .args .path
 path-is c =
     let w = begun c .args .path in
-    ap (λ (n : ℕ). along (w .cohort) (w .age) n (w .count)) (c .year-at .ensures .0)
+    ap (λ (n : ℕ). along (w .cohort) (w .age) n (w .count)) (c .year-at .ensures .number)
 
 within : (c : tie.After-year-at Inv-loop μ-loop) → PathWithin (begun c .args .t2) (path c)
 within c = rw (path-is c) (begun c .pre)
@@ -98,13 +98,13 @@ cell-read c =
     ∙ sym (e ∙ young-cell (gridBy (s .args .fine)) (s .args .t2) (t .before .loop .year .number) (l .1))
 
 year-at-requires : tie.Need-year-at-requires Inv-loop μ-loop
-year-at-requires c κs = let s = c .before .before .before .before in (s .pre .limits, s .pre .first)
+year-at-requires c κs = let s = c .before .before .before .before .before .before in year-asked _ _ (s .pre .limits) (s .pre .first)
 
 loop-holds : tie.Need-loop-holds Inv-loop μ-loop
 unfolding placeAt
 loop-holds c = (
   worked-none (gridBy (begun c .args .fine)) (begun c .args .t2) (path c) refl,
-  record { year = c .year-at .ensures .1; place = λ h. first-year (path c .cohort) (c .year-at .result .number) },
+  record { year = year-given _ _ (begun c .pre .limits) (begun c .pre .first) (c .year-at .ensures); place = λ h. first-year (path c .cohort) (c .year-at .result .number) },
   omega arith,
 )
 

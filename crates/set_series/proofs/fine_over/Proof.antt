@@ -1,5 +1,4 @@
 -- `fine_over` meets its contract: what is cut off is a multiple of the divisor, and each number fits.
-use borrow.Author.Needs.{needs}
 use mathlib.Core.Path.{_≡_, refl, sym, ap, _∙_}
 use mathlib.Core.Bool.{Bool, true, false, cond}
 use Prim.Native.Nat.{ℕ, _*_, _≤_, _<_, _^_}
@@ -10,8 +9,8 @@ use mir.Syntax.{w64}
 use mir.Val.{SFits}
 use mir.Facts.{toZ-ofZ}
 use Rattle.number_whole.specs.Division.{floorDiv, ceilDiv}
-use Rattle.number_whole.specs.code.Sizes.{Under}
-use Rattle.number_whole.specs.laws.Bound.{bits, fits, fits-floor, fits-ceil, under-lit, under-add, under-mul, under-cond, under-floor, under-ceil, under-floor-to}
+use Rattle.number_whole.specs.code.Sizes.{Under, Divides}
+use Rattle.number_whole.specs.laws.Bound.{bits, fits, fits-floor, fits-ceil, under-lit, under-add, under-mul, under-cond, under-floor, under-ceil, under-floor-to, under-weaken, divides}
 use Rattle.number_whole.specs.laws.Difference.{difference, difference-pos, difference-neg, difference-add, difference-mul, difference-eq}
 use Rattle.number_whole.specs.laws.Shift.{floor-shift, ceil-shift, restOver, rest-under}
 use Rattle.number_whole.proofs.Signed.{read, read-floor, sum, product, minus}
@@ -60,6 +59,13 @@ module _ {p c z : ℤ} (w : MixedWithin tenTrillionths p c z) (fp : SFits w64 p)
 
   wide-under : Under (floorDiv z coefficientUnit) 5000000
   wide-under = under-floor-to 5000000 {z = z} (lit< tt) (lit≤ tt) (w .end)
+
+  -- what is divided lies within the multiples that are added
+  high-asked : Divides (bits p) 10000 600000000000000
+  high-asked = divides tt (rw (toZ-ofZ fp) (record { under = omega (arith, w .total) })) tt
+
+  wide-asked : Divides (bits z) coefficientUnit 60000000000
+  wide-asked = divides tt (rw (toZ-ofZ fz) (under-weaken (w .end) (lit≤ tt))) tt
 
   module _ {h : ℤ} (eh : h ≡ floorDiv (bits p) 10000) where
     high : bits h ≡ floorDiv p 10000
@@ -110,6 +116,9 @@ module _ {p c z : ℤ} (w : MixedWithin tenTrillionths p c z) (fp : SFits w64 p)
           SFits w64 r × (bits r ≡ left)
       add-left = sum (mul-low .1) (mul-rest .1) refl (fits left-under tt)
 
+      left-asked : {y : ℤ} → y ≡ left → Divides y coefficientUnit 60000000000
+      left-asked e = rw e (divides tt (under-weaken left-under (lit≤ tt)) tt)
+
       wide-product : SFits w64 (bits c *ℤ bits v) × (bits (bits c *ℤ bits v) ≡ c *ℤ floorDiv z coefficientUnit)
       wide-product = product (toZ-ofZ fc) wide refl (fits (under-mul (w .factor) wide-under) tt)
 
@@ -154,6 +163,12 @@ module _ {p c z : ℤ} (w : MixedWithin tenTrillionths p c z) (fp : SFits w64 p)
 abbrev start : tie.After-floor-div2 → tie.Start
 start c = c .before .before
 
+floor-div-requires : tie.Need-floor-div-requires
+floor-div-requires c κs = high-asked (c .pre) (c .fits .p) (c .fits .c) (c .fits .z)
+
+floor-div2-requires : tie.Need-floor-div-requires-2
+floor-div2-requires c κs = let s = c .before in wide-asked (s .pre) (s .fits .p) (s .fits .c) (s .fits .z)
+
 mul-low-need : tie.Need-mul-low
 mul-low-need c =
     let s = c .before in
@@ -196,6 +211,12 @@ mul-result-need c = let s = start c in wide-product (s .pre) (s .fits .p) (s .fi
 add-result-need : tie.Need-add-result
 add-result-need c = let s = start c in add-exact (s .pre) (s .fits .p) (s .fits .c) (s .fits .z) (first c) (second c) .0
 
+outward-div-requires : tie.Need-outward-div-requires
+outward-div-requires c κs =
+    let s = start c in
+    left-asked (s .pre) (s .fits .p) (s .fits .c) (s .fits .z) (first c) (second c)
+    (add-left (s .pre) (s .fits .p) (s .fits .c) (s .fits .z) (first c) (second c) .1)
+
 add-result-2-need : tie.Need-add-result-2
 add-result-2-need o =
     let c = o .before in
@@ -213,5 +234,5 @@ returns o =
 pub fine-over-spec : {M : Type 1} → statement M
 fine-over-spec =
     tie.close
-    (tie.spec (λ c κs. search needs) mul-low-need sub-low-need (λ c κs. search needs) mul-rest-need sub-rest-need mul-left-need
-    mul-left-2-need add-left-need mul-result-need add-result-need (λ c κs. search needs) add-result-2-need returns)
+    (tie.spec floor-div-requires mul-low-need sub-low-need floor-div2-requires mul-rest-need sub-rest-need mul-left-need
+    mul-left-2-need add-left-need mul-result-need add-result-need outward-div-requires add-result-2-need returns)

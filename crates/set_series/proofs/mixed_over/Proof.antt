@@ -1,17 +1,17 @@
 -- `mixed_over` meets its contract, unit by unit: the coarse sum fits.
-use borrow.Author.Needs.{needs}
 use mathlib.Core.Path.{_≡_, refl, sym, ap, subst, _∙_}
 use mathlib.Core.Bool.{Bool, cond}
 use Prim.Native.Nat.{_+_, _*_, _≤_}
 use native.Mathlib.Nat.{mul-le-mul-left}
 use native.Mathlib.Omega.{arith}
+use lib.Dec.{lit≤}
 use lib.IntN.{ℤ, pos, natAbs, _+ℤ_, _*ℤ_}
 use mir.Syntax.{w64}
 use mir.Val.{SFits}
 use mir.Facts.{toZ-ofZ}
 use Rattle.number_whole.specs.Division.{floorDiv, ceilDiv}
-use Rattle.number_whole.specs.code.Sizes.{Under}
-use Rattle.number_whole.specs.laws.Bound.{bits, fits, under-pos, under-add, under-mul, under-weaken}
+use Rattle.number_whole.specs.code.Sizes.{Under, Divides}
+use Rattle.number_whole.specs.laws.Bound.{bits, fits, under-pos, under-add, under-mul, under-weaken, divides}
 use Rattle.number_whole.proofs.Signed.{sum, product}
 use Rattle.number_exponential.specs.Units.{billionths, gridOf}
 use Rattle.number_exponential.specs.code.Flag.{unitBy, gridBy}
@@ -43,6 +43,9 @@ module _ {p c z : ℤ} (w : MixedWithin billionths p c z) (fp : SFits w64 p) (fc
   add : let r = bits p +ℤ bits (bits c *ℤ bits z) in SFits w64 r × (bits r ≡ p +ℤ c *ℤ z)
   add = sum (toZ-ofZ fp) (mul .1) refl (fits sum-limit tt)
 
+  sum-asked : {y : ℤ} → y ≡ p +ℤ c *ℤ z → Divides y coefficientUnit 60000000000
+  sum-asked e = rw e (divides tt (under-weaken sum-limit (lit≤ tt)) tt)
+
   coarse : {r y : ℤ} (upper : Bool) → y ≡ p +ℤ c *ℤ z → r ≡ cond upper (ceilDiv y coefficientUnit) (floorDiv y coefficientUnit)
       → r ≡ mixedOver billionths p c z upper
   unfolding mixedOver
@@ -66,6 +69,11 @@ mul-outward-div c = let s = c .before in mul (asked₁ c) (s .fits .p) (s .fits 
 add-outward-div : tie.Need-add-outward-div
 add-outward-div c = let s = c .before in add (asked₁ c) (s .fits .p) (s .fits .c) (s .fits .z) .0
 
+outward-div-requires : tie.Need-outward-div-requires
+outward-div-requires c κs =
+    let s = c .before in
+    sum-asked (asked₁ c) (s .fits .p) (s .fits .c) (s .fits .z) (add (asked₁ c) (s .fits .p) (s .fits .c) (s .fits .z) .1)
+
 returns : tie.Need-returns
 unfolding gridOf unitBy
 returns c =
@@ -87,4 +95,4 @@ returns-2 c =
 pub mixed-over-spec : {M : Type 1} → statement M
 mixed-over-spec =
     tie.close
-    (tie.spec fine-over-requires returns mul-outward-div add-outward-div (λ c κs. search needs) returns-2)
+    (tie.spec fine-over-requires returns mul-outward-div add-outward-div outward-div-requires returns-2)
