@@ -1,1 +1,3 @@
 // The starred edges of the request as one proved table: see specs/.
+
+#![tactic(auto)]

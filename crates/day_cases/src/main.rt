@@ -1,5 +1,6 @@
 // Reads dates, each a signed word of eight bytes, the lowest first, and writes for each a word in its place: 0 where it is no
 // day, else its year, the days of the year and the days since 1 January, YYYYDDDddd.
+#![tactic(auto)]
 ghost use Rattle.std.specs.Prelude.{◌+◌, ◌≤◌, length};
 ghost use Rattle.text_words.specs.code.Word.{word_bytes};
 

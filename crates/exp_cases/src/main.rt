@@ -1,4 +1,5 @@
 // Prints the exponential's two ends at the stored places, a line each: z, the lower end, the upper end.
+#![tactic(auto)]
 mod cases;
 
 use cases::{CASES, COUNT};

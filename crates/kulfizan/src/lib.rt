@@ -1,6 +1,7 @@
 // The C interface, for programs in other languages: a sheet read into numbers, numbers written as a sheet, a query of a
 // sheet answered, with a rate, a date or neither, a query of a couple's two sheets, the year a target is reached, the verdict on a
 // published column, and the whole run of an input.
+#![tactic(auto)]
 ghost use Rattle.std.specs.Prelude.{◌≡◌, [], length};
 ghost use Rattle.text_tokens.specs.Text.{taken};
 ghost use Rattle.quote_kinds.specs.declared.Kind.TheVariants.{Day};

@@ -1,5 +1,6 @@
 // One cell of the table on a grid: p, the chance to live through the year, with two ends, from an age's
 // parameters at ages to 90 and by the closure above, which is fitted to the ages 80 to 90 of the year.
+#![tactic(auto)]
 ghost use Rattle.std.specs.Prelude.{◌≡◌, T};
 ghost use Rattle.number_exponential.specs.code.Flag.{grid_by};
 ghost use Rattle.model_log_force.specs.LogForce.{cell_force};
@@ -15,7 +16,7 @@ use number_whole::SignedEnds;
 use set_params::{AGES, Age};
 
 // The ends of H at ages 80 to 90 of a year, where its cells are in range.
-#[derive(Drop)]
+#[derive(Clone, Copy)]
 pub struct Fitted {
     pub ok: bool,
     pub ends: [SignedEnds; 11],
@@ -55,7 +56,7 @@ pub fn fitted_in<'a>(
 }
 
 // The ends of the force or of p, or a needed cell out of range.
-#[derive(Drop)]
+#[derive(Clone, Copy)]
 pub enum Cell {
     LogForceOutOfRange,
     Of(Ends),

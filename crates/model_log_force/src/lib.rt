@@ -1,5 +1,6 @@
 // The log force of a cell on a grid, with two signed ends; and a year of the table: K and kappa, the year after, and the log
 // force at an age of it.
+#![tactic(auto)]
 ghost use Rattle.std.specs.Prelude.{◌≡◌};
 ghost use Rattle.number_exponential.specs.code.Flag.{grid_by};
 ghost use Rattle.model_log_force.specs.LogForce.{cell_force, in_range};
@@ -15,7 +16,7 @@ pub const LOWEST_FORCE: i64 = -30_000_000_000;
 pub const HIGHEST_FORCE: i64 = -700_000_000;
 
 // The year start + number, with K in units of 10^-9 and kappa in a grid's.
-#[derive(Drop)]
+#[derive(Clone, Copy)]
 pub struct Year {
     pub number: u64,
     pub period: i64,

@@ -1,5 +1,6 @@
 // A figure from two ends in units: each end is rounded half up to whole steps, and the figure is printed when both give
 // one step.
+#![tactic(auto)]
 ghost use Rattle.std.specs.Prelude.{◌≡◌, ◌≤◌, ◌<◌, ◌^◌};
 ghost use Rattle.number_exact.specs.Figure.{half_up, figure_of, is_open};
 
@@ -13,7 +14,7 @@ pub const EXPECTANCY_STEP: u64 = 10_000_000;
 pub const PRICE_STEP: u64 = 100_000_000;
 
 // A number of steps, or two ends that round to different steps.
-#[derive(Drop)]
+#[derive(Clone, Copy)]
 pub enum Figure {
     Printed(u64),
     Open,

@@ -1,10 +1,11 @@
 // The grids of 10^-9 and of 10^-13 and the exponential of −z on a grid: definitions and laws. The code is in `number_exp_ends`.
 
+#![tactic(auto)]
 ghost use Rattle.std.specs.Prelude.{◌≡◌};
 ghost use Rattle.number_exponential.specs.code.Flag.{unit_by, grid_by};
 
 // The unit of two ends: 10^-9 or 10^-13.
-#[derive(Drop)]
+#[derive(Clone, Copy)]
 pub enum GridUnit {
     Coarse,
     Fine,
@@ -25,7 +26,7 @@ pub const STEP: u64 = 500_000_000;
 pub const CUTOFF: u64 = 21_000_000_000;
 
 // Two ends, in units.
-#[derive(Drop)]
+#[derive(Clone, Copy)]
 pub struct Ends {
     pub lower: u64,
     pub upper: u64,

@@ -1,1 +1,3 @@
 // Fractions over whole numbers, at least 0 and signed, and their laws: all of it stands in specs/.
+
+#![tactic(auto)]

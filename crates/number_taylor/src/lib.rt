@@ -1,1 +1,3 @@
 // Taylor sums of the exponential, and the alternating sums of its terms against them: definitions and laws, no code.
+
+#![tactic(auto)]

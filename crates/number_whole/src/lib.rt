@@ -1,5 +1,7 @@
 // Division of 64-bit numbers by a positive number, rounded down for a lower end and up for an upper end; and two signed
 // ends: the least and the greatest product with a number, and division that rounds an end outward.
+#![tactic(auto)]
+
 ghost use Rattle.std.specs.Prelude.{◌≡◌, cond, ◌+◌, ◌-◌, ◌<◌, ◌^◌, pos, ◌+ℤ◌};
 ghost use Rattle.std.specs.Int.Signed.{non_neg};
 ghost use Rattle.std.specs.Int.{w64};
@@ -9,7 +11,7 @@ ghost use Rattle.number_whole.specs.code.Sizes.{Under, Divides};
 ghost use Rattle.number_whole.specs.SignedEnds.{least_product, greatest_product};
 
 // Two ends, in units.
-#[derive(Drop)]
+#[derive(Clone, Copy)]
 pub struct SignedEnds {
     pub lower: i64,
     pub upper: i64,

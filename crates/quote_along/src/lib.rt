@@ -1,5 +1,6 @@
 // The quote of a fold along a path and a part of a year after it: the two ends of the figure with the figure itself, or the
 // refusal of a cell out of range. A figure that the coarse ends leave open is worked again on the fine grid.
+#![tactic(auto)]
 ghost use Rattle.std.specs.Prelude.{◌≡◌, ◌&&◌, ◌≤◌};
 ghost use Rattle.number_exponential.specs.code.Flag.{unit_by};
 ghost use Rattle.quote_walks.specs.code.Code.{PathWithin};
@@ -15,7 +16,7 @@ use set_params::Params;
 use set_refusal::Refusal;
 
 // The two ends of a figure in their unit, with the figure: a number of steps, or open.
-#[derive(Drop)]
+#[derive(Clone, Copy)]
 pub struct Quote {
     pub unit: GridUnit,
     pub lower: u64,
@@ -24,7 +25,7 @@ pub struct Quote {
 }
 
 // A quote, or the refusal.
-#[derive(Drop)]
+#[derive(Clone, Copy)]
 pub enum Answer {
     Quoted(Quote),
     Refused(Refusal),

@@ -1,6 +1,7 @@
 // Two quotes side by side: their figures, and what their ends tell of their exact values, in the finer of their units. The
 // first is below the second or above it, with the least and the most between them, or near, with the most that they can
 // differ by.
+#![tactic(auto)]
 ghost use Rattle.std.specs.Prelude.{◌≡◌, ◌-◌};
 ghost use Rattle.number_exponential.specs.Units.{grid_of};
 ghost use Rattle.quote.specs.Quote.{answer_of};
@@ -15,14 +16,14 @@ use set_params::Params;
 use set_refusal::Refusal;
 
 // By how many units the one value exceeds the other: at least, and at most.
-#[derive(Drop)]
+#[derive(Clone, Copy)]
 pub struct Excess {
     pub least: u64,
     pub most: u64,
 }
 
 // The first value against the second: below or above, by so much; or near, with the most that they can differ by in units.
-#[derive(Drop)]
+#[derive(Clone, Copy)]
 pub enum Values {
     Below(Excess),
     Above(Excess),
@@ -30,7 +31,7 @@ pub enum Values {
 }
 
 // Two quotes compared: the two figures, and the values with their unit.
-#[derive(Drop)]
+#[derive(Clone, Copy)]
 pub struct Pair {
     pub first: Figure,
     pub second: Figure,
@@ -39,7 +40,7 @@ pub struct Pair {
 }
 
 // Two answers compared, or the refusal of one.
-#[derive(Drop)]
+#[derive(Clone, Copy)]
 pub enum Comparison {
     Compared(Pair),
     NotCompared(Refusal),

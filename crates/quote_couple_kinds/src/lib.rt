@@ -1,4 +1,5 @@
 // The kinds of a couple's figures: the status of the two lives that each asks for, and the single life's kind that it follows.
+#![tactic(auto)]
 ghost use Rattle.std.specs.Prelude.{◌≡◌};
 ghost use Rattle.quote_couple_kinds.specs.CoupleKinds.{single_of};
 ghost use Rattle.quote_couple_kinds.specs.code.Code.{status_of};
@@ -6,14 +7,14 @@ ghost use Rattle.quote_couple_kinds.specs.code.Code.{status_of};
 use quote_kinds::Kind;
 
 // The joint life status holds while both live, the last survivor status while at least one lives.
-#[derive(Drop)]
+#[derive(Clone, Copy)]
 pub enum Status {
     JointLife,
     LastSurvivor,
 }
 
 // What may be asked of two lives: `joint`, `last`, `ejoint` and `elast`.
-#[derive(Drop)]
+#[derive(Clone, Copy)]
 pub enum CoupleKind {
     JointLife,
     LastSurvivor,

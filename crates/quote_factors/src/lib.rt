@@ -1,6 +1,7 @@
 // The factors of a path on a grid: p's ends at each of its cells, into an array by value. The ages to 90 come
 // first, then those above, whose H are worked once a year. A cell that no factor needs is not worked, and in one calendar year
 // the cell of age 120 is worked once, however many factors use it.
+#![tactic(auto)]
 ghost use Rattle.std.specs.Prelude.{◌≡◌, ◌-◌, ◌≤◌, ◌<◌, min, T};
 ghost use Rattle.number_exponential.specs.code.Flag.{grid_by};
 ghost use Rattle.model_closure.specs.Weights.{first_closed, last_closed};
@@ -16,7 +17,7 @@ use quote_walks::Walk;
 use set_params::{Dynamics, Params};
 
 // The factors of a path, where every cell that they need is in range.
-#[derive(Drop)]
+#[derive(Clone, Copy)]
 pub struct Factors {
     pub ok: bool,
     pub ends: [Ends; MOST_FACTORS],

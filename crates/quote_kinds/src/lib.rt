@@ -1,4 +1,5 @@
 // The kinds of figure, and what each takes of a path: one rule a kind, and a step and a fold for each of four figures.
+#![tactic(auto)]
 ghost use Rattle.std.specs.Prelude.{◌≡◌, ◌*◌, ◌≤◌, T, take};
 ghost use Rattle.number_whole.specs.code.Sizes.{Under};
 ghost use Rattle.quote_calendar.specs.Calendar.{is_day};
@@ -20,7 +21,7 @@ use quote_paths::{Fold, Part};
 use set_params::{LAST_YEARS, QUOTE_YEARS};
 
 // What may be asked of a life: `q`, `coh`, `per`, `ecoh` and `eper`, with a rate `acoh` and `aper`, and to a date `day`.
-#[derive(Drop)]
+#[derive(Clone, Copy)]
 pub enum Kind {
     Death,
     CohortSurvival,
@@ -33,7 +34,7 @@ pub enum Kind {
 }
 
 // A kind's fold, whether its path is the cohort's, its last year, counted from the start year, and whether its term is a date.
-#[derive(Drop)]
+#[derive(Clone, Copy)]
 pub struct Rule {
     pub fold: Fold,
     pub cohort: bool,

@@ -1,5 +1,6 @@
 // The year a target is reached: any set, age and target give the first quote year whose period expectancy reaches it, or tell that
 // the ends leave it open, that none does, or one numbered refusal.
+#![tactic(auto)]
 ghost use Rattle.std.specs.Prelude.{◌≡◌, T};
 ghost use Rattle.set_limits.specs.InLimits.{in_limits};
 ghost use Rattle.quote_target.specs.Target.{reaches, year_tells, target_answer};
@@ -13,7 +14,7 @@ use set_params::{Params, QUOTE_YEARS};
 use set_refusal::Refusal;
 
 // The year in which a target is reached, open, never among the quote years, or the refusal.
-#[derive(Drop)]
+#[derive(Clone, Copy)]
 pub enum TargetYear {
     Reached(i64),
     Open,

@@ -1,5 +1,6 @@
 // Two quotes, whichever their sets, kinds, ages, years, terms and rates: whether they are of one kind and, if so, whether their
 // figures are equal, and so whether their exact values round to one step. Proved from the contract of `quote_of` alone.
+#![tactic(auto)]
 ghost use Rattle.std.specs.Prelude.{◌≡◌};
 ghost use Rattle.quote_kinds.specs.Kinds.{OneKind};
 ghost use Rattle.quote.specs.Demand.{shown_of, figure_shown};
@@ -12,7 +13,7 @@ use quote_kinds::Kind;
 use set_params::Params;
 
 // Two figures compared, where they are of one kind and both are printed.
-#[derive(Drop)]
+#[derive(Clone, Copy)]
 pub enum Same {
     OtherKind,
     NotPrinted,
@@ -21,7 +22,7 @@ pub enum Same {
 }
 
 // The steps of a printed figure.
-#[derive(Drop)]
+#[derive(Clone, Copy)]
 enum Steps {
     None,
     At(u64),

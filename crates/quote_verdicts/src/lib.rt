@@ -1,6 +1,7 @@
 // The verdict on a published column of q for one year: right, wrong or open, or one numbered refusal. The cells of the year are
 // worked once on the coarse grid, and with them each age's figure and the year's closure; a figure that they leave open is asked of
 // its quote.
+#![tactic(auto)]
 ghost use Rattle.std.specs.Prelude.{◌≡◌, [], ◌<◌, T};
 ghost use Rattle.text_tokens.specs.Text.{taken};
 ghost use Rattle.number_exponential.specs.Units.{billionths};
@@ -24,7 +25,7 @@ use set_refusal::Refusal;
 pub const COLUMN_AGES: usize = LAST_CLOSED + 1;
 
 // Every entry is the figure here; an entry differs from a printed figure; or a figure is open and none differs.
-#[derive(Drop)]
+#[derive(Clone, Copy)]
 pub enum Verdict {
     Right,
     Wrong,
@@ -32,7 +33,7 @@ pub enum Verdict {
 }
 
 // A verdict, or the refusal.
-#[derive(Drop)]
+#[derive(Clone, Copy)]
 pub enum Judged {
     Of(Verdict),
     Refused(Refusal),

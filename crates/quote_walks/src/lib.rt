@@ -1,4 +1,5 @@
 // The walk along a path at ages to 90 on a grid: p's ends at each of its cells, into an array by value.
+#![tactic(auto)]
 ghost use Rattle.std.specs.Prelude.{◌≡◌, ◌&&◌, ◌-◌, min, T, ltb};
 ghost use Rattle.number_exponential.specs.code.Flag.{grid_by};
 ghost use Rattle.model_closure.specs.Weights.{first_closed};
@@ -14,7 +15,7 @@ use quote_paths::Path;
 use set_params::{Dynamics, Params};
 
 // The factors of a path's first `done` cells, where those are in range, and the year of the next.
-#[derive(Drop)]
+#[derive(Clone, Copy)]
 pub struct Walk {
     pub ok: bool,
     pub done: usize,

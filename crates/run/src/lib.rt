@@ -1,4 +1,5 @@
 // The whole run of a program: an input to its output, written into a buffer that the caller lends.
+#![tactic(auto)]
 ghost use Rattle.std.specs.Prelude.{◌≡◌, ◌+◌, ◌*◌, ◌≤◌, ◌<◌, T, leb, length};
 ghost use Rattle.set_limits.specs.InLimits.{in_limits};
 ghost use Rattle.text_printing.specs.code.Put.{Put};
@@ -15,7 +16,7 @@ use set_refusal::Refusal;
 use sheet::Written;
 
 // What an input is read as: sheets and lines that are answered one by one, or a sheet and a column to be judged.
-#[derive(Drop)]
+#[derive(Clone, Copy)]
 pub enum Program {
     Lines(Mode),
     Verdict,

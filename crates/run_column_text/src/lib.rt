@@ -1,4 +1,5 @@
 // A published column of q for one year, 121 lines `age=0 q=0.00312` upward from age 0, read from its bytes in one pass.
+#![tactic(auto)]
 ghost use Rattle.std.specs.Prelude.{◌≡◌, ◌≤◌, ◌<◌, drop};
 ghost use Rattle.text_tokens.specs.Number.{read_digits};
 ghost use Rattle.run_column_text.specs.Column.{column_lines, decimals, read_q, read_entry, column_of};
@@ -14,21 +15,21 @@ pub const COLUMN_LINES: usize = LAST_CLOSED + 1;
 const DECIMALS: usize = 5;
 
 // What a line says: an age, and its q in steps of 0.00001.
-#[derive(Drop)]
+#[derive(Clone, Copy)]
 pub struct Entry {
     pub age: i64,
     pub steps: u64,
 }
 
 // An entry that was read.
-#[derive(Drop)]
+#[derive(Clone, Copy)]
 pub enum EntryRead {
     Malformed,
     Of(Entry),
 }
 
 // The steps of q by age, where nothing was malformed.
-#[derive(Drop)]
+#[derive(Clone, Copy)]
 pub struct ColumnRead {
     pub ok: bool,
     pub steps: [u64; COLUMN_LINES],

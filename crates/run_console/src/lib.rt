@@ -1,4 +1,5 @@
 // What the programs share: the run of standard input on standard output.
+#![tactic(auto)]
 ghost use Rattle.std.specs.Prelude.{◌+◌, ◌*◌, ◌≤◌, length};
 ghost use Rattle.run_line.specs.code.Sizes.{most_line};
 

@@ -1,4 +1,5 @@
 // A couple's query line, `kind=… age=… age2=… year=… span=…` and a line feed, read from its bytes.
+#![tactic(auto)]
 ghost use Rattle.std.specs.Prelude.{◌≡◌, drop};
 ghost use Rattle.run_query.specs.Query.{read_word};
 ghost use Rattle.run_couple_query.specs.CoupleQuery.{couple_word, couples_on_offer, read_couple};
@@ -8,7 +9,7 @@ use quote_couple_kinds::CoupleKind;
 use text_tokens::NumberRead;
 
 // What is asked of two lives: `age` is the first's and `other` the second's.
-#[derive(Drop)]
+#[derive(Clone, Copy)]
 pub struct CoupleQuery {
     pub kind: CoupleKind,
     pub age: i64,
@@ -18,14 +19,14 @@ pub struct CoupleQuery {
 }
 
 // A kind whose word was read, with the place after it.
-#[derive(Drop)]
+#[derive(Clone, Copy)]
 pub enum CoupleKindRead {
     Malformed,
     Of(CoupleKind, usize),
 }
 
 // A query that was read.
-#[derive(Drop)]
+#[derive(Clone, Copy)]
 pub enum CoupleQueryRead {
     Malformed,
     Of(CoupleQuery),

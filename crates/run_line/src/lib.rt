@@ -1,4 +1,5 @@
 // The answer to a line of bytes by a program's mode, written into a buffer that the caller lends.
+#![tactic(auto)]
 ghost use Rattle.std.specs.Prelude.{◌≡◌, ◌+◌, ◌≤◌, T, length};
 ghost use Rattle.text_printing.specs.code.Put.{Room, Put};
 ghost use Rattle.set_limits.specs.InLimits.{in_limits};
@@ -13,7 +14,7 @@ use set_refusal::Refusal;
 
 // What a program answers a line with: a query's figure, with the ends and their unit where they are asked for, its figures by two
 // sheets, a couple's figure with the ends, or the year in which a target is reached.
-#[derive(Drop)]
+#[derive(Clone, Copy)]
 pub enum Mode {
     Quotes(bool),
     Compare,
@@ -22,7 +23,7 @@ pub enum Mode {
 }
 
 // What follows a query: its answer, with the ends where they are asked for, or its answers by two sets, compared.
-#[derive(Drop)]
+#[derive(Clone, Copy)]
 pub enum Reply {
     Quote(bool),
     Compared,

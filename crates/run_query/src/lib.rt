@@ -1,5 +1,6 @@
 // A query line, `kind=… age=… year=… span=…`, a survival to a day's with ` date=…` in its place, an annuity's with ` rate=…`, and
 // a line feed, read from its bytes.
+#![tactic(auto)]
 ghost use Rattle.std.specs.Prelude.{◌≡◌, drop};
 ghost use Rattle.text_tokens.specs.code.Places.{number_read};
 ghost use Rattle.quote_kinds.specs.Kinds.{takes_rate, with_rate};
@@ -10,7 +11,7 @@ use quote_kinds::Kind;
 use text_tokens::NumberRead;
 
 // What is asked of a life; the term is a span, or of the kind `day` a date.
-#[derive(Drop)]
+#[derive(Clone, Copy)]
 pub struct Query {
     pub kind: Kind,
     pub age: i64,
@@ -19,14 +20,14 @@ pub struct Query {
 }
 
 // A kind whose word was read, with the place after it.
-#[derive(Drop)]
+#[derive(Clone, Copy)]
 pub enum KindRead {
     Malformed,
     Of(Kind, usize),
 }
 
 // A query that was read.
-#[derive(Drop)]
+#[derive(Clone, Copy)]
 pub enum QueryRead {
     Malformed,
     Of(Query),

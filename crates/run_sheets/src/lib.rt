@@ -1,4 +1,5 @@
 // Reads the sheets at the front of an input: one, or two that stand one after the other.
+#![tactic(auto)]
 ghost use Rattle.std.specs.Prelude.{◌≡◌, cond};
 ghost use Rattle.sheet_reader.specs.Front.{sheet_of, sheet_end};
 ghost use Rattle.run_sheets.specs.Front.{in_turn, by_number, stopped, front_of};
@@ -11,7 +12,7 @@ use sheet_reader::MOST_BYTES;
 
 // What stands at the front of an input: one sheet, or two. Of two that are both refused, the first is named in turn, and by
 // number the one with the lower number.
-#[derive(Drop)]
+#[derive(Clone, Copy)]
 pub enum Sheets {
     One,
     InTurn,
@@ -20,7 +21,7 @@ pub enum Sheets {
 
 // The sets at the front of an input and the place after them; where it is refused, the number of the sheet that is, or 0
 // where no sheet is named.
-#[derive(Drop)]
+#[derive(Clone, Copy)]
 pub struct Front {
     pub refusal: Refusal,
     pub named: u64,

@@ -1,4 +1,5 @@
 // Standard input read to its end, and standard output written whole. Where that fails, one line on standard error says why.
+#![tactic(auto)]
 ghost use Rattle.std.specs.Prelude.{◌≤◌, length};
 ghost use Rattle.run_streams.specs.code.Streams.{ReadIn};
 
@@ -8,7 +9,7 @@ use libc::{EINTR, STDIN_FILENO, STDOUT_FILENO};
 const TRIES: usize = 1000;
 
 // What came of reading: so many bytes, none at the end of the input, or that it failed.
-#[derive(Drop)]
+#[derive(Clone, Copy)]
 pub enum Input {
     Read(usize),
     Failed,

@@ -1,5 +1,6 @@
 // A target's line, `age=… target=…` and a line feed, read from its bytes, and the answer to it, written into a buffer that the
 // caller lends.
+#![tactic(auto)]
 ghost use Rattle.std.specs.Prelude.{◌≡◌, ◌+◌, ◌^◌, ◌≤◌, ◌<◌, T, nat_abs, length};
 ghost use Rattle.text_tokens.specs.Number.{most_digits};
 ghost use Rattle.text_printing.specs.code.Put.{Room, Put};
@@ -13,14 +14,14 @@ use set_refusal::Refusal;
 use text_tokens::NumberRead;
 
 // What is asked: an age, and an expectancy in units of 10^-9.
-#[derive(Drop)]
+#[derive(Clone, Copy)]
 pub struct TargetQuery {
     pub age: i64,
     pub target: i64,
 }
 
 // A target's line that was read.
-#[derive(Drop)]
+#[derive(Clone, Copy)]
 pub enum TargetQueryRead {
     Malformed,
     Of(TargetQuery),

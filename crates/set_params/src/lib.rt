@@ -1,17 +1,18 @@
 // The parameter set of a sheet, and the years of the table.
+#![tactic(auto)]
 ghost use Rattle.std.specs.Prelude.{◌≡◌, ◌<◌, pos, ◌≤ℤ◌};
 ghost use Rattle.set_params.specs.Set.{ages, year_number, blank};
 ghost use Rattle.set_params.specs.code.Runs.{four_at};
 
 // The table that a set came from.
-#[derive(Drop)]
+#[derive(Clone, Copy)]
 pub enum Table {
     Ag2014,
     LiLee,
 }
 
 // A label only.
-#[derive(Drop)]
+#[derive(Clone, Copy)]
 pub enum Sex {
     M,
     F,
@@ -34,7 +35,7 @@ pub const LAST_YEARS: i64 = 171;
 
 // The parameters of one sheet. In the model's letters: level is A, slope is B, period is K in the start year, kappa
 // is k.
-#[derive(Drop)]
+#[derive(Clone, Copy)]
 pub struct Params {
     pub table: Table,
     pub sex: Sex,
@@ -51,7 +52,7 @@ pub struct Params {
 }
 
 // What takes the two time series a year on: theta is added to K; kappa is multiplied by a, and c is added to it.
-#[derive(Drop)]
+#[derive(Clone, Copy)]
 pub struct Dynamics {
     pub a: i64,
     pub theta: i64,
@@ -59,7 +60,7 @@ pub struct Dynamics {
 }
 
 // The parameters of one age.
-#[derive(Drop)]
+#[derive(Clone, Copy)]
 pub struct Age {
     pub level: i64,
     pub slope: i64,

@@ -1,9 +1,10 @@
 // The refusals of the papers.
+#![tactic(auto)]
 ghost use Rattle.std.specs.Prelude.{◌≡◌};
 ghost use Rattle.set_refusal.specs.Refusals.{refusal_number, lower_refusal};
 
 // The papers' refusals, and none; where the papers have a word of the trade it is given.
-#[derive(Drop)]
+#[derive(Clone, Copy)]
 pub enum Refusal {
     Accepted,
     // "torn"

@@ -1,5 +1,6 @@
 // What reading and writing a sheet gives, and the reading of a line and of four in a row. What the bytes of a sheet mean is in
 // specs/.
+#![tactic(auto)]
 ghost use Rattle.text_words.specs.code.ShortText.{Sized};
 ghost use Rattle.sheet.specs.code.Lines.{LineOf, FourOf};
 
@@ -9,21 +10,21 @@ use text_tokens::NumberRead;
 use text_words::Short;
 
 // What reading a sheet gives.
-#[derive(Drop)]
+#[derive(Clone, Copy)]
 pub struct Reading {
     pub refusal: Refusal,
     pub set: Params,
 }
 
 // What writing a sheet gives.
-#[derive(Drop)]
+#[derive(Clone, Copy)]
 pub struct Written {
     pub refusal: Refusal,
     pub len: usize,
 }
 
 // The numbers of four lines that were read, after the place that follows the lines.
-#[derive(Drop)]
+#[derive(Clone, Copy)]
 pub enum FourRead {
     Malformed,
     Four(usize, i64, i64, i64, i64),

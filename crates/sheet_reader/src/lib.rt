@@ -1,4 +1,5 @@
 // Reads a parameter sheet.
+#![tactic(auto)]
 ghost use Rattle.std.specs.Prelude.{◌≡◌, cond, [], drop};
 ghost use Rattle.text_tokens.specs.Text.{malformed, taken};
 ghost use Rattle.set_refusal.specs.declared.Refusal.TheVariants.{Malformed};
@@ -28,7 +29,7 @@ const AG2014_LINES: usize = 370;
 const LILEE_LINES: usize = 372;
 
 // The sheet that begins an input, and the place after it.
-#[derive(Drop)]
+#[derive(Clone, Copy)]
 pub struct First {
     pub sheet: Reading,
     pub next: usize,

@@ -1,4 +1,5 @@
 // Reads the lines after a parameter sheet's first two into a set: those of the series, of the start and c, and of ages 0 to 90.
+#![tactic(auto)]
 ghost use Rattle.std.specs.Prelude.{◌≡◌, false, ◌++◌, ◌<◌, drop};
 ghost use Rattle.text_words.specs.code.ShortText.{Holds};
 ghost use Rattle.text_tokens.specs.Text.{bytes_of};
@@ -17,7 +18,7 @@ use text_tokens::NumberRead;
 use text_words::Short;
 
 // A set that was read, and the place that follows its lines, where nothing was malformed.
-#[derive(Drop)]
+#[derive(Clone, Copy)]
 pub struct SetRead {
     pub ok: bool,
     pub next: usize,
@@ -25,7 +26,7 @@ pub struct SetRead {
 }
 
 // The start and c that were read, after the place that follows their lines.
-#[derive(Drop)]
+#[derive(Clone, Copy)]
 pub enum StartRead {
     Malformed,
     Start(usize, i64, i64),
@@ -60,8 +61,8 @@ fn age_at(bytes: &[u8], at: usize, x: usize) -> FourRead
     ensures { four_read bytes.now result ≡ read_lines (age_keys x) (drop at bytes.now) }
 {
     let age = age_text(x);
-    let level = text_words::joined(text_words::two(b'_a', b'.'), age);
-    let slope = text_words::joined(text_words::two(b'_b', b'.'), age);
+    let level = text_words::joined(text_words::two(b'A', b'.'), age);
+    let slope = text_words::joined(text_words::two(b'B', b'.'), age);
     let alpha = text_words::joined(text_words::three(b'a', b'l', b'.'), age);
     let beta = text_words::joined(text_words::three(b'b', b'e', b'.'), age);
     sheet::four_at(bytes, at, level, slope, alpha, beta)
@@ -137,7 +138,7 @@ pub fn set_at(bytes: &[u8], at: usize, table: Table, sex: Sex) -> SetRead
             text_words::three(b't', b'h', b'e'),
             text_words::three(b't', b'a', b'='),
         ),
-        text_words::two(b'_k', b'='),
+        text_words::two(b'K', b'='),
         text_words::two(b'k', b'='),
     ) else {
         return none();

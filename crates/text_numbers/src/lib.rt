@@ -1,5 +1,6 @@
 // Reading the numbers of which a sheet and a query line are made. Their digits are counted and worked a word of eight bytes at a
 // time.
+#![tactic(auto)]
 ghost use Rattle.std.specs.Prelude.{◌≡◌, ◌≤◌, ◌<◌, map, length, get_or};
 ghost use Rattle.text_words.specs.code.Word.{word_bytes, bytes_in, word_of, Below};
 ghost use Rattle.text_tokens.specs.Number.{digits};
@@ -15,10 +16,10 @@ use text_tokens::{Digits, NumberRead, UnsignedRead};
 fn marks(word: u64) -> u64
     ensures { result ≡ word_of (map mark (bytes_in word_bytes word)) }
 {
-    let low = word & 0x7_f7_f_7_f7_f_7_f7_f_7_f7_f;
+    let low = word & 0x7F7F_7F7F_7F7F_7F7F;
     let past_nine = low + 0x4646_4646_4646_4646;
     let from_zero = low + 0x5050_5050_5050_5050;
-    (past_nine | word | (from_zero ^ 0x_fFFF_fFFF_fFFF_fFFF)) & 0x8080_8080_8080_8080
+    (past_nine | word | (from_zero ^ 0xFFFF_FFFF_FFFF_FFFF)) & 0x8080_8080_8080_8080
 }
 
 // How many digits there are at the front: eight bits below the first mark for each.
@@ -34,7 +35,7 @@ fn packed(t: u64) -> u64
     requires { Below 10 (bytes_in word_bytes t) }
     ensures { result ≡ numeral 10 0 (bytes_in word_bytes t) }
 {
-    let twos = (t & 0x00_fF_00_fF_00_fF_00_fF) * 10 + ((t >> 8) & 0x00_fF_00_fF_00_fF_00_fF);
+    let twos = (t & 0x00FF_00FF_00FF_00FF) * 10 + ((t >> 8) & 0x00FF_00FF_00FF_00FF);
     let fours = (twos & 0x0000_FFFF_0000_FFFF) * 100 + ((twos >> 16) & 0x0000_FFFF_0000_FFFF);
     (fours & 0x0000_0000_FFFF_FFFF) * 10000 + ((fours >> 32) & 0x0000_0000_FFFF_FFFF)
 }
@@ -47,7 +48,7 @@ fn value_of(word: u64, n: usize) -> u64
     if n == 0 {
         return 0;
     }
-    packed((word << (64 - 8 * n)) & 0x0_f0_f_0_f0_f_0_f0_f_0_f0_f)
+    packed((word << (64 - 8 * n)) & 0x0F0F_0F0F_0F0F_0F0F)
 }
 
 // The digits from a place on, at most 16: one more than a number has, so that one too many is seen. They are counted and worked

@@ -1,4 +1,5 @@
 // Reading the texts of which a sheet and a query line are made, a word at a time and byte by byte, and digits byte by byte.
+#![tactic(auto)]
 ghost use Rattle.std.specs.Prelude.{◌≡◌, [], ◌∷◌, ◌-◌};
 ghost use Rattle.text_tokens.specs.code.Places.{text_at};
 ghost use Rattle.text_tokens.specs.code.Unsigned.{DigitsRead};
@@ -7,21 +8,21 @@ ghost use Rattle.text_words.specs.code.ShortText.{Sized, text_of};
 use text_words::Short;
 
 // A number that was read, with the place after it.
-#[derive(Drop)]
+#[derive(Clone, Copy)]
 pub enum NumberRead {
     Malformed,
     Number(i64, usize),
 }
 
 // A number without its sign that was read, with the place after it.
-#[derive(Drop)]
+#[derive(Clone, Copy)]
 pub enum UnsignedRead {
     Malformed,
     Unsigned(u64, usize),
 }
 
 // Digits that were read: how many, and the number that they stand for.
-#[derive(Drop)]
+#[derive(Clone, Copy)]
 pub struct Digits {
     pub count: usize,
     pub value: u64,

@@ -1,4 +1,5 @@
 // Words of eight bytes: read at a place of a slice, compared and taken apart; and texts of at most eight bytes held as words.
+#![tactic(auto)]
 ghost use Rattle.std.specs.Prelude.{◌≡◌, [], ◌∷◌, ◌++◌, ◌+◌, ◌<◌, ◌≤◌, length, take, drop};
 ghost use Rattle.text_words.specs.code.Word.{word_bytes, bytes_in};
 ghost use Rattle.text_words.specs.code.ShortText.{Holds, Joins, Tells, text_of};
@@ -7,7 +8,7 @@ ghost use Rattle.text_words.specs.code.ShortText.{Holds, Joins, Tells, text_of};
 pub const BYTES: usize = 8;
 
 // A text of at most eight bytes: its bytes as a word, the first lowest, and how many they are.
-#[derive(Drop)]
+#[derive(Clone, Copy)]
 pub struct Short {
     pub word: u64,
     pub len: usize,
