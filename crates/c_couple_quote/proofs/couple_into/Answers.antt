@@ -1,0 +1,25 @@
+-- `couple_into` meets its contract: malformed where the word is, else the numbers of the sheets' answer.
+use borrow.Author.Rules.{rules}
+use mathlib.Core.Path.{sym, ap, ◌∙◌}
+use mir.Facts.{to_z-of_z}
+use Rattle.run_couple_query.specs.code.Code.{couple_kind_read}
+use Rattle.c_couple_quote.specs.laws.CoupleLaws.{put-malformed, put-taken}
+use Rattle.c_couple_quote.proofs.couple_into.Goals as goal
+
+pub returns-in_default : goal.returns-in_default
+returns-in_default c =
+    let t = c.before in
+    let k = t.before.before in
+    put-malformed _ _ _ _ _ _ _ (sym k.couple_kind_of.ensures ∙ ap (couple_kind_read _) t.enum_told-1.given.1)
+    c.refusal_number.ensures
+
+pub returns : goal.returns
+returns c =
+    let p = c.before.before in
+    let a = p.before in
+    let k = a.before.before.before in
+    let w = k.before.before in
+    let f = w.before.before.before.before.before.ranges in
+    put-taken _ _ _ _ _ _ _ (sym w.couple_kind_of.ensures ∙ ap (couple_kind_read _) k.kind-1.given.1)
+    (rw (to_z-of_z f.age, to_z-of_z f.other, to_z-of_z f.year, to_z-of_z f.span) at a.sheets_answer.ensures)
+    p.put_answer.ensures

@@ -1,0 +1,10 @@
+-- `is_label` meets its contract: the tests are of the number's bits.
+use mathlib.Core.Path.{sym}
+use Rattle.c_set_numbers.specs.laws.AnswerLaws.{label-zero, label-other}
+use Rattle.c_set_numbers.proofs.is_label.Goals as goal
+
+pub returns-then-v-eq0 : goal.returns-then-v-eq0
+returns-then-v-eq0 c = sym (label-zero _ c.before.ranges.v c.if-v-eq0.true)
+
+pub returns : goal.returns
+returns c = label-other _ c.before.ranges.v c.if-v-eq0.false

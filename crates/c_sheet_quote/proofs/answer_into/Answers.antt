@@ -1,0 +1,22 @@
+-- `answer_into` meets its contract: malformed where no kind was read, else the numbers of the answer.
+use borrow.Author.Rules.{rules}
+use mathlib.Core.Path.{ap}
+use mathlib.Core.List.{[]}
+use mir.Facts.{to_z-of_z}
+use Rattle.run_query.specs.code.Code.{kind_read}
+use Rattle.c_sheet_quote.specs.laws.AnswerLaws.{put-malformed, put-taken}
+use Rattle.c_sheet_quote.proofs.answer_into.Goals as goal
+
+pub returns-in_default : goal.returns-in_default
+returns-in_default c =
+    put-malformed _ _ _ _ _ (ap (kind_read []) c.before.enum_told-1.given.1) c.refusal_number.ensures
+
+pub returns : goal.returns
+returns c =
+    let p = c.before.before in
+    let a = p.before in
+    let k = a.before.before.before in
+    let f = k.before.before.before.before.ranges in
+    put-taken _ _ _ _ _ (ap (kind_read []) k.read-1.given.1)
+    (rw (to_z-of_z f.age, to_z-of_z f.year, to_z-of_z f.term) at a.sheet_answer.ensures)
+    p.put_answer.ensures

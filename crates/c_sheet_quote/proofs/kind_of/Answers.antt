@@ -1,0 +1,37 @@
+-- `kind_of` meets its contract: malformed where the kind takes a rate or a date.
+use borrow.Author.Rules.{rules}
+use mathlib.Core.Path.{sym, ap, ◌∙◌}
+use Rattle.quote_kinds.specs.declared.Rule.{Rule}
+use Rattle.run_query.proofs.QuerySteps as steps
+use Rattle.c_sheet_quote.specs.laws.AnswerLaws.{kind-malformed, rate-wanting, date-wanting, span-given}
+use Rattle.c_sheet_quote.proofs.kind_of.Goals as goal
+
+pub returns-in_default : goal.returns-in_default
+returns-in_default c =
+    let k = c.before.before in
+    sym (kind-malformed _ (steps.kind-malformed _ k.word_kind.ensures c.enum_told-1.given.1))
+
+pub returns-then-takes_rate : goal.returns-then-takes_rate
+returns-then-takes_rate c =
+    let t = c.before in
+    let k = t.before.before in
+    let word = steps.kind-taken _ k.before.before.word_kind.ensures k.kind-1.given.1 in
+    sym (rate-wanting _ word (sym t.takes_rate.ensures ∙ c.if-takes_rate.true))
+
+pub returns-then-rule : goal.returns-then-rule
+returns-then-rule c =
+    let r = c.before in
+    let t = r.before.before in
+    let k = t.before.before in
+    let word = steps.kind-taken _ k.before.before.word_kind.ensures k.kind-1.given.1 in
+    let dated = ap (λ (q : Rule). q.dated) (sym r.rule_of-rule.ensures) in
+    sym (date-wanting _ word (sym t.takes_rate.ensures ∙ r.before.if-takes_rate.false) (dated ∙ c.if-rule.true))
+
+pub returns : goal.returns
+returns c =
+    let r = c.before in
+    let t = r.before.before in
+    let k = t.before.before in
+    let word = steps.kind-taken _ k.before.before.word_kind.ensures k.kind-1.given.1 in
+    let dated = ap (λ (q : Rule). q.dated) (sym r.rule_of-rule.ensures) in
+    sym (span-given _ word (sym t.takes_rate.ensures ∙ r.before.if-takes_rate.false) (dated ∙ c.if-rule.false))

@@ -1,0 +1,13 @@
+-- `put_quote` meets its contract: short, or the five numbers.
+use borrow.Author.Rules.{rules}
+use native.Mathlib.Omega.{arith}
+use Rattle.c_sheet_quote.specs.laws.AnswerLaws.{put-short, put_whole}
+use Rattle.c_sheet_quote.proofs.put_quote.Goals as goal
+
+pub returns-then-numbers-lt-QUOTE_LENGTH : goal.returns-then-numbers-lt-QUOTE_LENGTH
+returns-then-numbers-lt-QUOTE_LENGTH c = put-short _ _ (omega (arith, c.before.if-numbers-lt-QUOTE_LENGTH.true)) c.refusal_number.ensures
+
+pub returns : goal.returns
+returns c =
+    let p = c.before.before.before in
+    put_whole _ _ (omega (arith, p.before.before.if-numbers-lt-QUOTE_LENGTH.false)) c.refusal_number-2.ensures p.put_five.ensures

@@ -1,0 +1,14 @@
+-- `quote_into` meets its contract: the answer of the kind that was read of the word, a kind that takes no rate.
+use borrow.Author.Rules.{rules}
+use mir.Facts.{to_z-of_z}
+use Rattle.c_sheet_quote.specs.laws.AnswerLaws.{put-read}
+use Rattle.c_sheet_quote.proofs.quote_into.Goals as goal
+
+pub returns : goal.returns
+returns c =
+    let a = c.before.before in
+    let k = a.before.before in
+    let start = k.before.before.before.before in
+    let f = start.ranges in
+    put-read _ _ _ _ _ k.kind_of.result k.kind_of.ensures start.args.numbers-1.now
+    (rw (to_z-of_z f.age, to_z-of_z f.year, to_z-of_z f.span) at a.answer_into.ensures)

@@ -1,0 +1,37 @@
+-- `word_kind` meets its contract: the kind at the front of the word, where nothing follows it.
+use borrow.Author.Rules.{rules}
+use mathlib.Core.Path.{◌≡◌, sym}
+use Prim.Native.Nat.{ℕ}
+use native.Mathlib.Omega.{arith}
+use lib.ListN.{drop}
+use Rattle.text_tokens.specs.Text.{taken}
+use Rattle.run_query.specs.Query.{word_of, on_offer, read_word}
+use Rattle.run_query.proofs.QuerySteps.{no_word, word-goes-on, word-ends, kind-malformed, kind-taken}
+use Rattle.c_sheet_quote.specs.SheetQuote.{word_kind}
+use Rattle.c_sheet_quote.proofs.word_kind.Goals as goal
+
+abbrev called : goal.In-Of → goal.After-kind_at
+called c = c.before.before.before
+
+-- the place after the word
+abbrev after : goal.In-Of → ℕ
+after c = c.before.kind-1.given.0.1.0
+
+-- the word's kind, and what follows it
+word-taken : (c : goal.In-Of) → let w = (called c).before.before.args.word.now in
+    read_word word_of on_offer w ≡ taken c.before.kind-1.given.0.0 (drop (after c) w)
+word-taken c = kind-taken _ (called c).kind_at.ensures c.before.kind-1.given.1
+
+pub returns-in_default : goal.returns-in_default
+unfolding word_kind
+returns-in_default c =
+    let k = c.before.before in
+    sym (no_word _ _ _ (kind-malformed _ k.kind_at.ensures c.enum_told-1.given.1))
+
+pub returns-then-end-word : goal.returns-then-end-word
+unfolding word_kind
+returns-then-end-word c = let k = c.before in sym (word-goes-on _ _ _ (after k) (word-taken k) (omega (arith, c.if-end-word.true)))
+
+pub returns : goal.returns
+unfolding word_kind
+returns c = let k = c.before in sym (word-ends _ _ _ (after k) (word-taken k) (omega (arith, c.if-end-word.false)))

@@ -1,0 +1,26 @@
+-- `put_target` meets its contract: what was found and the year into the two places, or a refusal's number.
+use borrow.Author.Rules.{rules}
+use mathlib.Core.Path.{refl, sym}
+use mir.Facts.{to_z-of_z}
+use Rattle.c_target_year.specs.SheetTarget.{target_no, found_after, year_after}
+use Rattle.c_target_year.specs.laws.TargetLaws.{put_same}
+use Rattle.c_target_year.proofs.put_target.Goals as goal
+
+pub returns-in-Reached : goal.returns-in-Reached
+unfolding target_no found_after year_after
+returns-in-Reached c =
+    let k = c.before in
+    put_same _ _ (sym k.before.answer-1.given.1)
+    (c.refusal_number.ensures, (refl, to_z-of_z (record { sfits = k.known_told-1.given.0.1 })))
+
+pub returns-in-Open : goal.returns-in-Open
+unfolding target_no found_after year_after
+returns-in-Open c = put_same _ _ (sym c.before.enum_told-1.given.1) (c.refusal_number-in-Open.ensures, (refl, refl))
+
+pub returns-in-Never : goal.returns-in-Never
+unfolding target_no found_after year_after
+returns-in-Never c = put_same _ _ (sym c.before.enum_told-in-Never-1.given.1) (c.refusal_number-in-Never.ensures, (refl, refl))
+
+pub returns-in-Refused : goal.returns-in-Refused
+unfolding target_no found_after year_after
+returns-in-Refused c = put_same _ _ (sym c.before.before.answer-in-Refused-1.given.1) (c.refusal_number-in-Refused.ensures, (refl, refl))

@@ -1,0 +1,11 @@
+-- `target_into` meets its contract: the answer by the sheet, put into the two places.
+use borrow.Author.Rules.{rules}
+use mir.Facts.{to_z-of_z}
+use Rattle.c_target_year.specs.laws.TargetLaws.{put_same}
+use Rattle.c_target_year.proofs.target_into.Goals as goal
+
+pub returns : goal.returns
+returns c =
+    let a = c.before in
+    let f = a.before.before.before.before.ranges in
+    put_same _ _ (rw (to_z-of_z f.age, to_z-of_z f.target) at a.sheet_target.ensures) c.put_target.ensures

@@ -1,0 +1,10 @@
+-- `kulfizan_day` meets its contract, which is that of the call below it.
+use borrow.Author.Rules.{rules}
+use mir.Facts.{to_z-of_z}
+use Rattle.kulfizan.proofs.kulfizan_day.Goals as goal
+
+pub returns : goal.returns
+returns c =
+    let q = c.before.before in
+    let f = q.before.before.before.before.ranges in
+    rw (to_z-of_z f.age, to_z-of_z f.year, to_z-of_z f.date) at q.day_into.ensures

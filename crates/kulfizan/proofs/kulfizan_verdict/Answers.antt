@@ -1,0 +1,7 @@
+-- `kulfizan_verdict` meets its contract, which is that of the call below it.
+use borrow.Author.Rules.{rules}
+use mir.Facts.{to_z-of_z}
+use Rattle.kulfizan.proofs.kulfizan_verdict.Goals as goal
+
+pub returns : goal.returns
+returns c = rw (to_z-of_z c.before.before.before.before.ranges.year) at c.verdict_into.ensures

@@ -1,0 +1,34 @@
+-- `exp_over` meets its contract: the exponent is rounded down and up, and its products fit.
+use mathlib.Core.Path.{ap₂, ◌∙◌}
+use Prim.Native.Nat.{ℕ, ◌*◌, ◌/◌, ◌≤◌}
+use native.Mathlib.Nat.{mul-le-mul}
+use native.Mathlib.Omega.{arith}
+use borrow.Author.Rules.{rules}
+use Rattle.number_exponential.specs.Units.{grid_of}
+use Rattle.number_exponential.specs.code.Flag.{unit_by, grid_by}
+use Rattle.number_exponential.specs.laws.GridFacts.{unit-most}
+use Rattle.number_exponential.specs.Exponential.{exp_between}
+use Rattle.number_exponential.specs.Outward.{outward_over}
+use Rattle.number_exponential.specs.Units.{grid_of}
+use Rattle.number_exponential.specs.code.Flag.{unit_by, grid_by}
+use Rattle.model_part_year.proofs.exp_over.Goals as goal
+
+-- both products are small
+products : (s : goal.Start) → let f = s.args.f in let d = s.args.days in
+    (f.lower * d ≤ (grid_by s.args.fine).unit * 366) × (f.upper * d ≤ (grid_by s.args.fine).unit * 366)
+products s = (mul-le-mul s.requires.0 s.requires.2.days, mul-le-mul s.requires.1 s.requires.2.days)
+
+pub overflow_mul-f : goal.overflow_mul-f
+overflow_mul-f c = let s = c.before in omega (arith, products s, unit-most (unit_by s.args.fine))
+
+pub overflow_mul-f-2 : goal.overflow_mul-f-2
+overflow_mul-f-2 c = let s = c.before.before in omega (arith, products s, unit-most (unit_by s.args.fine))
+
+pub ceil_div_u-requires : goal.ceil_div_u-requires
+ceil_div_u-requires c =
+    let s = c.before.before in
+    (s.requires.2.some, omega (arith, products s, unit-most (unit_by s.args.fine), s.requires.2.whole))
+
+pub returns : goal.returns
+unfolding grid_of outward_over
+returns c = c.exp_between.ensures ∙ rw c.before.ceil_div_u.ensures

@@ -1,0 +1,36 @@
+-- `compare` meets its contract, case by case.
+use borrow.Author.Rules.{rules}
+use mathlib.Core.Path.{◌≡◌, sym}
+use Rattle.quote_along.specs.declared.Quote.{Quote}
+use Rattle.quote_along.specs.declared.Answer.{Answer}
+use Rattle.quote_along.specs.declared.Answer.TheVariants.{Quoted}
+use Rattle.quote_compare.specs.code.Sizes.{SmallQuote, SmallAnswer}
+use Rattle.quote_compare.specs.laws.CompareLaws.{first-refused, second-refused, both-quoted}
+use Rattle.quote_compare.proofs.compare.Goals as goal
+
+-- the quote of an answer whose ends are small
+small-quote : {a : Answer} {q : Quote} → a ≡ Quoted q → SmallAnswer a → SmallQuote q
+unfolding SmallAnswer
+small-quote e s = rw e at s
+
+pub pair_of-requires : goal.pair_of-requires
+pair_of-requires c =
+    let s = c.before in
+    let f = s.before.before.before in
+    let p = f.before.before.requires in
+    (small-quote f.a-1.given.1 p.0, small-quote s.b-1.given.1 p.1)
+
+pub returns-in-Quoted-b : goal.returns-in-Quoted-b
+returns-in-Quoted-b c =
+    let s = c.before.before in
+    let f = s.before.before.before in
+    sym (both-quoted f.a-1.given.1 s.b-1.given.1 c.pair_of.ensures)
+
+pub returns-in-Refused-b : goal.returns-in-Refused-b
+returns-in-Refused-b c =
+    let s = c.before in
+    let f = s.before.before.before in
+    sym (second-refused f.a-1.given.1 s.b-in-Quoted-1.given.1)
+
+pub returns-in-Refused : goal.returns-in-Refused
+returns-in-Refused c = let f = c.before in sym (first-refused f.before.before.args.b-1 f.a-in-Refused-a-1.given.1)

@@ -1,0 +1,14 @@
+-- `scale_of` meets its contract, case by case.
+use borrow.Author.Rules.{rules}
+use mathlib.Core.Path.{sym, ap}
+use Rattle.number_exponential.specs.declared.GridUnit.{GridUnit}
+use Rattle.number_exponential.specs.Units.{grid_of}
+use Rattle.quote_compare.proofs.scale_of.Goals as goal
+
+pub returns-in-Coarse : goal.returns-in-Coarse
+unfolding grid_of
+returns-in-Coarse c = sym (ap (λ (u : GridUnit). (grid_of u).scale) c.enum_told-1.given.1)
+
+pub returns-in-Fine : goal.returns-in-Fine
+unfolding grid_of
+returns-in-Fine c = sym (ap (λ (u : GridUnit). (grid_of u).scale) c.enum_told-in-Fine-1.given.1)

@@ -1,0 +1,22 @@
+-- `rate_of` meets its contract, case by case.
+use borrow.Author.Rules.{rules}
+use mathlib.Core.Path.{sym, ap, ◌∙◌}
+use mir.Facts.{to_z-of_z}
+use Rattle.quote_kinds.specs.Kinds.{rate_of}
+use Rattle.quote_kinds.proofs.rate_of.Goals as goal
+
+pub returns-in-Death : goal.returns-in-Death
+unfolding rate_of
+returns-in-Death c = sym (ap rate_of c.enum_told-1.given.1)
+
+pub returns-in-Survival : goal.returns-in-Survival
+unfolding rate_of
+returns-in-Survival c = sym (ap rate_of c.enum_told-in-Survival-1.given.1)
+
+pub returns-in-Expectancy : goal.returns-in-Expectancy
+unfolding rate_of
+returns-in-Expectancy c = sym (ap rate_of c.enum_told-in-Expectancy-1.given.1)
+
+pub returns-in-Annuity : goal.returns-in-Annuity
+unfolding rate_of
+returns-in-Annuity c = to_z-of_z (record { sfits = c.known_told-1.given.0.1 }) ∙ sym (ap rate_of c.before.fold-1.given.1)

@@ -1,0 +1,39 @@
+-- `step_on` meets its contract, grid by grid.
+use borrow.Author.Rules.{rules}
+use mathlib.Core.Path.{sym, ap, ◌∙◌}
+use Prim.Native.Nat.{ℕ, ◌*◌, ◌≤◌}
+use native.Mathlib.Nat.{mul-one}
+use native.Mathlib.Omega.{arith}
+use lib.Dec.{lit≤}
+use Rattle.number_exponential.specs.Grid.{Grid}
+use Rattle.number_exponential.specs.Units.{grid_of}
+use Rattle.number_exponential.specs.code.Flag.{unit_by, grid_by}
+use Rattle.quote_paths.specs.declared.Fold.{Fold}
+use Rattle.quote_paths.specs.declared.Fold.TheVariants.{Death, Survival, Expectancy, Annuity}
+use Rattle.quote_kinds.specs.Kinds.{step_of}
+use Rattle.quote_kinds.proofs.step_on.Goals as goal
+
+step_small : (f : Fold) → step_of f ≤ 100000000
+unfolding step_of
+step_small Death = lit≤ tt
+step_small Survival = lit≤ tt
+step_small Expectancy = lit≤ tt
+step_small (Annuity rate) = lit≤ tt
+
+abbrev began : goal.After-step_of-step → goal.Start
+began c = c.before
+
+pub overflow_mul-result : goal.overflow_mul-result
+overflow_mul-result c = omega (arith, c.before.step_of_lem.ensures, step_small (began c.before).args.fold)
+
+pub returns-then-fine : goal.returns-then-fine
+unfolding grid_of unit_by
+returns-then-fine c =
+    let s = began c.before in
+    ap (λ (n : ℕ). n * 10000) c.before.step_of_lem.ensures ∙ sym (ap (λ b. step_of s.args.fold * (grid_by b).scale) c.if-fine.true)
+
+pub returns : goal.returns
+unfolding grid_of unit_by
+returns c =
+    let s = began c.before in
+    c.before.step_of_lem.ensures ∙ sym (mul-one (step_of s.args.fold)) ∙ sym (ap (λ b. step_of s.args.fold * (grid_by b).scale) c.if-fine.false)

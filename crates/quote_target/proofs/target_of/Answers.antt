@@ -1,0 +1,31 @@
+-- `target_of` meets its contract: a set out of its limits is refused, any other is answered.
+use borrow.Author.Rules.{rules}
+use borrow.Author.Tests.{not-true, not-false}
+use mathlib.Core.Path.{◌≡◌, sym, ◌∙◌}
+use lib.IntN.{ℤ}
+use mir.Facts.{to_z-of_z}
+use Rattle.set_params.specs.declared.Params.{Params}
+use Rattle.quote_target.specs.declared.TargetYear.{TargetYear}
+use Rattle.quote_target.specs.Target.{target_answer}
+use Rattle.quote_target.specs.Target.{Honest}
+use Rattle.quote_target.specs.laws.SoughtLaws.{out-of-limits}
+use Rattle.quote_target.specs.laws.Theorem.{honest}
+use Rattle.quote_target.proofs.target_of.Goals as goal
+
+-- an answer that is the definition's is honest
+met : {p : Params} {age target : ℤ} {r : TargetYear} → r ≡ target_answer p age target
+    → (r ≡ target_answer p age target) × Honest p age target r
+met {p} {age} {target} e = (e, rw e (honest p age target))
+
+pub returns-then-not-in_limits : goal.returns-then-not-in_limits
+returns-then-not-in_limits c =
+    let s = c.before.before in
+    met (out-of-limits s.args.p s.args.age s.args.target (sym c.before.in_limits.ensures ∙ not-true _ c.if-not-in_limits.true))
+
+pub target_within-requires : goal.target_within-requires
+target_within-requires c = rw (sym c.before.in_limits.ensures ∙ not-false _ c.if-not-in_limits.false) tt
+
+pub returns : goal.returns
+returns c =
+    let f = c.before.before.before.ranges in
+    met (rw (to_z-of_z f.age, to_z-of_z f.target) at c.target_within.ensures)

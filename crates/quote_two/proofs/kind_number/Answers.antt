@@ -1,0 +1,37 @@
+-- `kind_number` meets its contract, case by case.
+use borrow.Author.Rules.{rules}
+use mathlib.Core.Path.{sym, ap}
+use Rattle.quote_two.specs.code.Code.{kind_number}
+use Rattle.quote_two.proofs.kind_number.Goals as goal
+
+pub returns-in-Death : goal.returns-in-Death
+unfolding kind_number
+returns-in-Death c = sym (ap kind_number c.enum_told-1.given.1)
+
+pub returns-in-CohortSurvival : goal.returns-in-CohortSurvival
+unfolding kind_number
+returns-in-CohortSurvival c = sym (ap kind_number c.enum_told-in-CohortSurvival-1.given.1)
+
+pub returns-in-PeriodSurvival : goal.returns-in-PeriodSurvival
+unfolding kind_number
+returns-in-PeriodSurvival c = sym (ap kind_number c.enum_told-in-PeriodSurvival-1.given.1)
+
+pub returns-in-CohortExpectancy : goal.returns-in-CohortExpectancy
+unfolding kind_number
+returns-in-CohortExpectancy c = sym (ap kind_number c.enum_told-in-CohortExpectancy-1.given.1)
+
+pub returns-in-PeriodExpectancy : goal.returns-in-PeriodExpectancy
+unfolding kind_number
+returns-in-PeriodExpectancy c = sym (ap kind_number c.enum_told-in-PeriodExpectancy-1.given.1)
+
+pub returns-in-CohortAnnuity : goal.returns-in-CohortAnnuity
+unfolding kind_number
+returns-in-CohortAnnuity c = sym (ap kind_number c.enum_told-in-CohortAnnuity-1.given.1)
+
+pub returns-in-PeriodAnnuity : goal.returns-in-PeriodAnnuity
+unfolding kind_number
+returns-in-PeriodAnnuity c = sym (ap kind_number c.enum_told-in-PeriodAnnuity-1.given.1)
+
+pub returns-in-Day : goal.returns-in-Day
+unfolding kind_number
+returns-in-Day c = sym (ap kind_number c.enum_told-in-Day-1.given.1)

@@ -1,0 +1,17 @@
+-- `steps_of` meets its contract: a refusal has none, and a quote those of its figure.
+use borrow.Author.Rules.{rules}
+use mathlib.Core.Path.{sym, ap, ◌∙◌}
+use Rattle.quote_along.specs.declared.Answer.{Answer}
+use Rattle.quote.specs.Demand.{figure_shown}
+use Rattle.quote_two.specs.code.Code.{steps_shown}
+use Rattle.quote_two.proofs.steps_of.Goals as goal
+
+pub returns-in_default : goal.returns-in_default
+unfolding steps_shown figure_shown
+returns-in_default c = sym (ap (λ (a : Answer). steps_shown (figure_shown a)) c.enum_told-1.given.1)
+
+pub returns : goal.returns
+unfolding figure_shown
+returns c =
+    c.figure_steps.ensures
+    ∙ sym (ap (λ (a : Answer). steps_shown (figure_shown a)) c.before.before.answer-1.given.1)

@@ -1,0 +1,59 @@
+-- `verdict_again` meets its contract: the answer is the quote of q at that age, and the verdict that by its figure.
+use borrow.Author.Rules.{rules}
+use mathlib.Core.Path.{◌≡◌, sym, ◌∙◌}
+use Prim.Native.Nat.{ℕ, ◌<◌}
+use native.Mathlib.Omega.{arith}
+use lib.IntN.{pos}
+use mir.Syntax.{w64}
+use mir.Val.{SFits}
+use mir.Facts.{to_z-of_z}
+use Rattle.number_whole.specs.laws.Bound.{under-pos, fits}
+use Rattle.set_refusal.specs.declared.Refusal.{Refusal}
+use Rattle.quote_kinds.specs.declared.Kind.TheVariants.{Death}
+use Rattle.quote_along.specs.declared.Quote.{Quote}
+use Rattle.quote_along.specs.declared.Answer.{Answer}
+use Rattle.quote_along.specs.declared.Answer.TheVariants.{Quoted, Refused}
+use Rattle.quote.specs.Quote.{answer_of}
+use Rattle.quote.specs.Demand.{shown_of, figure_shown}
+use Rattle.quote.proofs.Steps.{for-again}
+use Rattle.quote_verdicts.specs.declared.Verdict.{Verdict}
+use Rattle.quote_verdicts.specs.declared.Verdict.TheVariants.{Right}
+use Rattle.quote_verdicts.specs.Verdict.{column_ages, figure_here, differs, is_open}
+use Rattle.quote_verdicts.specs.code.Code.{age_verdict}
+use Rattle.quote_verdicts.proofs.verdict_again.Goals as goal
+
+-- ---- by the answer
+
+none_here : (a : Answer) (m : ℕ) {r : Refusal} → a ≡ Refused r → Right ≡ age_verdict (figure_shown a) m
+unfolding age_verdict differs is_open figure_shown
+none_here a m e = rw e
+
+quoted-here : (a : Answer) (m : ℕ) {q : Quote} {v : Verdict} → a ≡ Quoted q → v ≡ age_verdict (shown_of q.figure) m
+    → v ≡ age_verdict (figure_shown a) m
+unfolding figure_shown
+quoted-here a m e f = rw e f
+
+-- ---- the code
+
+age-fits : (x : ℕ) → x < column_ages → SFits w64 (pos x)
+age-fits x l = fits (under-pos {k = column_ages} (omega arith)) tt
+
+asked : (c : goal.After-answer_within-answer) → let a = c.before.args in
+    c.answer_within-answer.result ≡ answer_of a.p Death (pos a.age) a.year (pos 0)
+asked c =
+    let s = c.before in
+    rw (to_z-of_z (age-fits s.args.age s.requires.1), to_z-of_z s.ranges.year) at c.answer_within-answer.ensures
+    ∙ for-again _ _ _ _ _
+
+pub returns-in_default : goal.returns-in_default
+unfolding figure_here
+returns-in_default c = none_here _ _ (sym (asked c.before.before) ∙ c.enum_told-1.given.1)
+
+pub returns : goal.returns
+unfolding figure_here
+returns c =
+    let k = c.before.before in
+    quoted-here _ _ (sym (asked k.before.before) ∙ k.answer-1.given.1) c.age_verdict.ensures
+
+pub overflow_cast-age : goal.overflow_cast-age
+overflow_cast-age c = age-fits c.args.age c.requires.1

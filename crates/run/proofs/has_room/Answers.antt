@@ -1,0 +1,23 @@
+-- `has_room` meets its contract: room for the answers to any lines, or for the one line.
+use borrow.Author.Rules.{rules}
+use mathlib.Core.Path.{sym, ap, ◌∙◌}
+use Prim.Native.Nat.{ℕ, ◌+◌, ◌*◌}
+use lib.Dec.{leb}
+use Rattle.run.specs.declared.Program.{Program}
+use Rattle.run.specs.Run.{run_room}
+use Rattle.run.proofs.has_room.Goals as goal
+
+pub returns-in-Lines : goal.returns-in-Lines
+unfolding run_room
+returns-in-Lines c =
+    let l = c.before in
+    let p = l.before.before in
+    let s = p.before.before.args in
+    c.fits2.ensures ∙ ap (λ (n : ℕ). leb (5 * s.input + n) s.room) l.longest_line.ensures
+    ∙ sym (ap (λ (q : Program). leb (run_room q s.input) s.room) p.program-1.given.1)
+
+pub returns-in-Verdict : goal.returns-in-Verdict
+unfolding run_room
+returns-in-Verdict c =
+    let s = c.before.before.args in
+    sym (ap (λ (q : Program). leb (run_room q s.input) s.room) c.enum_told-1.given.1)

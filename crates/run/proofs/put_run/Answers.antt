@@ -1,0 +1,39 @@
+-- `put_run` meets its contract: the run of lines, or the verdict's line.
+use borrow.Author.Rules.{rules}
+use mathlib.Core.Path.{◌≡◌, sym, ap, subst}
+use Prim.Native.Nat.{◌≤◌}
+use lib.ListN.{length}
+use Rattle.text_printing.specs.laws.PutLaws.{put_as}
+use Rattle.run.specs.declared.Program.{Program}
+use Rattle.run.specs.Run.{run_of, run_room}
+use Rattle.run.proofs.put_run.Goals as goal
+
+-- the room, of the program that was matched
+room : (s : goal.Start) {p : Program} → s.args.program-1 ≡ p
+    → run_room p (length s.args.input.now) ≤ length s.args.out-1.now
+room s e = subst (λ (p : Program). run_room p (length s.args.input.now) ≤ length s.args.out-1.now) e s.requires
+
+pub put_lines-requires : goal.put_lines-requires
+unfolding run_room
+put_lines-requires c =
+    let p = c.before.before in
+    room p.before.before.before.before p.program-1.given.1
+
+pub put_verdict-requires : goal.put_verdict-requires
+unfolding run_room
+put_verdict-requires c = let t = c.before in room t.before.before.before.before t.enum_told-1.given.1
+
+pub returns-in-Lines : goal.returns-in-Lines
+unfolding run_of
+returns-in-Lines c =
+    let p = c.before.before.before.before.before in
+    let s = p.before.before.before.before.args in
+    put_as (sym (ap (λ (q : Program). run_of q s.input.now) p.program-1.given.1)) c.before.before.put_lines.ensures
+
+pub returns-in-Verdict : goal.returns-in-Verdict
+unfolding run_of
+returns-in-Verdict c =
+    let t = c.before.before.before.before in
+    let s = t.before.before.before.before.args in
+    put_as (sym (ap (λ (q : Program). run_of q s.input.now) t.enum_told-1.given.1))
+    c.before.before.put_verdict.ensures

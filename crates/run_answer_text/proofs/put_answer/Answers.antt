@@ -1,0 +1,37 @@
+-- `put_answer` meets its contract: what follows a query that is quoted, or the refusal.
+use borrow.Author.Rules.{rules}
+use mathlib.Core.Path.{◌≡◌, sym, ap, subst}
+use Rattle.text_printing.specs.code.Put.{Room}
+use Rattle.text_printing.specs.laws.PutLaws.{put_as, room_as}
+use Rattle.quote_along.specs.declared.Answer.{Answer}
+use Rattle.run_answer_text.specs.AnswerText.{answer_text}
+use Rattle.run_answer_text.specs.code.Sizes.{SizedAnswer}
+use Rattle.run_answer_text.proofs.put_answer.Goals as goal
+
+-- what is required, of the answer that was matched
+required : (s : goal.Start) {a : Answer} → s.args.answer-1 ≡ a
+    → SizedAnswer a × Room s.args.buffer-1.now s.args.at (answer_text s.args.ends s.args.decimals a)
+required s e =
+    (subst SizedAnswer e s.requires.0, room_as (ap (answer_text s.args.ends s.args.decimals) e) s.requires.1)
+
+pub put_quote-requires : goal.put_quote-requires
+unfolding SizedAnswer answer_text
+put_quote-requires c = required c.before.before.before.before.before c.before.before.answer-1.given.1
+
+pub put_refused-requires : goal.put_refused-requires
+unfolding answer_text
+put_refused-requires c = (required c.before.before.before.before.before c.before.before.answer-in-Refused-1.given.1).1
+
+pub returns-in-Quoted : goal.returns-in-Quoted
+unfolding answer_text
+returns-in-Quoted c =
+    let s = c.before.before.before.before.before.before.before.before.args in
+    put_as (sym (ap (answer_text s.ends s.decimals) c.before.before.before.before.before.answer-1.given.1))
+    c.before.before.put_quote.ensures
+
+pub returns-in-Refused : goal.returns-in-Refused
+unfolding answer_text
+returns-in-Refused c =
+    let s = c.before.before.before.before.before.before.before.before.args in
+    put_as (sym (ap (answer_text s.ends s.decimals) c.before.before.before.before.before.answer-in-Refused-1.given.1))
+    c.before.before.put_refused.ensures

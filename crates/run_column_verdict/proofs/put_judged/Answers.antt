@@ -1,0 +1,12 @@
+-- `put_judged` meets its contract: a verdict's number into the place, or a refusal's number.
+use borrow.Author.Rules.{rules}
+use Rattle.run_column_verdict.specs.laws.VerdictLaws.{put-verdict, put_refused}
+use Rattle.run_column_verdict.proofs.put_judged.Goals as goal
+
+pub returns-in-Of : goal.returns-in-Of
+returns-in-Of c =
+    let n = c.before in
+    put-verdict _ n.before.before.judged-1.given.1 c.refusal_number.ensures n.verdict_number.ensures
+
+pub returns-in-Refused : goal.returns-in-Refused
+returns-in-Refused c = put_refused _ c.before.before.judged-in-Refused-1.given.1 c.refusal_number-in-Refused.ensures

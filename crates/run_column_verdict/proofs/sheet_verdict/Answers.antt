@@ -1,0 +1,20 @@
+-- `sheet_verdict` meets its contract: the sheet's refusal, else what is answered of the column by its set.
+use borrow.Author.Rules.{rules}
+use native.Mathlib.Omega.{arith}
+use mir.Facts.{to_z-of_z}
+use Rattle.run_column_verdict.specs.laws.VerdictLaws.{verdict-refused, verdict-given}
+use Rattle.run_column_verdict.proofs.sheet_verdict.Goals as goal
+
+pub returns-then-refusal_number-ne0 : goal.returns-then-refusal_number-ne0
+returns-then-refusal_number-ne0 c =
+    let n = c.before in
+    let r = n.before.before in
+    verdict-refused _ _ _ r.read-got.ensures n.refusal_number.ensures (λ e. omega (arith, e, c.if-refusal_number-ne0.true))
+
+pub returns : goal.returns
+returns c =
+    let n = c.before.before in
+    let r = n.before.before in
+    let f = r.before.before.before.ranges in
+    verdict-given _ _ _ r.read-got.ensures n.refusal_number.ensures (omega (arith, c.before.if-refusal_number-ne0.false))
+    (rw (to_z-of_z f.year) at c.verdict_on.ensures.0)

@@ -1,0 +1,11 @@
+-- `verdict_into` meets its contract: what is answered by the sheet, put into the place.
+use borrow.Author.Rules.{rules}
+use mir.Facts.{to_z-of_z}
+use Rattle.run_column_verdict.specs.laws.VerdictLaws.{put_same}
+use Rattle.run_column_verdict.proofs.verdict_into.Goals as goal
+
+pub returns : goal.returns
+returns c =
+    let a = c.before in
+    let f = a.before.before.before.before.ranges in
+    put_same _ (rw (to_z-of_z f.year) at a.sheet_verdict.ensures) c.put_judged.ensures

@@ -1,0 +1,35 @@
+-- `rate_at` meets its contract: the kind takes no rate, or the rate is malformed, or the kind has the rate that was read.
+use borrow.Author.Rules.{rules}
+use mathlib.Core.Path.{sym, ap, ◌∙◌}
+use lib.ListN.{drop}
+use Rattle.text_tokens.specs.Text.{bytes_of, taken}
+use Rattle.text_tokens.specs.laws.ReadLaws.{lacks, has, held, read-malformed, read_taken}
+use Rattle.quote_kinds.specs.declared.Kind.{Kind}
+use Rattle.quote_kinds.specs.Kinds.{with_rate}
+use Rattle.run_query.proofs.QuerySteps.{rate-none, rate-malformed, rate-taken}
+use Rattle.run_query.proofs.rate_at.Goals as goal
+
+pub returns-then-not-takes_rate : goal.returns-then-not-takes_rate
+returns-then-not-takes_rate c = sym (rate-none _ _ (lacks c.before.takes_rate.ensures c.if-not-takes_rate.true))
+
+pub returns-in_default : goal.returns-in_default
+unfolding bytes_of
+returns-in_default c =
+    let f = c.before.before in
+    let t = f.before.before in
+    sym
+    (rate-malformed _ _ (has t.before.takes_rate.ensures t.if-not-takes_rate.false)
+    (read-malformed _ f.field_at.ensures c.enum_told-1.given.1))
+
+pub returns : goal.returns
+unfolding bytes_of
+returns c =
+    let r = c.before.before in
+    let f = r.before.before in
+    let t = f.before.before in
+    let e = held r.rate-1.given.0.0 c.before.known_told-1.given.0.1 in
+    ap (λ (k : Kind). taken k (drop r.rate-1.given.0.1.0 t.before.before.before.args.bytes.now))
+    (c.with_rate.ensures ∙ ap (with_rate t.before.before.before.args.kind) e)
+    ∙ sym
+    (rate-taken _ _ (has t.before.takes_rate.ensures t.if-not-takes_rate.false)
+    (read_taken _ f.field_at.ensures r.rate-1.given.1))

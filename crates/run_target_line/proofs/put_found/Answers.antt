@@ -1,0 +1,64 @@
+-- `put_found` meets its contract: one text in each case.
+use borrow.Author.Rules.{rules}
+use mathlib.Core.Path.{◌≡◌, sym, ap, subst}
+use Rattle.text_tokens.specs.Text.{bytes_of}
+use Rattle.text_tokens.specs.laws.ReadLaws.{held}
+use Rattle.text_printing.specs.code.Put.{Room}
+use Rattle.text_printing.specs.laws.PutLaws.{put_of, put_as, room_as}
+use Rattle.quote_target.specs.declared.TargetYear.{TargetYear}
+use Rattle.run_target_line.specs.TargetLine.{found_text}
+use Rattle.run_target_line.specs.code.Code.{SizedFound}
+use Rattle.run_target_line.proofs.put_found.Goals as goal
+
+-- what is required, of the case that was matched
+required : (s : goal.Start) {r : TargetYear} → s.args.found-1 ≡ r
+    → SizedFound r × Room s.args.buffer-1.now s.args.at (found_text r)
+required s e = (subst SizedFound e s.requires.0, room_as (ap found_text e) s.requires.1)
+
+pub put_year-requires : goal.put_year-requires
+unfolding SizedFound found_text
+put_year-requires c =
+    let k = c.before in
+    let f = k.before in
+    rw (held f.found-1.given.0.0 k.known_told-1.given.0.1) (required f.before.before.before f.found-1.given.1)
+
+pub put_text-requires : goal.put_text-requires
+unfolding found_text bytes_of
+put_text-requires c =
+    let w = c.before.before in (required w.before.before.before w.enum_told-1.given.1).1.ranges
+
+pub put_text-requires-in-Never : goal.put_text-requires-in-Never
+unfolding found_text bytes_of
+put_text-requires-in-Never c =
+    let w = c.before.before in (required w.before.before.before w.enum_told-in-Never-1.given.1).1.ranges
+
+pub put_refused-requires : goal.put_refused-requires
+unfolding found_text
+put_refused-requires c =
+    let f = c.before.before in (required f.before.before.before f.found-in-Refused-1.given.1).1
+
+pub returns-in-Reached : goal.returns-in-Reached
+unfolding found_text
+returns-in-Reached c =
+    let k = c.before.before.before.before in
+    let f = k.before in
+    put_as (sym (ap found_text f.found-1.given.1))
+    (rw (held f.found-1.given.0.0 k.known_told-1.given.0.1) at c.before.before.put_year.ensures)
+
+pub returns-in-Open : goal.returns-in-Open
+unfolding found_text bytes_of
+returns-in-Open c =
+    put_as (sym (ap found_text c.before.before.before.before.before.enum_told-1.given.1))
+    (put_of c.before.before.put_text.ensures)
+
+pub returns-in-Never : goal.returns-in-Never
+unfolding found_text bytes_of
+returns-in-Never c =
+    put_as (sym (ap found_text c.before.before.before.before.before.enum_told-in-Never-1.given.1))
+    (put_of c.before.before.put_text-in-Never.ensures)
+
+pub returns-in-Refused : goal.returns-in-Refused
+unfolding found_text
+returns-in-Refused c =
+    put_as (sym (ap found_text c.before.before.before.before.before.found-in-Refused-1.given.1))
+    c.before.before.put_refused.ensures

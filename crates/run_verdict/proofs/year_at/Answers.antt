@@ -1,0 +1,56 @@
+-- `year_at` meets its contract: no year is found, or no line feed behind it, or both are read.
+use borrow.Author.Rules.{rules}
+use mathlib.Core.Path.{◌≡◌, sym, ◌∙◌}
+use native.Mathlib.Omega.{arith}
+use lib.ListN.{drop}
+use Rattle.text_tokens.specs.Text.{bytes_of}
+use Rattle.text_tokens.specs.laws.Steps.{goes, stops}
+use Rattle.text_tokens.specs.laws.TextLaws.{text-found, text-missing, text-room}
+use Rattle.text_tokens.specs.laws.ReadLaws.{lacks, has, held, read-malformed, read_taken}
+use Rattle.run_verdict.specs.VerdictRun.{read_year}
+use Rattle.run_verdict.specs.laws.YearLaws.{with_feed, year-steps}
+use Rattle.run_verdict.proofs.year_at.Goals as goal
+
+-- the year that was read, seen from the line feed
+abbrev named : goal.After-text_at → goal.In-Number-2
+named c = c.before.before.before
+
+abbrev start : goal.In-Number-2 → goal.Start
+start c = c.before.before.before.before.before
+
+-- what is left to be read after the year
+after-year : (c : goal.After-text_at) → let s = (start (named c)).args in let g = (named c).year-1.given.0 in
+    read_year (drop s.at s.bytes.now) ≡ with_feed g.0 (drop g.1.0 s.bytes.now)
+unfolding bytes_of
+after-year c =
+    let y = named c in
+    year-steps _ ∙ goes _ (read_taken _ y.before.before.field_at.ensures y.year-1.given.1)
+
+-- ---- the needs
+
+pub returns-in_default : goal.returns-in_default
+unfolding bytes_of
+returns-in_default c =
+    let f = c.before.before in
+    (sym (year-steps _ ∙ stops _ (read-malformed _ f.field_at.ensures c.enum_told-1.given.1)), tt)
+
+pub returns-then-not-text_at : goal.returns-then-not-text_at
+unfolding bytes_of
+returns-then-not-text_at c =
+    let t = c.before in
+    (sym (after-year t ∙ stops _ (text-missing _ _ (bytes_of "\n") (lacks t.text_at.ensures c.if-not-text_at.true))), tt)
+
+pub overflow_add-result : goal.overflow_add-result
+overflow_add-result c =
+    let t = c.before in
+    omega (arith, (start (named t)).ranges, text-room _ _ _ (has t.text_at.ensures c.if-not-text_at.false))
+
+pub returns : goal.returns
+unfolding bytes_of
+returns c =
+    let t = c.before in
+    let h = has t.text_at.ensures c.if-not-text_at.false in (
+      rw (held (named t).year-1.given.0.0 t.before.before.known_told-1.given.0.1)
+          (sym (after-year t ∙ goes _ (text-found _ _ (bytes_of "\n") h))),
+      omega (arith, text-room _ _ (bytes_of "\n") h),
+    )

@@ -1,0 +1,31 @@
+-- `put_table` meets its contract: the line of either table.
+use borrow.Author.Rules.{rules}
+use mathlib.Core.Path.{sym, ap}
+use Rattle.text_tokens.specs.Text.{bytes_of}
+use Rattle.sheet.specs.Sheet.{table_text}
+use Rattle.text_printing.specs.laws.PutLaws.{put_of, put_as, room_as}
+use Rattle.sheet_line_writer.proofs.put_table.Goals as goal
+
+pub put_text-requires : goal.put_text-requires
+unfolding table_text bytes_of
+put_text-requires c =
+    let t = c.before.before in
+    (room_as (ap table_text t.enum_told-1.given.1) t.before.before.before.requires).ranges
+
+pub put_text-requires-in-LiLee : goal.put_text-requires-in-LiLee
+unfolding table_text bytes_of
+put_text-requires-in-LiLee c =
+    let t = c.before.before in
+    (room_as (ap table_text t.enum_told-in-LiLee-1.given.1) t.before.before.before.requires).ranges
+
+pub returns-in-Ag2014 : goal.returns-in-Ag2014
+unfolding table_text bytes_of
+returns-in-Ag2014 c =
+    let t = c.before.before.before.before.before in
+    put_as (sym (ap table_text t.enum_told-1.given.1)) (put_of c.before.before.put_text.ensures)
+
+pub returns-in-LiLee : goal.returns-in-LiLee
+unfolding table_text bytes_of
+returns-in-LiLee c =
+    let t = c.before.before.before.before.before in
+    put_as (sym (ap table_text t.enum_told-in-LiLee-1.given.1)) (put_of c.before.before.put_text-in-LiLee.ensures)

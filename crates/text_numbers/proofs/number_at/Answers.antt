@@ -1,0 +1,65 @@
+-- `number_at` meets its contract: past the end nothing stands, after a minus the number without its sign is negated and
+-- 0 is malformed, else it is taken as it is; it is below 10¹⁵, so nothing overflows.
+use mathlib.Core.Path.{sym}
+use Prim.Native.Nat.{◌^◌, ◌<◌}
+use native.Mathlib.Omega.{arith}
+use borrow.Author.Rules.{rules}
+use lib.ListN.{get_or}
+use Rattle.text_tokens.specs.Number.{most_digits}
+use Rattle.text_tokens.proofs.NumberSteps.{number_past, minus-most, sign-malformed, sign-none, sign_zero, sign-minus}
+use Rattle.text_tokens.proofs.NumberSteps.{unsigned_small, positive-fits, minus-fits}
+use Rattle.text_numbers.proofs.number_at.Goals as goal
+
+-- the number without its sign that was read
+small : (c : goal.In-Unsigned-2) → c.value-1.given.0.0 < 10 ^ most_digits
+small c =
+    let called = c.before.before in
+    unsigned_small _ _ called.unsigned_at.ensures c.value-1.given.1
+
+pub returns-then-bytes-at : goal.returns-then-bytes-at
+returns-then-bytes-at c = sym (number_past _ _ (omega arith))
+
+pub overflow_add-at : goal.overflow_add-at
+overflow_add-at c =
+    let start = c.before.before.before in
+    omega (arith, c.minus_at-minus.ensures, minus-most (get_or start.args.bytes.now start.args.at 0))
+
+pub returns-in_default : goal.returns-in_default
+returns-in_default c =
+    let called = c.before.before in
+    sym
+    (sign-malformed _ _ (omega arith) called.before.minus_at-minus.ensures called.unsigned_at.ensures
+    c.enum_told-1.given.1)
+
+pub overflow_cast-result : goal.overflow_cast-result
+overflow_cast-result c = positive-fits _ (small c.before.before)
+
+pub returns-then-minus-eq0 : goal.returns-then-minus-eq0
+returns-then-minus-eq0 c =
+    let read = c.before.before in
+    let called = read.before.before in
+    sym
+    (sign-none _ _ (omega arith) called.before.minus_at-minus.ensures called.unsigned_at.ensures read.value-1.given.1
+    c.if-minus-eq0.true)
+
+pub returns-then-value-eq0 : goal.returns-then-value-eq0
+returns-then-value-eq0 c =
+    let read = c.before.before.before in
+    let called = read.before.before in
+    sym
+    (sign_zero _ _ (omega arith) called.before.minus_at-minus.ensures called.unsigned_at.ensures read.value-1.given.1
+    c.before.if-minus-eq0.false c.if-value-eq0.true)
+
+pub overflow_cast-result-2 : goal.overflow_cast-result-2
+overflow_cast-result-2 c = positive-fits _ (small c.before.before.before)
+
+pub overflow_sub-result : goal.overflow_sub-result
+overflow_sub-result c = minus-fits _ (small c.before.before.before)
+
+pub returns : goal.returns
+returns c =
+    let read = c.before.before.before in
+    let called = read.before.before in
+    sym
+    (sign-minus _ _ (omega arith) called.before.minus_at-minus.ensures called.unsigned_at.ensures read.value-1.given.1
+    c.before.if-minus-eq0.false c.if-value-eq0.false)

@@ -1,0 +1,14 @@
+use mathlib.Core.Path.{◌≡◌, ap}
+use Prim.Native.Nat.{◌+◌, ◌^◌, ◌<◌}
+use native.Mathlib.Omega.{arith}
+use lib.ListN.{length, length-append}
+use Rattle.text_tokens.specs.Number.{most_digits, unsigned_text}
+use Rattle.text_printing.specs.laws.NumberLengths.{text-small, text-step, unsigned-length}
+use Rattle.text_printing.proofs.digit_count.Given as goal
+
+abbrev pub invariant-loop-rest : goal.invariant-loop-rest
+invariant-loop-rest l =
+    (l.rest < 10 ^ most_digits) × (l.count + length (unsigned_text l.rest) ≡ 1 + length (unsigned_text l.n))
+
+abbrev pub decreases-loop-rest : goal.decreases-loop-rest
+decreases-loop-rest l = l.rest

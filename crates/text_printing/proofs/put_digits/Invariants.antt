@@ -1,0 +1,11 @@
+use native.Mathlib.Omega.{arith}
+use lib.ListN.{length-set}
+use Rattle.text_printing.specs.laws.NumberLengths.{unsigned-length}
+use Rattle.text_printing.proofs.Tail.{Tail, tail_none, tail_within, tail-further, tail_more, tail-last}
+use Rattle.text_printing.proofs.put_digits.Given as goal
+
+abbrev pub invariant-loop-rest : goal.invariant-loop-rest
+invariant-loop-rest l = Tail l.initial.buffer l.at l.n l.buffer l.place l.rest
+
+abbrev pub decreases-loop-rest : goal.decreases-loop-rest
+decreases-loop-rest l = l.rest
