@@ -15,7 +15,7 @@ returns-in-Quote c =
     let q = c.before.before in
     let t = q.before.before in
     let f = (start t.before.before).fits in
-    called _ _ _ _ _ t.enum_told-1.given.1 _
+    called _ _ _ _ _ t.in-Quote.is _
     (rw (to_z-of_z f.age, to_z-of_z f.year, to_z-of_z f.term) at q.kulfizan_quote.ensures)
 
 pub returns-in-Annuity : goal.returns-in-Annuity
@@ -24,7 +24,7 @@ returns-in-Annuity c =
     let q = c.before.before in
     let t = q.before.before in
     let f = (start t.before.before.before).fits in
-    called _ _ _ _ _ t.before.call-1.given.1 _
+    called _ _ _ _ _ t.before.in-Annuity.is _
     (rw (to_z-of_z f.age, to_z-of_z f.year, to_z-of_z f.term, to_z-of_z (record { sfits = t.known_told-1.given.0.1 })) at
     q.kulfizan_annuity.ensures)
 
@@ -34,5 +34,5 @@ returns-in-Day c =
     let q = c.before.before in
     let t = q.before.before in
     let f = (start t.before.before).fits in
-    called _ _ _ _ _ t.enum_told-in-Day-1.given.1 _
+    called _ _ _ _ _ t.in-Day.is _
     (rw (to_z-of_z f.age, to_z-of_z f.year, to_z-of_z f.term) at q.kulfizan_day.ensures)

@@ -10,7 +10,7 @@ pub returns-in_default : goal.returns-in_default
 returns-in_default c =
     let t = c.before in
     let k = t.before.before in
-    put-malformed _ _ _ _ _ _ _ (sym k.couple_kind_of.ensures ∙ ap (couple_kind_read _) t.enum_told-1.given.1)
+    put-malformed _ _ _ _ _ _ _ (sym k.couple_kind_of.ensures ∙ ap (couple_kind_read _) t.in_default.is)
     c.refusal_number.ensures
 
 pub returns : goal.returns
@@ -20,6 +20,6 @@ returns c =
     let k = a.before.before.before in
     let w = k.before.before in
     let f = w.before.before.before.before.before.ranges in
-    put-taken _ _ _ _ _ _ _ (sym w.couple_kind_of.ensures ∙ ap (couple_kind_read _) k.kind-1.given.1)
+    put-taken _ _ _ _ _ _ _ (sym w.couple_kind_of.ensures ∙ ap (couple_kind_read _) k.in-Of.is)
     (rw (to_z-of_z f.age, to_z-of_z f.other, to_z-of_z f.year, to_z-of_z f.span) at a.sheets_answer.ensures)
     p.put_answer.ensures

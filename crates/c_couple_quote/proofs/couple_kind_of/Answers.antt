@@ -17,18 +17,18 @@ called c = c.before.before.before
 
 -- the place after the word
 abbrev after : goal.In-Of → ℕ
-after c = c.before.kind-1.given.0.1.0
+after c = c.before.in-Of.end
 
 -- the word's kind, and what follows it
 word-taken : (c : goal.In-Of) → let w = (called c).before.before.args.word.now in
-    read_word couple_word couples_on_offer w ≡ taken c.before.kind-1.given.0.0 (drop (after c) w)
-word-taken c = sym (called c).couple_kind_at.ensures ∙ ap (couple_kind_read _) c.before.kind-1.given.1
+    read_word couple_word couples_on_offer w ≡ taken c.before.in-Of.kind-1 (drop (after c) w)
+word-taken c = sym (called c).couple_kind_at.ensures ∙ ap (couple_kind_read _) c.before.in-Of.is
 
 pub returns-in_default : goal.returns-in_default
 unfolding couple_kind_of
 returns-in_default c =
     let k = c.before.before in
-    sym (no_word _ _ _ (sym k.couple_kind_at.ensures ∙ ap (couple_kind_read _) c.enum_told-1.given.1))
+    sym (no_word _ _ _ (sym k.couple_kind_at.ensures ∙ ap (couple_kind_read _) c.in_default.is))
 
 pub returns-then-end-word : goal.returns-then-end-word
 unfolding couple_kind_of

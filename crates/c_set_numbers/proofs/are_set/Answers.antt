@@ -1,4 +1,5 @@
 -- `are_set` meets its contract: as many numbers as a set has, and the first two each 0 or 1.
+use mathlib.Core.Bool.{not}
 use borrow.Author.Rules.{rules}
 use native.Mathlib.Omega.{arith}
 use mathlib.Core.Path.{◌≡◌, sym, ap, ◌∙◌}
@@ -28,7 +29,7 @@ first c = c.is_label.ensures ∙ ap is_label (to_z-of_z (search rules))
 pub returns-then-not-is_label : goal.returns-then-not-is_label
 returns-then-not-is_label c =
     let t = c.before in
-    sym (labels t.before.before ∙ rw (← first t, not-true t.is_label.result c.if-not-is_label.true))
+    sym (labels t.before.before ∙ rw (← first t, not-true t.is_label.result (ap not c.if-not-is_label.true)))
 
 pub returns : goal.returns
 returns c =
@@ -37,4 +38,4 @@ returns c =
     let ns = t.before.before.before.args.values.now in
     let f : SFits w64 (get_or ns 1 (pos 0)) = search rules in
     let second : c.is_label-2.result ≡ is_label (get_or ns 1 (pos 0)) = c.is_label-2.ensures ∙ ap is_label (to_z-of_z f) in
-    sym (labels t.before.before ∙ rw (← first t, not-false t.is_label.result e.if-not-is_label.false) (sym second))
+    sym (labels t.before.before ∙ rw (← first t, not-false t.is_label.result (ap not e.if-not-is_label.false)) (sym second))

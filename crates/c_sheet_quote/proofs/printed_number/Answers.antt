@@ -6,8 +6,8 @@ use Rattle.c_sheet_quote.proofs.printed_number.Goals as goal
 
 pub returns-in-Printed : goal.returns-in-Printed
 unfolding printed_number
-returns-in-Printed c = sym (ap printed_number c.enum_told-1.given.1)
+returns-in-Printed c = sym (ap printed_number c.in-Printed.is)
 
 pub returns-in-Open : goal.returns-in-Open
 unfolding printed_number
-returns-in-Open c = sym (ap printed_number c.enum_told-in-Open-1.given.1)
+returns-in-Open c = sym (ap printed_number c.in-Open.is)

@@ -6,8 +6,8 @@ use Rattle.c_sheet_quote.proofs.steps_number.Goals as goal
 
 pub returns-in-Printed : goal.returns-in-Printed
 unfolding steps_number
-returns-in-Printed c = sym (ap steps_number c.before.figure-1.given.1)
+returns-in-Printed c = sym (ap steps_number c.before.in-Printed.is)
 
 pub returns-in-Open : goal.returns-in-Open
 unfolding steps_number
-returns-in-Open c = sym (ap steps_number c.enum_told-1.given.1)
+returns-in-Open c = sym (ap steps_number c.in-Open.is)

@@ -6,8 +6,8 @@ use Rattle.c_sheet_quote.proofs.unit_number.Goals as goal
 
 pub returns-in-Coarse : goal.returns-in-Coarse
 unfolding unit_number
-returns-in-Coarse c = sym (ap unit_number c.enum_told-1.given.1)
+returns-in-Coarse c = sym (ap unit_number c.in-Coarse.is)
 
 pub returns-in-Fine : goal.returns-in-Fine
 unfolding unit_number
-returns-in-Fine c = sym (ap unit_number c.enum_told-in-Fine-1.given.1)
+returns-in-Fine c = sym (ap unit_number c.in-Fine.is)

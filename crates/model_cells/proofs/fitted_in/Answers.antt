@@ -1,5 +1,6 @@
 -- `fitted_in` meets its contract. The loop's invariant: of any set that lends the runs, the first i cells are in range and
 -- the first i ends are those of H; the measure is the ages left.
+use mathlib.Core.Bool.{not}
 use mathlib.Core.Path.{◌≡◌, refl, ap, sym, ◌∙◌}
 use mathlib.Core.Bool.{true}
 use Prim.Native.Nat.{ℕ, ◌+◌, ◌-◌}
@@ -49,7 +50,7 @@ tested c o = c.in_range.ensures ∙ ap (in_range (grid_by (start c.before.before
 
 in-range : (c : goal.Else-not-in_range) → let a = c.before.before.before in (o : Lender (start a))
     → in_range (grid_by (start a).args.fine) (log_force (grid_by (start a).args.fine) o.set (age a) (start a).args.y.number) ≡ true
-in-range c o = sym (tested c.before o) ∙ not-false _ c.if-not-in_range.false
+in-range c o = sym (tested c.before o) ∙ not-false _ (ap not c.if-not-in_range.false)
 
 pub loop-i-init : goal.loop-i-init
 loop-i-init c = (refl, λ o. fitted_none (grid_by c.args.fine) o.set c.args.y.number refl)
@@ -65,7 +66,7 @@ returns-then-not-in_range c o =
     let t = a.before in
     let l = t.before in
     fitted-out (grid_by (start a).args.fine) o.set (start a).args.y.number l.loop-i.i l.loop-i.fitted.ends t.loop-i-test.true
-    (sym (tested c.before o) ∙ not-true _ c.if-not-in_range.true)
+    (sym (tested c.before o) ∙ not-true _ (ap not c.if-not-in_range.true))
 
 pub inverse_logistic-requires : goal.inverse_logistic-requires
 inverse_logistic-requires c =

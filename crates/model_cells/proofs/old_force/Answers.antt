@@ -1,4 +1,5 @@
 -- `old_force` meets its contract: without the ends of H the cell is out of range, and with them the force is the closure's.
+use mathlib.Core.Bool.{not}
 use mathlib.Core.Path.{ap, ◌∙◌}
 use borrow.Author.Rules.{rules}
 use borrow.Author.Tests.{not-true, not-false}
@@ -13,13 +14,13 @@ use Rattle.model_cells.proofs.old_force.Goals as goal
 
 pub returns-then-not-f : goal.returns-then-not-f
 unfolding cell_if
-returns-then-not-f c = rw (not-true c.before.before.args.f.ok c.if-not-f.true)
+returns-then-not-f c = rw (not-true c.before.before.args.f.ok (ap not c.if-not-f.true))
 
 -- the ends of H are there, within their limit
 in-limit : (c : goal.Else-not-f) → InLimit c.before.before.args.f.ends-1
 in-limit c =
     let s = c.before.before in
-    s.requires.1 (rw (not-false s.args.f.ok c.if-not-f.false) tt)
+    s.requires.1 (rw (not-false s.args.f.ok (ap not c.if-not-f.false)) tt)
 
 pub closed_sum-requires : goal.closed_sum-requires
 closed_sum-requires c = (c.before.before.before.requires.0, in-limit c.before)
@@ -35,5 +36,5 @@ unfolding cell_if
 returns c =
     let g = c.before in
     let e = g.before.before in
-    rw (not-false e.before.before.args.f.ok e.if-not-f.false)
+    rw (not-false e.before.before.args.f.ok (ap not e.if-not-f.false))
     (ap Of (c.logistic.ensures ∙ ap (logistic (grid_by e.before.before.args.fine)) g.closed_sum.ensures))

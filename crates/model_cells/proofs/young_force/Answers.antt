@@ -1,4 +1,5 @@
 -- `young_force` meets its contract: out of range the cell is out of range, and in range it is e^m.
+use mathlib.Core.Bool.{not}
 use mathlib.Core.Path.{◌≡◌, ap, sym, ◌∙◌}
 use mathlib.Core.Bool.{true}
 use borrow.Author.Rules.{rules}
@@ -23,11 +24,11 @@ tested : (c : goal.After-in_range) → c.in_range.result ≡ in_range (grid_by c
 tested c = c.in_range.ensures ∙ ap (in_range (grid_by c.before.before.args.fine)) c.before.log_force_at-m.ensures
 
 in-range : (c : goal.Else-not-in_range) → in_range (grid_by c.before.before.before.args.fine) (force c.before.before.before) ≡ true
-in-range c = sym (tested c.before) ∙ not-false _ c.if-not-in_range.false
+in-range c = sym (tested c.before) ∙ not-false _ (ap not c.if-not-in_range.false)
 
 pub returns-then-not-in_range : goal.returns-then-not-in_range
 unfolding cell_if
-returns-then-not-in_range c = let e = sym (tested c.before) ∙ not-true _ c.if-not-in_range.true in rw e
+returns-then-not-in_range c = let e = sym (tested c.before) ∙ not-true _ (ap not c.if-not-in_range.true) in rw e
 
 pub force_to_90-requires : goal.force_to_90-requires
 force_to_90-requires c =

@@ -25,14 +25,14 @@ unfolding cell_if
 returns-in_default c =
     let a = c.before.before in
     let s = a.before in
-    rw (cell-gone (tested s) (forced s) (sym a.force_at.ensures ∙ c.enum_told-1.given.1))
+    rw (cell-gone (tested s) (forced s) (sym a.force_at.ensures ∙ c.in_default.is))
 
 pub exp_over-requires : goal.exp_over-requires
 exp_over-requires c =
     let a = c.before.before.before in
     let s = a.before in
     let o = force-one (grid_by s.args.fine) (unit-sound (unit_by s.args.fine)) s.args.p s.args.x s.args.n in
-    let t = cell-there (tested s) (forced s) (sym a.force_at.ensures ∙ c.before.f-1.given.1) in
+    let t = cell-there (tested s) (forced s) (sym a.force_at.ensures ∙ c.before.in-Of.is) in
     rw t.1 (o.0, o.1, s.requires.3)
 
 pub returns : goal.returns
@@ -41,7 +41,7 @@ returns c =
     let f = c.before.before in
     let a = f.before.before in
     let s = a.before in
-    let t = cell-there (tested s) (forced s) (sym a.force_at.ensures ∙ f.f-1.given.1) in
+    let t = cell-there (tested s) (forced s) (sym a.force_at.ensures ∙ f.in-Of.is) in
     rw (is_true (tested s) t.0) (ap Of (rw t.1 at c.exp_over.ensures))
 
 pub force_at-requires : goal.force_at-requires

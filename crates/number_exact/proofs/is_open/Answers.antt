@@ -6,8 +6,8 @@ use Rattle.number_exact.proofs.is_open.Goals as goal
 
 pub returns-in-Printed : goal.returns-in-Printed
 unfolding is_open
-returns-in-Printed c = sym (ap is_open c.enum_told-1.given.1)
+returns-in-Printed c = sym (ap is_open c.in-Printed.is)
 
 pub returns-in-Open : goal.returns-in-Open
 unfolding is_open
-returns-in-Open c = sym (ap is_open c.enum_told-in-Open-1.given.1)
+returns-in-Open c = sym (ap is_open c.in-Open.is)

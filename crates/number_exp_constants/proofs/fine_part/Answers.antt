@@ -5,184 +5,184 @@ use Rattle.number_exp_constants.proofs.Cases.{of, past}
 use Rattle.number_exp_constants.proofs.fine_part.Goals as goal
 
 pub returns-in-0 : goal.returns-in-0
-returns-in-0 c = of ten_trillionths c.in-0.keys1
+returns-in-0 c = of ten_trillionths c.in-0.is
 
 pub returns-in-1 : goal.returns-in-1
-returns-in-1 c = of ten_trillionths c.in-0.keys2
+returns-in-1 c = of ten_trillionths c.in-1.is
 
 pub returns-in-2 : goal.returns-in-2
-returns-in-2 c = of ten_trillionths c.in-0.keys3
+returns-in-2 c = of ten_trillionths c.in-2.is
 
 pub returns-in-3 : goal.returns-in-3
-returns-in-3 c = of ten_trillionths c.in-0.keys4
+returns-in-3 c = of ten_trillionths c.in-3.is
 
 pub returns-in-4 : goal.returns-in-4
-returns-in-4 c = of ten_trillionths c.in-0.keys5
+returns-in-4 c = of ten_trillionths c.in-4.is
 
 pub returns-in-5 : goal.returns-in-5
-returns-in-5 c = of ten_trillionths c.in-0.keys6
+returns-in-5 c = of ten_trillionths c.in-5.is
 
 pub returns-in-6 : goal.returns-in-6
-returns-in-6 c = of ten_trillionths c.in-0.keys7
+returns-in-6 c = of ten_trillionths c.in-6.is
 
 pub returns-in-7 : goal.returns-in-7
-returns-in-7 c = of ten_trillionths c.in-0.keys8
+returns-in-7 c = of ten_trillionths c.in-7.is
 
 pub returns-in-8 : goal.returns-in-8
-returns-in-8 c = of ten_trillionths c.in-0.keys9
+returns-in-8 c = of ten_trillionths c.in-8.is
 
 pub returns-in-9 : goal.returns-in-9
-returns-in-9 c = of ten_trillionths c.in-0.keys10
+returns-in-9 c = of ten_trillionths c.in-9.is
 
 pub returns-in-10 : goal.returns-in-10
-returns-in-10 c = of ten_trillionths c.in-0.keys11
+returns-in-10 c = of ten_trillionths c.in-10.is
 
 pub returns-in-11 : goal.returns-in-11
-returns-in-11 c = of ten_trillionths c.in-0.keys12
+returns-in-11 c = of ten_trillionths c.in-11.is
 
 pub returns-in-12 : goal.returns-in-12
-returns-in-12 c = of ten_trillionths c.in-0.keys13
+returns-in-12 c = of ten_trillionths c.in-12.is
 
 pub returns-in-13 : goal.returns-in-13
-returns-in-13 c = of ten_trillionths c.in-0.keys14
+returns-in-13 c = of ten_trillionths c.in-13.is
 
 pub returns-in-14 : goal.returns-in-14
-returns-in-14 c = of ten_trillionths c.in-0.keys15
+returns-in-14 c = of ten_trillionths c.in-14.is
 
 pub returns-in-15 : goal.returns-in-15
-returns-in-15 c = of ten_trillionths c.in-0.keys16
+returns-in-15 c = of ten_trillionths c.in-15.is
 
 pub returns-in-16 : goal.returns-in-16
-returns-in-16 c = of ten_trillionths c.in-0.keys17
+returns-in-16 c = of ten_trillionths c.in-16.is
 
 pub returns-in-17 : goal.returns-in-17
-returns-in-17 c = of ten_trillionths c.in-0.keys18
+returns-in-17 c = of ten_trillionths c.in-17.is
 
 pub returns-in-18 : goal.returns-in-18
-returns-in-18 c = of ten_trillionths c.in-0.keys19
+returns-in-18 c = of ten_trillionths c.in-18.is
 
 pub returns-in-19 : goal.returns-in-19
-returns-in-19 c = of ten_trillionths c.in-0.keys20
+returns-in-19 c = of ten_trillionths c.in-19.is
 
 pub returns-in-20 : goal.returns-in-20
-returns-in-20 c = of ten_trillionths c.in-0.keys21
+returns-in-20 c = of ten_trillionths c.in-20.is
 
 pub returns-in-21 : goal.returns-in-21
-returns-in-21 c = of ten_trillionths c.in-0.keys22
+returns-in-21 c = of ten_trillionths c.in-21.is
 
 pub returns-in-22 : goal.returns-in-22
-returns-in-22 c = of ten_trillionths c.in-0.keys23
+returns-in-22 c = of ten_trillionths c.in-22.is
 
 pub returns-in-23 : goal.returns-in-23
-returns-in-23 c = of ten_trillionths c.in-0.keys24
+returns-in-23 c = of ten_trillionths c.in-23.is
 
 pub returns-in-24 : goal.returns-in-24
-returns-in-24 c = of ten_trillionths c.in-0.keys25
+returns-in-24 c = of ten_trillionths c.in-24.is
 
 pub returns-in-25 : goal.returns-in-25
-returns-in-25 c = of ten_trillionths c.in-0.keys26
+returns-in-25 c = of ten_trillionths c.in-25.is
 
 pub returns-in-26 : goal.returns-in-26
-returns-in-26 c = of ten_trillionths c.in-0.keys27
+returns-in-26 c = of ten_trillionths c.in-26.is
 
 pub returns-in-27 : goal.returns-in-27
-returns-in-27 c = of ten_trillionths c.in-0.keys28
+returns-in-27 c = of ten_trillionths c.in-27.is
 
 pub returns-in-28 : goal.returns-in-28
-returns-in-28 c = of ten_trillionths c.in-0.keys29
+returns-in-28 c = of ten_trillionths c.in-28.is
 
 pub returns-in-29 : goal.returns-in-29
-returns-in-29 c = of ten_trillionths c.in-0.keys30
+returns-in-29 c = of ten_trillionths c.in-29.is
 
 pub returns-in-30 : goal.returns-in-30
-returns-in-30 c = of ten_trillionths c.in-0.keys31
+returns-in-30 c = of ten_trillionths c.in-30.is
 
 pub returns-in-31 : goal.returns-in-31
-returns-in-31 c = of ten_trillionths c.in-0.keys32
+returns-in-31 c = of ten_trillionths c.in-31.is
 
 pub returns-in-32 : goal.returns-in-32
-returns-in-32 c = of ten_trillionths c.in-0.keys33
+returns-in-32 c = of ten_trillionths c.in-32.is
 
 pub returns-in-33 : goal.returns-in-33
-returns-in-33 c = of ten_trillionths c.in-0.keys34
+returns-in-33 c = of ten_trillionths c.in-33.is
 
 pub returns-in-34 : goal.returns-in-34
-returns-in-34 c = of ten_trillionths c.in-0.keys35
+returns-in-34 c = of ten_trillionths c.in-34.is
 
 pub returns-in-35 : goal.returns-in-35
-returns-in-35 c = of ten_trillionths c.in-0.keys36
+returns-in-35 c = of ten_trillionths c.in-35.is
 
 pub returns-in-36 : goal.returns-in-36
-returns-in-36 c = of ten_trillionths c.in-0.keys37
+returns-in-36 c = of ten_trillionths c.in-36.is
 
 pub returns-in-37 : goal.returns-in-37
-returns-in-37 c = of ten_trillionths c.in-0.keys38
+returns-in-37 c = of ten_trillionths c.in-37.is
 
 pub returns-in-38 : goal.returns-in-38
-returns-in-38 c = of ten_trillionths c.in-0.keys39
+returns-in-38 c = of ten_trillionths c.in-38.is
 
 pub returns-in-39 : goal.returns-in-39
-returns-in-39 c = of ten_trillionths c.in-0.keys40
+returns-in-39 c = of ten_trillionths c.in-39.is
 
 pub returns-in-40 : goal.returns-in-40
-returns-in-40 c = of ten_trillionths c.in-0.keys41
+returns-in-40 c = of ten_trillionths c.in-40.is
 
 pub returns-in-41 : goal.returns-in-41
-returns-in-41 c = of ten_trillionths c.in-0.keys42
+returns-in-41 c = of ten_trillionths c.in-41.is
 
 pub returns-in-42 : goal.returns-in-42
-returns-in-42 c = of ten_trillionths c.in-0.keys43
+returns-in-42 c = of ten_trillionths c.in-42.is
 
 pub returns-in-43 : goal.returns-in-43
-returns-in-43 c = of ten_trillionths c.in-0.keys44
+returns-in-43 c = of ten_trillionths c.in-43.is
 
 pub returns-in-44 : goal.returns-in-44
-returns-in-44 c = of ten_trillionths c.in-0.keys45
+returns-in-44 c = of ten_trillionths c.in-44.is
 
 pub returns-in-45 : goal.returns-in-45
-returns-in-45 c = of ten_trillionths c.in-0.keys46
+returns-in-45 c = of ten_trillionths c.in-45.is
 
 pub returns-in-46 : goal.returns-in-46
-returns-in-46 c = of ten_trillionths c.in-0.keys47
+returns-in-46 c = of ten_trillionths c.in-46.is
 
 pub returns-in-47 : goal.returns-in-47
-returns-in-47 c = of ten_trillionths c.in-0.keys48
+returns-in-47 c = of ten_trillionths c.in-47.is
 
 pub returns-in-48 : goal.returns-in-48
-returns-in-48 c = of ten_trillionths c.in-0.keys49
+returns-in-48 c = of ten_trillionths c.in-48.is
 
 pub returns-in-49 : goal.returns-in-49
-returns-in-49 c = of ten_trillionths c.in-0.keys50
+returns-in-49 c = of ten_trillionths c.in-49.is
 
 pub returns-in-50 : goal.returns-in-50
-returns-in-50 c = of ten_trillionths c.in-0.keys51
+returns-in-50 c = of ten_trillionths c.in-50.is
 
 pub returns-in-51 : goal.returns-in-51
-returns-in-51 c = of ten_trillionths c.in-0.keys52
+returns-in-51 c = of ten_trillionths c.in-51.is
 
 pub returns-in-52 : goal.returns-in-52
-returns-in-52 c = of ten_trillionths c.in-0.keys53
+returns-in-52 c = of ten_trillionths c.in-52.is
 
 pub returns-in-53 : goal.returns-in-53
-returns-in-53 c = of ten_trillionths c.in-0.keys54
+returns-in-53 c = of ten_trillionths c.in-53.is
 
 pub returns-in-54 : goal.returns-in-54
-returns-in-54 c = of ten_trillionths c.in-0.keys55
+returns-in-54 c = of ten_trillionths c.in-54.is
 
 pub returns-in-55 : goal.returns-in-55
-returns-in-55 c = of ten_trillionths c.in-0.keys56
+returns-in-55 c = of ten_trillionths c.in-55.is
 
 pub returns-in-56 : goal.returns-in-56
-returns-in-56 c = of ten_trillionths c.in-0.keys57
+returns-in-56 c = of ten_trillionths c.in-56.is
 
 pub returns-in-57 : goal.returns-in-57
-returns-in-57 c = of ten_trillionths c.in-0.keys58
+returns-in-57 c = of ten_trillionths c.in-57.is
 
 pub returns-in-58 : goal.returns-in-58
-returns-in-58 c = of ten_trillionths c.in-0.keys59
+returns-in-58 c = of ten_trillionths c.in-58.is
 
 pub returns-in-59 : goal.returns-in-59
-returns-in-59 c = of ten_trillionths c.in-0.keys60
+returns-in-59 c = of ten_trillionths c.in-59.is
 
 pub returns-in_default : goal.returns-in_default
 returns-in_default c = past ten_trillionths _ c.in-0.rest

@@ -1,4 +1,5 @@
 -- `answer_along` meets its contract: a cell out of range is refused, and else the fold over the factors has its ends.
+use mathlib.Core.Bool.{not}
 use mathlib.Core.Path.{◌≡◌, refl, ap, sym, ◌∙◌}
 use mathlib.Core.Bool.{true}
 use Prim.Native.Nat.{ℕ}
@@ -21,7 +22,7 @@ pub returns-then-not-worked : goal.returns-then-not-worked
 unfolding in_range_or path_answer
 returns-then-not-worked c part h =
     let f = c.before.before in
-    let e = sym (f.all_factors-worked.ensures part h).ok ∙ not-true _ c.if-not-worked.true in
+    let e = sym (f.all_factors-worked.ensures part h).ok ∙ not-true _ (ap not c.if-not-worked.true) in
     rw e
 
 -- ---- the factors are there
@@ -30,7 +31,7 @@ abbrev began : goal.Else-not-worked → goal.Start
 began c = c.before.before.before
 
 worked : (c : goal.Else-not-worked) → c.before.before.all_factors-worked.result.ok ≡ true
-worked c = not-false _ c.if-not-worked.false
+worked c = not-false _ (ap not c.if-not-worked.false)
 
 -- the fraction that the part is
 abbrev fraction : goal.Start → Ratio

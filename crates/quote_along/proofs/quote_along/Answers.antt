@@ -1,4 +1,5 @@
 -- `quote_along` meets its contract: a coarse quote with an open figure is worked again, and a path in range is so on the fine grid.
+use mathlib.Core.Bool.{not}
 use borrow.Author.Rules.{rules}
 use borrow.Author.Tests.{not-true, not-false}
 use mathlib.Core.Path.{◌≡◌, refl, sym, ap, ◌∙◌}
@@ -60,10 +61,10 @@ unfolding unit_by
 returns-then-not-is_left_open c part h =
     let o = c.before in
     let e = o.before in
-    answered e.before e.if-fine.false part h ∙ path-once _ _ _ _ (sym (asked o part h) ∙ not-true _ c.if-not-is_left_open.true)
+    answered e.before e.if-fine.false part h ∙ path-once _ _ _ _ (sym (asked o part h) ∙ not-true _ (ap not c.if-not-is_left_open.true))
 
 pub loop-fine-preserved : goal.loop-fine-preserved
-loop-fine-preserved c part h t = sym (asked c.before part h) ∙ not-false _ c.if-not-is_left_open.false
+loop-fine-preserved c part h t = sym (asked c.before part h) ∙ not-false _ (ap not c.if-not-is_left_open.false)
 
 pub loop-fine-init : goal.loop-fine-init
 loop-fine-init c = absurd t

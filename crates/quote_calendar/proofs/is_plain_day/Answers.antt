@@ -1,4 +1,5 @@
 -- `is_plain_day` meets its contract: the tests of year, month and day in their order, up to the first that fails.
+use mathlib.Core.Bool.{not}
 use mathlib.Core.Path.{◌≡◌, ap, sym, ◌∙◌}
 use mathlib.Core.Bool.{Bool, true}
 use Prim.Native.Nat.{ℕ}
@@ -12,21 +13,21 @@ use Rattle.quote_calendar.proofs.is_plain_day.Goals as goal
 
 year-in : (c : goal.Else-not-between) → between 1000 9999 (date_year c.before.before.args.z) ≡ true
 unfolding date_year
-year-in c = sym c.before.between.ensures ∙ not-false _ c.if-not-between.false
+year-in c = sym c.before.between.ensures ∙ not-false _ (ap not c.if-not-between.false)
 
 month-in : (c : goal.Else-not-between-2) → between 1 12 (date_month c.before.before.before.before.args.z) ≡ true
 unfolding date_month
-month-in c = sym c.before.between-2.ensures ∙ not-false _ c.if-not-between-2.false
+month-in c = sym c.before.between-2.ensures ∙ not-false _ (ap not c.if-not-between-2.false)
 
 -- ---- the needs
 
 pub returns-then-not-between : goal.returns-then-not-between
 unfolding is_day date_year
-returns-then-not-between c = rw (sym c.before.between.ensures ∙ not-true _ c.if-not-between.true)
+returns-then-not-between c = rw (sym c.before.between.ensures ∙ not-true _ (ap not c.if-not-between.true))
 
 pub returns-then-not-between-2 : goal.returns-then-not-between-2
 unfolding is_day date_month
-returns-then-not-between-2 c = rw (year-in c.before.before, sym c.before.between-2.ensures ∙ not-true _ c.if-not-between-2.true)
+returns-then-not-between-2 c = rw (year-in c.before.before, sym c.before.between-2.ensures ∙ not-true _ (ap not c.if-not-between-2.true))
 
 pub month_days-requires : goal.month_days-requires
 unfolding date_month

@@ -18,19 +18,19 @@ pair_of-requires c =
     let s = c.before in
     let f = s.before.before.before in
     let p = f.before.before.requires in
-    (small-quote f.a-1.given.1 p.0, small-quote s.b-1.given.1 p.1)
+    (small-quote f.in-Quoted.is p.0, small-quote s.in-Quoted-b.is p.1)
 
 pub returns-in-Quoted-b : goal.returns-in-Quoted-b
 returns-in-Quoted-b c =
     let s = c.before.before in
     let f = s.before.before.before in
-    sym (both-quoted f.a-1.given.1 s.b-1.given.1 c.pair_of.ensures)
+    sym (both-quoted f.in-Quoted.is s.in-Quoted-b.is c.pair_of.ensures)
 
 pub returns-in-Refused-b : goal.returns-in-Refused-b
 returns-in-Refused-b c =
     let s = c.before in
     let f = s.before.before.before in
-    sym (second-refused f.a-1.given.1 s.b-in-Quoted-1.given.1)
+    sym (second-refused f.in-Quoted.is s.in-Refused-b.is)
 
 pub returns-in-Refused : goal.returns-in-Refused
-returns-in-Refused c = let f = c.before in sym (first-refused f.before.before.args.b-1 f.a-in-Refused-a-1.given.1)
+returns-in-Refused c = let f = c.before in sym (first-refused f.before.before.args.b-1 f.in-Refused.is)

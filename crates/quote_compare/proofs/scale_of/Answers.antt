@@ -7,8 +7,8 @@ use Rattle.quote_compare.proofs.scale_of.Goals as goal
 
 pub returns-in-Coarse : goal.returns-in-Coarse
 unfolding grid_of
-returns-in-Coarse c = sym (ap (λ (u : GridUnit). (grid_of u).scale) c.enum_told-1.given.1)
+returns-in-Coarse c = sym (ap (λ (u : GridUnit). (grid_of u).scale) c.in-Coarse.is)
 
 pub returns-in-Fine : goal.returns-in-Fine
 unfolding grid_of
-returns-in-Fine c = sym (ap (λ (u : GridUnit). (grid_of u).scale) c.enum_told-in-Fine-1.given.1)
+returns-in-Fine c = sym (ap (λ (u : GridUnit). (grid_of u).scale) c.in-Fine.is)

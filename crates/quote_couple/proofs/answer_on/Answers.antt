@@ -1,4 +1,5 @@
 -- `answer_on` meets its contract: a cell out of range is refused, and else the couple's value has its ends.
+use mathlib.Core.Bool.{not}
 use borrow.Author.Rules.{rules}
 use borrow.Author.Tests.{not-true, not-false}
 use mathlib.Core.Path.{◌≡◌, ap, ap₂, sym, ◌∙◌}
@@ -33,10 +34,10 @@ abbrev began : goal.Else-not-two → goal.Start
 began e = began₁ e.before.before.before
 
 first-worked : (e : goal.Else-not-one) → e.before.before.factors_of-one.result.ok ≡ true
-first-worked e = not-false _ e.if-not-one.false
+first-worked e = not-false _ (ap not e.if-not-one.false)
 
 second-worked : (e : goal.Else-not-two) → e.before.before.factors_of-two.result.ok ≡ true
-second-worked e = not-false _ e.if-not-two.false
+second-worked e = not-false _ (ap not e.if-not-two.false)
 
 first-in : (e : goal.Else-not-one) → let s = began₁ e in path_in_range (grid_by s.args.fine) s.args.first (path_is s.args.path) ≡ true
 first-in e = sym e.before.before.factors_of-one.ensures.ok ∙ first-worked e
@@ -46,12 +47,12 @@ second-in e = sym e.before.before.factors_of-two.ensures.ok ∙ second-worked e
 
 pub returns-then-not-one : goal.returns-then-not-one
 unfolding in_range_or paths_answer
-returns-then-not-one c = let e = sym c.before.before.factors_of-one.ensures.ok ∙ not-true _ c.if-not-one.true in rw e
+returns-then-not-one c = let e = sym c.before.before.factors_of-one.ensures.ok ∙ not-true _ (ap not c.if-not-one.true) in rw e
 
 pub returns-then-not-two : goal.returns-then-not-two
 unfolding in_range_or paths_answer
 returns-then-not-two c =
-    let e = sym c.before.before.factors_of-two.ensures.ok ∙ not-true _ c.if-not-two.true in
+    let e = sym c.before.before.factors_of-two.ensures.ok ∙ not-true _ (ap not c.if-not-two.true) in
     rw (first-in c.before.before.before, e)
 
 -- ---- the factors of both

@@ -1,4 +1,6 @@
 -- `couple_of` meets its contract: a set out of its limits is refused, any other is quoted, and every answer meets demand 3.
+use mathlib.Core.Bool.{not}
+use mathlib.Core.Path.{ap}
 use mathlib.Core.Path.{sym, ◌∙◌}
 use borrow.Author.Rules.{rules}
 use borrow.Author.Tests.{not-true, not-false}
@@ -12,11 +14,11 @@ pub returns-then-not-in_limits : goal.returns-then-not-in_limits
 returns-then-not-in_limits c =
     let a = c.before.before.args in
     met (first_out a.first a.second a.kind a.age a.other a.year a.span
-    (sym c.before.in_limits.ensures ∙ not-true _ c.if-not-in_limits.true))
+    (sym c.before.in_limits.ensures ∙ not-true _ (ap not c.if-not-in_limits.true)))
 
 -- past the first test, the first set is in its limits
 first-limits : (e : goal.Else-not-in_limits) → T (in_limits e.before.before.args.first)
-first-limits e = rw (sym e.before.in_limits.ensures ∙ not-false _ e.if-not-in_limits.false) tt
+first-limits e = rw (sym e.before.in_limits.ensures ∙ not-false _ (ap not e.if-not-in_limits.false)) tt
 
 pub returns-then-not-in_limits-2 : goal.returns-then-not-in_limits-2
 returns-then-not-in_limits-2 c =
@@ -24,12 +26,12 @@ returns-then-not-in_limits-2 c =
     let o = l.before in
     let a = o.before.before.args in
     met (second-out a.first a.second a.kind a.age a.other a.year a.span (first-limits o)
-    (sym l.in_limits-2.ensures ∙ not-true _ c.if-not-in_limits-2.true))
+    (sym l.in_limits-2.ensures ∙ not-true _ (ap not c.if-not-in_limits-2.true)))
 
 pub couple_within-requires : goal.couple_within-requires
 couple_within-requires c =
     let l = c.before in
-    (first-limits l.before, rw (sym l.in_limits-2.ensures ∙ not-false _ c.if-not-in_limits-2.false) tt)
+    (first-limits l.before, rw (sym l.in_limits-2.ensures ∙ not-false _ (ap not c.if-not-in_limits-2.false)) tt)
 
 pub returns : goal.returns
 returns c =

@@ -6,16 +6,16 @@ use Rattle.quote_couple_kinds.proofs.status_of.Goals as goal
 
 pub returns-in-JointLife : goal.returns-in-JointLife
 unfolding status_of
-returns-in-JointLife c = sym (ap status_of c.enum_told-1.given.1)
+returns-in-JointLife c = sym (ap status_of c.in-JointLife.is)
 
 pub returns-in-LastSurvivor : goal.returns-in-LastSurvivor
 unfolding status_of
-returns-in-LastSurvivor c = sym (ap status_of c.enum_told-in-LastSurvivor-1.given.1)
+returns-in-LastSurvivor c = sym (ap status_of c.in-LastSurvivor.is)
 
 pub returns-in-JointExpectancy : goal.returns-in-JointExpectancy
 unfolding status_of
-returns-in-JointExpectancy c = sym (ap status_of c.enum_told-in-JointExpectancy-1.given.1)
+returns-in-JointExpectancy c = sym (ap status_of c.in-JointExpectancy.is)
 
 pub returns-in-LastExpectancy : goal.returns-in-LastExpectancy
 unfolding status_of
-returns-in-LastExpectancy c = sym (ap status_of c.enum_told-in-LastExpectancy-1.given.1)
+returns-in-LastExpectancy c = sym (ap status_of c.in-LastExpectancy.is)

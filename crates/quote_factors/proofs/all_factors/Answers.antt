@@ -1,4 +1,5 @@
 -- `all_factors` meets its contract: those of the path, and after them the part's.
+use mathlib.Core.Bool.{not}
 use mathlib.Core.Path.{◌≡◌, ap, sym, ◌∙◌}
 use mathlib.Core.Bool.{true, false}
 use native.Mathlib.Omega.{arith}
@@ -14,14 +15,14 @@ pub returns-then-not-worked : goal.returns-then-not-worked
 returns-then-not-worked c =
     let f = c.before.before.before in
     let s = f.before in
-    path-out (grid_by s.args.fine) s.args.p s.args.path s.args.part (sym f.factors_of-worked.ensures.ok ∙ not-true _ c.if-not-worked.true)
+    path-out (grid_by s.args.fine) s.args.p s.args.path s.args.part (sym f.factors_of-worked.ensures.ok ∙ not-true _ (ap not c.if-not-worked.true))
 
 -- the path's are worked
 worked : (c : goal.Else-not-worked) → let f = c.before.before.before in
     FactorsOf (grid_by f.before.args.fine) f.before.args.p f.before.args.path (record { ok = true; ends = f.factors_of-worked.result.ends-1 })
 worked c =
     let f = c.before.before.before in
-    let e : f.factors_of-worked.result.ok ≡ true = not-false _ c.if-not-worked.false in
+    let e : f.factors_of-worked.result.ok ≡ true = not-false _ (ap not c.if-not-worked.false) in
     record { ok = sym e ∙ f.factors_of-worked.ensures.ok; ends = λ t. f.factors_of-worked.ensures.ends-1 (rw e tt); size = λ t. f.factors_of-worked.ensures.size (rw e tt) }
 
 pub returns-then-part-eq0 : goal.returns-then-part-eq0
@@ -46,7 +47,7 @@ pub returns-in_default : goal.returns-in_default
 returns-in_default c =
     let k = c.before.before in
     let s = began k.before in
-    part_out (grid_by s.args.fine) s.args.p s.args.path s.args.part (some k.before) (sym k.part_cell.ensures ∙ c.enum_told-1.given.1)
+    part_out (grid_by s.args.fine) s.args.p s.args.path s.args.part (some k.before) (sym k.part_cell.ensures ∙ c.in_default.is)
 
 abbrev celled : goal.In-Of → goal.After-part_cell
 celled c = c.before.before.before
@@ -61,7 +62,7 @@ returns c =
     let s = began k in
     let f = worked k.before.before.before.before in
     with_part (grid_by s.args.fine) s.args.p s.args.path s.args.part (some k) (omega (arith, f.size tt, s.requires.1.room (some k))) f
-    (sym a.part_cell.ensures ∙ c.before.e-1.given.1)
+    (sym a.part_cell.ensures ∙ c.before.in-Of.is)
 
 pub factors_of-worked-requires : goal.factors_of-worked-requires
 factors_of-worked-requires c = c.requires.0

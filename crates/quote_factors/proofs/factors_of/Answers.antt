@@ -1,4 +1,6 @@
 -- `factors_of` meets its contract by those of the ages to 90 and above.
+use mathlib.Core.Bool.{not}
+use mathlib.Core.Path.{ap}
 use mathlib.Core.Path.{◌≡◌}
 use mathlib.Core.Bool.{true, false}
 use native.Mathlib.Omega.{arith}
@@ -9,12 +11,12 @@ use Rattle.quote_factors.proofs.factors_of.Goals as goal
 pub returns-then-not-walk : goal.returns-then-not-walk
 returns-then-not-walk c =
     let y = c.before.before.before in
-    let e : y.young_factors-walk.result.ok ≡ false = not-true _ c.if-not-walk.true in
+    let e : y.young_factors-walk.result.ok ≡ false = not-true _ (ap not c.if-not-walk.true) in
     out-all (y.young_factors-walk.ensures.out_of_range (rw e tt))
 
 -- the ages to 90 are in range
 ok : (c : goal.Else-not-walk) → c.before.before.before.young_factors-walk.result.ok ≡ true
-ok c = not-false _ c.if-not-walk.false
+ok c = not-false _ (ap not c.if-not-walk.false)
 
 pub old_factors-requires : goal.old_factors-requires
 old_factors-requires c =

@@ -134,7 +134,7 @@ returns-in_default c =
     let t = k.before.before.before in
     let s = begun t.before in
     out-all (worked-out (grid_by s.args.fine) s.args.p s.args.path (on-path t)
-    (cell-read k s.args.path.year-1 (so_far t.before).1 ∙ c.enum_told-1.given.1))
+    (cell-read k s.args.path.year-1 (so_far t.before).1 ∙ c.in_default.is))
 
 -- the turn after its cell was in range
 abbrev turn : goal.In-Of → goal.In-loop-done
@@ -161,7 +161,7 @@ year_after-year-requires g κs =
 further : (c : goal.After-year_after-year) → let g = c.before in let k = g.before in let t = turn k in
     let l = t.before in let s = begun l in (n : ℕ) → PathWithin s.args.p (from l n)
     → Worked (grid_by s.args.fine) s.args.p (from l n) s.args.walk.ends-1 s.args.walk.done → YearAt (grid_by s.args.fine) s.args.p (from l n) s.args.walk.done s.args.walk.year-1
-    → Worked (grid_by s.args.fine) s.args.p (from l n) (set l.loop-done.ends-1 l.loop-done.done k.before.e-1.given.0.0) (l.loop-done.done + 1)
+    → Worked (grid_by s.args.fine) s.args.p (from l n) (set l.loop-done.ends-1 l.loop-done.done k.before.in-Of.e-1) (l.loop-done.done + 1)
     × YearAt (grid_by s.args.fine) s.args.p (from l n) (l.loop-done.done + 1) c.year_after-year.result
 further c n h a b =
     let g = c.before in
@@ -172,7 +172,7 @@ further c n h a b =
     let v = l.loop-done.invariant.so_far n h a b in
     let i = (in-limits-series s.args.p h.limits).dynamics in
     let y = rw (back i.a tt, back i.theta tt, back i.c tt) at c.year_after-year.ensures in (
-      worked-more v.0 (short s) (on-path t) (cell-read k.before.before.before n v.1 ∙ k.before.e-1.given.1),
+      worked-more v.0 (short s) (on-path t) (cell-read k.before.before.before n v.1 ∙ k.before.in-Of.is),
       year-step h v.1 (on-path t) g.goes_on-on.result g.goes_on-on.ensures y,
     )
 

@@ -6,16 +6,16 @@ use Rattle.quote_kinds.proofs.decimals_of.Goals as goal
 
 pub returns-in-Death : goal.returns-in-Death
 unfolding decimals_of
-returns-in-Death c = sym (ap decimals_of c.enum_told-1.given.1)
+returns-in-Death c = sym (ap decimals_of c.in-Death.is)
 
 pub returns-in-Survival : goal.returns-in-Survival
 unfolding decimals_of
-returns-in-Survival c = sym (ap decimals_of c.enum_told-in-Survival-1.given.1)
+returns-in-Survival c = sym (ap decimals_of c.in-Survival.is)
 
 pub returns-in-Expectancy : goal.returns-in-Expectancy
 unfolding decimals_of
-returns-in-Expectancy c = sym (ap decimals_of c.enum_told-in-Expectancy-1.given.1)
+returns-in-Expectancy c = sym (ap decimals_of c.in-Expectancy.is)
 
 pub returns-in-Annuity : goal.returns-in-Annuity
 unfolding decimals_of
-returns-in-Annuity c = sym (ap decimals_of c.enum_told-in-Annuity-1.given.1)
+returns-in-Annuity c = sym (ap decimals_of c.in-Annuity.is)

@@ -34,13 +34,13 @@ death_of-requires c =
 
 -- the rate in the annuity's arm
 abbrev rate : goal.In-Annuity → ℤ
-rate c = c.before.fold-1.given.0.0
+rate c = c.before.in-Annuity.rate
 
 rate-fits : (c : goal.In-Annuity) → SFits w64 (rate c)
 rate-fits c = record { sfits = c.known_told-1.given.0.1 }
 
 rate-within : (c : goal.In-Annuity) → RateWithin (Annuity (rate c))
-rate-within c = rw c.before.fold-1.given.1 at c.before.before.before.requires.1
+rate-within c = rw c.before.in-Annuity.is at c.before.before.before.requires.1
 
 pub overflow_cast-rate : goal.overflow_cast-rate
 unfolding rate_of
@@ -61,18 +61,18 @@ unfolding fold_over
 returns-in-Death c =
     let v = c.before in
     let s = v.before.before.before in
-    c.death_of.ensures ∙ ap (death_of (grid s)) v.survival_over.ensures ∙ at s v.before.enum_told-1.given.1
+    c.death_of.ensures ∙ ap (death_of (grid s)) v.survival_over.ensures ∙ at s v.before.in-Death.is
 
 pub returns-in-Survival : goal.returns-in-Survival
 unfolding fold_over
-returns-in-Survival c = c.survival_over-in-Survival.ensures ∙ at c.before.before.before c.before.enum_told-in-Survival-1.given.1
+returns-in-Survival c = c.survival_over-in-Survival.ensures ∙ at c.before.before.before c.before.in-Survival.is
 
 pub returns-in-Expectancy : goal.returns-in-Expectancy
 unfolding fold_over
-returns-in-Expectancy c = c.expectancy_over.ensures ∙ at c.before.before.before c.before.enum_told-in-Expectancy-1.given.1
+returns-in-Expectancy c = c.expectancy_over.ensures ∙ at c.before.before.before c.before.in-Expectancy.is
 
 pub returns-in-Annuity : goal.returns-in-Annuity
 unfolding fold_over
 returns-in-Annuity c =
     let k = c.before in
-    rw (to_z-of_z (rate-fits k)) at c.annuity_over.ensures ∙ at k.before.before.before k.before.fold-1.given.1
+    rw (to_z-of_z (rate-fits k)) at c.annuity_over.ensures ∙ at k.before.before.before k.before.in-Annuity.is

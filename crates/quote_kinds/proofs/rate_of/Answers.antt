@@ -7,16 +7,16 @@ use Rattle.quote_kinds.proofs.rate_of.Goals as goal
 
 pub returns-in-Death : goal.returns-in-Death
 unfolding rate_of
-returns-in-Death c = sym (ap rate_of c.enum_told-1.given.1)
+returns-in-Death c = sym (ap rate_of c.in-Death.is)
 
 pub returns-in-Survival : goal.returns-in-Survival
 unfolding rate_of
-returns-in-Survival c = sym (ap rate_of c.enum_told-in-Survival-1.given.1)
+returns-in-Survival c = sym (ap rate_of c.in-Survival.is)
 
 pub returns-in-Expectancy : goal.returns-in-Expectancy
 unfolding rate_of
-returns-in-Expectancy c = sym (ap rate_of c.enum_told-in-Expectancy-1.given.1)
+returns-in-Expectancy c = sym (ap rate_of c.in-Expectancy.is)
 
 pub returns-in-Annuity : goal.returns-in-Annuity
 unfolding rate_of
-returns-in-Annuity c = to_z-of_z (record { sfits = c.known_told-1.given.0.1 }) ∙ sym (ap rate_of c.before.fold-1.given.1)
+returns-in-Annuity c = to_z-of_z (record { sfits = c.known_told-1.given.0.1 }) ∙ sym (ap rate_of c.before.in-Annuity.is)

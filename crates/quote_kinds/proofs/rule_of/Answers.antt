@@ -9,36 +9,36 @@ use Rattle.quote_kinds.proofs.rule_of.Goals as goal
 
 pub returns-in-Death : goal.returns-in-Death
 unfolding rule_of
-returns-in-Death c = sym (ap rule_of c.enum_told-1.given.1)
+returns-in-Death c = sym (ap rule_of c.in-Death.is)
 
 pub returns-in-CohortSurvival : goal.returns-in-CohortSurvival
 unfolding rule_of
-returns-in-CohortSurvival c = sym (ap rule_of c.enum_told-in-CohortSurvival-1.given.1)
+returns-in-CohortSurvival c = sym (ap rule_of c.in-CohortSurvival.is)
 
 pub returns-in-PeriodSurvival : goal.returns-in-PeriodSurvival
 unfolding rule_of
-returns-in-PeriodSurvival c = sym (ap rule_of c.enum_told-in-PeriodSurvival-1.given.1)
+returns-in-PeriodSurvival c = sym (ap rule_of c.in-PeriodSurvival.is)
 
 pub returns-in-CohortExpectancy : goal.returns-in-CohortExpectancy
 unfolding rule_of
-returns-in-CohortExpectancy c = sym (ap rule_of c.enum_told-in-CohortExpectancy-1.given.1)
+returns-in-CohortExpectancy c = sym (ap rule_of c.in-CohortExpectancy.is)
 
 pub returns-in-PeriodExpectancy : goal.returns-in-PeriodExpectancy
 unfolding rule_of
-returns-in-PeriodExpectancy c = sym (ap rule_of c.enum_told-in-PeriodExpectancy-1.given.1)
+returns-in-PeriodExpectancy c = sym (ap rule_of c.in-PeriodExpectancy.is)
 
 pub returns-in-CohortAnnuity : goal.returns-in-CohortAnnuity
 unfolding rule_of
 returns-in-CohortAnnuity c =
     ap (λ (rate : ℤ). rule_of (CohortAnnuity rate)) (to_z-of_z (record { sfits = c.known_told-1.given.0.1 }))
-    ∙ sym (ap rule_of c.before.kind-1.given.1)
+    ∙ sym (ap rule_of c.before.in-CohortAnnuity.is)
 
 pub returns-in-PeriodAnnuity : goal.returns-in-PeriodAnnuity
 unfolding rule_of
 returns-in-PeriodAnnuity c =
     ap (λ (rate : ℤ). rule_of (PeriodAnnuity rate)) (to_z-of_z (record { sfits = c.known_told-in-PeriodAnnuity-1.given.0.1 }))
-    ∙ sym (ap rule_of c.before.kind-in-PeriodAnnuity-1.given.1)
+    ∙ sym (ap rule_of c.before.in-PeriodAnnuity.is)
 
 pub returns-in-Day : goal.returns-in-Day
 unfolding rule_of
-returns-in-Day c = sym (ap rule_of c.enum_told-in-Day-1.given.1)
+returns-in-Day c = sym (ap rule_of c.in-Day.is)

@@ -6,16 +6,16 @@ use Rattle.quote_kinds.proofs.step_of.Goals as goal
 
 pub returns-in-Death : goal.returns-in-Death
 unfolding step_of
-returns-in-Death c = sym (ap step_of c.enum_told-1.given.1)
+returns-in-Death c = sym (ap step_of c.in-Death.is)
 
 pub returns-in-Survival : goal.returns-in-Survival
 unfolding step_of
-returns-in-Survival c = sym (ap step_of c.enum_told-in-Survival-1.given.1)
+returns-in-Survival c = sym (ap step_of c.in-Survival.is)
 
 pub returns-in-Expectancy : goal.returns-in-Expectancy
 unfolding step_of
-returns-in-Expectancy c = sym (ap step_of c.enum_told-in-Expectancy-1.given.1)
+returns-in-Expectancy c = sym (ap step_of c.in-Expectancy.is)
 
 pub returns-in-Annuity : goal.returns-in-Annuity
 unfolding step_of
-returns-in-Annuity c = sym (ap step_of c.enum_told-in-Annuity-1.given.1)
+returns-in-Annuity c = sym (ap step_of c.in-Annuity.is)

@@ -1,4 +1,5 @@
 -- `table_refusal` meets its contract: the five tests in their order, up to the first that fails.
+use mathlib.Core.Bool.{not}
 use mathlib.Core.Path.{◌≡◌, refl, ap, sym, ◌∙◌}
 use mathlib.Core.Bool.{Bool, true, false, cond}
 use Prim.Native.Nat.{ℕ, suc, ◌+◌, ◌-◌, ◌≤◌}
@@ -64,10 +65,10 @@ year-test c =
 -- ---- past the first, the age is the table's
 
 age-true : (c : goal.Else-not-between) → age_in_table c.before.before.before.before.args.age ≡ true
-age-true c = sym (age-test c.before) ∙ not-false _ c.if-not-between.false
+age-true c = sym (age-test c.before) ∙ not-false _ (ap not c.if-not-between.false)
 
 year-true : (c : goal.Else-not-between-2) → let s = start₂ c.before in year_in_table s.args.start s.args.rule s.args.year ≡ true
-year-true c = sym (year-test c.before) ∙ not-false _ c.if-not-between-2.false
+year-true c = sym (year-test c.before) ∙ not-false _ (ap not c.if-not-between-2.false)
 
 age-in : (c : goal.Else-not-between) → let x = c.before.before.before.before.args.age in
     (bits x ≡ x) × (pos (nat_abs x) ≡ x) × (nat_abs x ≤ last_closed)
@@ -99,7 +100,7 @@ date-test : (c : goal.After-date_in_table) → let s = start₃ c in c.date_in_t
 date-test c = rw (to_z-of_z (start₃ c).ranges.term) at c.date_in_table.ensures
 
 date-true : (c : goal.Else-not-date_in_table) → let s = start₃ c.before in date_in_table s.args.rule s.args.term ≡ true
-date-true c = sym (date-test c.before) ∙ not-false _ c.if-not-date_in_table.false
+date-true c = sym (date-test c.before) ∙ not-false _ (ap not c.if-not-date_in_table.false)
 
 abbrev start₄ : goal.After-span_of-span → goal.Start
 start₄ c = start₃ c.before.before
@@ -130,7 +131,7 @@ span-test c =
 
 span-true : (c : goal.Else-not-between-3) → let s = start₄ c.before.before.before in
     span_in_table s.args.rule s.args.age s.args.year s.args.term ≡ true
-span-true c = sym (span-test c.before) ∙ not-false _ c.if-not-between-3.false
+span-true c = sym (span-test c.before) ∙ not-false _ (ap not c.if-not-between-3.false)
 
 rate-test : (c : goal.After-between-4) → let s = start₄ c.before.before.before.before.before in
     c.between-4.result ≡ rate_in_table s.args.rule
@@ -147,13 +148,13 @@ overflow_add-last c = (last-read c.before.before).0
 
 pub returns-then-not-between : goal.returns-then-not-between
 unfolding first_failed table_tests
-returns-then-not-between c = let e = sym (age-test c.before) ∙ not-true _ c.if-not-between.true in rw e
+returns-then-not-between c = let e = sym (age-test c.before) ∙ not-true _ (ap not c.if-not-between.true) in rw e
 
 pub returns-then-not-between-2 : goal.returns-then-not-between-2
 unfolding first_failed table_tests
 returns-then-not-between-2 c =
     let b = c.before in
-    let e = sym (year-test b) ∙ not-true _ c.if-not-between-2.true in
+    let e = sym (year-test b) ∙ not-true _ (ap not c.if-not-between-2.true) in
     rw (age-true b.before, e)
 
 pub returns-then-not-date_in_table : goal.returns-then-not-date_in_table
@@ -161,7 +162,7 @@ unfolding first_failed table_tests
 returns-then-not-date_in_table c =
     let b = c.before in
     let y = b.before in
-    let e = sym (date-test b) ∙ not-true _ c.if-not-date_in_table.true in
+    let e = sym (date-test b) ∙ not-true _ (ap not c.if-not-date_in_table.true) in
     rw (age-true y.before.before, year-true y, e)
 
 pub span_of-span-requires : goal.span_of-span-requires
@@ -193,7 +194,7 @@ unfolding first_failed table_tests
 returns-then-not-between-3 c =
     let b = c.before in
     let t = before-span b.before.before in
-    let e = sym (span-test b) ∙ not-true _ c.if-not-between-3.true in
+    let e = sym (span-test b) ∙ not-true _ (ap not c.if-not-between-3.true) in
     rw (t.0, t.1, t.2, e)
 
 pub returns-then-not-between-4 : goal.returns-then-not-between-4
@@ -202,7 +203,7 @@ returns-then-not-between-4 c =
     let b = c.before in
     let p = b.before.before in
     let t = before-span p.before.before.before in
-    let e = sym (rate-test b) ∙ not-true _ c.if-not-between-4.true in
+    let e = sym (rate-test b) ∙ not-true _ (ap not c.if-not-between-4.true) in
     rw (t.0, t.1, t.2, span-true p, e)
 
 pub returns : goal.returns
@@ -211,7 +212,7 @@ returns c =
     let b = c.before in
     let p = b.before.before in
     let t = before-span p.before.before.before in
-    let e = sym (rate-test b) ∙ not-false _ c.if-not-between-4.false in
+    let e = sym (rate-test b) ∙ not-false _ (ap not c.if-not-between-4.false) in
     rw (t.0, t.1, t.2, span-true p, e)
 
 pub overflow_cast-longest_span : goal.overflow_cast-longest_span

@@ -1,4 +1,6 @@
 -- `target_of` meets its contract: a set out of its limits is refused, any other is answered.
+use mathlib.Core.Bool.{not}
+use mathlib.Core.Path.{ap}
 use borrow.Author.Rules.{rules}
 use borrow.Author.Tests.{not-true, not-false}
 use mathlib.Core.Path.{◌≡◌, sym, ◌∙◌}
@@ -20,10 +22,10 @@ met {p} {age} {target} e = (e, rw e (honest p age target))
 pub returns-then-not-in_limits : goal.returns-then-not-in_limits
 returns-then-not-in_limits c =
     let s = c.before.before in
-    met (out-of-limits s.args.p s.args.age s.args.target (sym c.before.in_limits.ensures ∙ not-true _ c.if-not-in_limits.true))
+    met (out-of-limits s.args.p s.args.age s.args.target (sym c.before.in_limits.ensures ∙ not-true _ (ap not c.if-not-in_limits.true)))
 
 pub target_within-requires : goal.target_within-requires
-target_within-requires c = rw (sym c.before.in_limits.ensures ∙ not-false _ c.if-not-in_limits.false) tt
+target_within-requires c = rw (sym c.before.in_limits.ensures ∙ not-false _ (ap not c.if-not-in_limits.false)) tt
 
 pub returns : goal.returns
 returns c =

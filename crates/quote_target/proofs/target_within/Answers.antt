@@ -1,5 +1,6 @@
 -- `target_within` meets its contract. The loop's invariant: what is found is what the years after n tell, and their cells are in
 -- range; the measure is n.
+use mathlib.Core.Bool.{not}
 use mathlib.Core.Path.{◌≡◌, refl, ap, sym, ◌∙◌}
 use mathlib.Core.Bool.{Bool, true, false}
 use Prim.Native.Nat.{ℕ, suc, ◌-◌, ◌≤◌}
@@ -42,10 +43,10 @@ age-test c = rw (to_z-of_z c.before.ranges.age) at c.between.ensures
 pub returns-then-not-between : goal.returns-then-not-between
 returns-then-not-between c =
     let s = c.before.before in
-    no-such-age s.args.p s.args.age s.args.target s.requires (sym (age-test c.before) ∙ not-true _ c.if-not-between.true)
+    no-such-age s.args.p s.args.age s.args.target s.requires (sym (age-test c.before) ∙ not-true _ (ap not c.if-not-between.true))
 
 age-in : (c : goal.Else-not-between) → T (age_in_table c.before.before.args.age)
-age-in c = rw (sym (age-test c.before) ∙ not-false _ c.if-not-between.false) tt
+age-in c = rw (sym (age-test c.before) ∙ not-false _ (ap not c.if-not-between.false)) tt
 
 pub loop-n-init : goal.loop-n-init
 unfolding sought_from in_range_from
@@ -104,7 +105,7 @@ returns-in_default c =
     let w = c.before.before in
     let l = w.before.before.before.before in
     let s = l.before.before.before in
-    let o = refused-when _ _ (sym (decided w) ∙ c.enum_told-1.given.1) in
+    let o = refused-when _ _ (sym (decided w) ∙ c.in_default.is) in
     out_of_range s.args.p s.args.age s.args.target s.requires (age-in l.before)
     (range-out s.args.p s.args.age years_sought first_years l.loop-n.n (omega arith) (omega (arith, l.loop-n.invariant.2)) o)
 
@@ -128,7 +129,7 @@ loop-n-preserved c =
     let h : first_years ≤ n = omega arith in
     let a = to_z-of_z s.ranges.age in
     let k = quoted-when (period_in_range p age n) (period_quote p age n)
-    (sym (decided w) ∙ c.before.before.answer-1.given.1) in (
+    (sym (decided w) ∙ c.before.before.in-Quoted.is) in (
       told-by refl (quote-ends p age n k.1 ∙ ap (λ (x : ℤ). period_ends p x n) (sym a)) (year-read s n l.loop-n.invariant.2).1 l.loop-n.invariant.0
           c.year_tells-found.ensures
           ∙ sym (sought-back p (bits age) (bits s.args.target) n h l.loop-n.invariant.2),

@@ -1,4 +1,6 @@
 -- `year_tells` meets its contract: the two tests in their order.
+use mathlib.Core.Bool.{not}
+use mathlib.Core.Path.{ap}
 use borrow.Author.Rules.{rules}
 use borrow.Author.Tests.{not-true, not-false}
 use mathlib.Core.Path.{◌≡◌, sym, ◌∙◌}
@@ -16,20 +18,20 @@ lower c = rw (to_z-of_z c.before.before.before.ranges.target) at c.reaches-2.ens
 
 -- past the first test, the upper end does
 upper-does : (c : goal.Else-not-reaches) → let s = c.before.before in reaches s.args.target s.args.e.upper ≡ true
-upper-does c = sym (upper c.before) ∙ not-false _ c.if-not-reaches.false
+upper-does c = sym (upper c.before) ∙ not-false _ (ap not c.if-not-reaches.false)
 
 pub returns-then-not-reaches : goal.returns-then-not-reaches
 unfolding year_tells
-returns-then-not-reaches c = let e = sym (upper c.before) ∙ not-true _ c.if-not-reaches.true in rw e
+returns-then-not-reaches c = let e = sym (upper c.before) ∙ not-true _ (ap not c.if-not-reaches.true) in rw e
 
 pub returns-then-not-reaches-2 : goal.returns-then-not-reaches-2
 unfolding year_tells
 returns-then-not-reaches-2 c =
-    let e = sym (lower c.before) ∙ not-true _ c.if-not-reaches-2.true in
+    let e = sym (lower c.before) ∙ not-true _ (ap not c.if-not-reaches-2.true) in
     rw (upper-does c.before.before, e)
 
 pub returns : goal.returns
 unfolding year_tells
 returns c =
-    let e = sym (lower c.before) ∙ not-false _ c.if-not-reaches-2.false in
+    let e = sym (lower c.before) ∙ not-false _ (ap not c.if-not-reaches-2.false) in
     rw (upper-does c.before.before, e, to_z-of_z c.before.before.before.before.ranges.year)

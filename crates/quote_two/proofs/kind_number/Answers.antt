@@ -6,32 +6,32 @@ use Rattle.quote_two.proofs.kind_number.Goals as goal
 
 pub returns-in-Death : goal.returns-in-Death
 unfolding kind_number
-returns-in-Death c = sym (ap kind_number c.enum_told-1.given.1)
+returns-in-Death c = sym (ap kind_number c.in-Death.is)
 
 pub returns-in-CohortSurvival : goal.returns-in-CohortSurvival
 unfolding kind_number
-returns-in-CohortSurvival c = sym (ap kind_number c.enum_told-in-CohortSurvival-1.given.1)
+returns-in-CohortSurvival c = sym (ap kind_number c.in-CohortSurvival.is)
 
 pub returns-in-PeriodSurvival : goal.returns-in-PeriodSurvival
 unfolding kind_number
-returns-in-PeriodSurvival c = sym (ap kind_number c.enum_told-in-PeriodSurvival-1.given.1)
+returns-in-PeriodSurvival c = sym (ap kind_number c.in-PeriodSurvival.is)
 
 pub returns-in-CohortExpectancy : goal.returns-in-CohortExpectancy
 unfolding kind_number
-returns-in-CohortExpectancy c = sym (ap kind_number c.enum_told-in-CohortExpectancy-1.given.1)
+returns-in-CohortExpectancy c = sym (ap kind_number c.in-CohortExpectancy.is)
 
 pub returns-in-PeriodExpectancy : goal.returns-in-PeriodExpectancy
 unfolding kind_number
-returns-in-PeriodExpectancy c = sym (ap kind_number c.enum_told-in-PeriodExpectancy-1.given.1)
+returns-in-PeriodExpectancy c = sym (ap kind_number c.in-PeriodExpectancy.is)
 
 pub returns-in-CohortAnnuity : goal.returns-in-CohortAnnuity
 unfolding kind_number
-returns-in-CohortAnnuity c = sym (ap kind_number c.enum_told-in-CohortAnnuity-1.given.1)
+returns-in-CohortAnnuity c = sym (ap kind_number c.in-CohortAnnuity.is)
 
 pub returns-in-PeriodAnnuity : goal.returns-in-PeriodAnnuity
 unfolding kind_number
-returns-in-PeriodAnnuity c = sym (ap kind_number c.enum_told-in-PeriodAnnuity-1.given.1)
+returns-in-PeriodAnnuity c = sym (ap kind_number c.in-PeriodAnnuity.is)
 
 pub returns-in-Day : goal.returns-in-Day
 unfolding kind_number
-returns-in-Day c = sym (ap kind_number c.enum_told-in-Day-1.given.1)
+returns-in-Day c = sym (ap kind_number c.in-Day.is)

@@ -37,23 +37,23 @@ both c = c.before.before.before
 pub returns-in_default : goal.returns-in_default
 returns-in_default c =
     let t = c.before.before in
-    first-not-printed (first (asked t)) (second t.before) (asked t).before.requires (sym (first-steps t) ∙ c.enum_told-1.given.1)
+    first-not-printed (first (asked t)) (second t.before) (asked t).before.requires (sym (first-steps t) ∙ c.in_default.is)
 
 pub returns-in_default-second : goal.returns-in_default-second
 returns-in_default-second c =
     let t = told c.before.before in
-    second-not-printed (first (asked t)) (second t.before) (asked t).before.requires (sym t.steps_of-second.ensures ∙ c.enum_told-in_default-second-1.given.1)
+    second-not-printed (first (asked t)) (second t.before) (asked t).before.requires (sym t.steps_of-second.ensures ∙ c.in_default-second.is)
 
 pub returns-then-n-m : goal.returns-then-n-m
 returns-then-n-m c =
     let k = c.before in
     let t = told (both k) in
-    equal-printed (first (asked t)) (second t.before) (asked t).before.requires (sym (first-steps t) ∙ (both k).before.first-1.given.1)
-    (sym t.steps_of-second.ensures ∙ k.before.second-1.given.1) c.if-n-m.true
+    equal-printed (first (asked t)) (second t.before) (asked t).before.requires (sym (first-steps t) ∙ (both k).before.in-At.is)
+    (sym t.steps_of-second.ensures ∙ k.before.in-At-second.is) c.if-n-m.true
 
 pub returns : goal.returns
 returns c =
     let k = c.before in
     let t = told (both k) in
-    different-printed (first (asked t)) (second t.before) (asked t).before.requires (sym (first-steps t) ∙ (both k).before.first-1.given.1)
-    (sym t.steps_of-second.ensures ∙ k.before.second-1.given.1) c.if-n-m.false
+    different-printed (first (asked t)) (second t.before) (asked t).before.requires (sym (first-steps t) ∙ (both k).before.in-At.is)
+    (sym t.steps_of-second.ensures ∙ k.before.in-At-second.is) c.if-n-m.false

@@ -8,10 +8,10 @@ use Rattle.quote_two.proofs.steps_of.Goals as goal
 
 pub returns-in_default : goal.returns-in_default
 unfolding steps_shown figure_shown
-returns-in_default c = sym (ap (λ (a : Answer). steps_shown (figure_shown a)) c.enum_told-1.given.1)
+returns-in_default c = sym (ap (λ (a : Answer). steps_shown (figure_shown a)) c.in_default.is)
 
 pub returns : goal.returns
 unfolding figure_shown
 returns c =
     c.figure_steps.ensures
-    ∙ sym (ap (λ (a : Answer). steps_shown (figure_shown a)) c.before.before.answer-1.given.1)
+    ∙ sym (ap (λ (a : Answer). steps_shown (figure_shown a)) c.before.before.in-Quoted.is)

@@ -19,16 +19,16 @@ at c e = ap (over c) (sym e)
 
 pub returns-in-JointLife : goal.returns-in-JointLife
 unfolding couple_over
-returns-in-JointLife c = c.status_over.ensures ∙ at c.before.before.before c.before.enum_told-1.given.1
+returns-in-JointLife c = c.status_over.ensures ∙ at c.before.before.before c.before.in-JointLife.is
 
 pub returns-in-LastSurvivor : goal.returns-in-LastSurvivor
 unfolding couple_over
-returns-in-LastSurvivor c = c.status_over-in-LastSurvivor.ensures ∙ at c.before.before.before c.before.enum_told-in-LastSurvivor-1.given.1
+returns-in-LastSurvivor c = c.status_over-in-LastSurvivor.ensures ∙ at c.before.before.before c.before.in-LastSurvivor.is
 
 pub returns-in-JointExpectancy : goal.returns-in-JointExpectancy
 unfolding couple_over
-returns-in-JointExpectancy c = c.status_expectancy_over.ensures ∙ at c.before.before.before c.before.enum_told-in-JointExpectancy-1.given.1
+returns-in-JointExpectancy c = c.status_expectancy_over.ensures ∙ at c.before.before.before c.before.in-JointExpectancy.is
 
 pub returns-in-LastExpectancy : goal.returns-in-LastExpectancy
 unfolding couple_over
-returns-in-LastExpectancy c = c.status_expectancy_over-in-LastExpectancy.ensures ∙ at c.before.before.before c.before.enum_told-in-LastExpectancy-1.given.1
+returns-in-LastExpectancy c = c.status_expectancy_over-in-LastExpectancy.ensures ∙ at c.before.before.before c.before.in-LastExpectancy.is

@@ -41,7 +41,7 @@ at c e = ap (λ (status : Status). status_chance status (grid c) c.args.s c.args
 
 pub returns-in-JointLife : goal.returns-in-JointLife
 unfolding status_chance
-returns-in-JointLife c = c.with_factor.ensures ∙ at c.before.before.before c.before.enum_told-1.given.1
+returns-in-JointLife c = c.with_factor.ensures ∙ at c.before.before.before c.before.in-JointLife.is
 
 pub returns-in-LastSurvivor : goal.returns-in-LastSurvivor
 unfolding status_chance
@@ -52,7 +52,7 @@ returns-in-LastSurvivor c =
     c.death_of-in-LastSurvivor-2.ensures
     ∙ ap (death_of (grid s))
     (w.with_factor-in-LastSurvivor.ensures ∙ ap₂ (with_factor (grid s)) d.death_of.ensures w.before.death_of-in-LastSurvivor.ensures)
-    ∙ at s d.before.enum_told-in-LastSurvivor-1.given.1
+    ∙ at s d.before.in-LastSurvivor.is
 
 pub with_factor-requires-in-LastSurvivor : goal.with_factor-requires-in-LastSurvivor
 with_factor-requires-in-LastSurvivor c = both-dead c

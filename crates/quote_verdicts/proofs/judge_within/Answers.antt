@@ -1,5 +1,6 @@
 -- `judge_within` meets its contract: the table's refusal of the year, that of a cell out of range, or the verdict by the factors of the
 -- year's cells.
+use mathlib.Core.Bool.{not}
 use mathlib.Core.Path.{◌≡◌, ap, sym, ◌∙◌}
 use mathlib.Core.Bool.{true, false}
 use Prim.Native.Nat.{ℕ, suc, ◌+◌, ◌≤◌}
@@ -127,7 +128,7 @@ worked c = rw (number_is c.before) at c.factors_of-worked.ensures
 
 -- every cell is in range
 ok : (c : goal.Else-not-worked) → c.before.before.factors_of-worked.result.ok ≡ true
-ok c = not-false _ c.if-not-worked.false
+ok c = not-false _ (ap not c.if-not-worked.false)
 
 pub verdict_on-verdict-requires : goal.verdict_on-verdict-requires
 unfolding grid_of
@@ -143,7 +144,7 @@ returns-then-not-worked c =
     let f = c.before.before in
     let e = f.before.before.before in
     let s = begun e in
-    cell_out s.args.p s.args.year s.args.column s.requires (table e).year-in (sym (worked f).ok ∙ not-true _ c.if-not-worked.true)
+    cell_out s.args.p s.args.year s.args.column s.requires (table e).year-in (sym (worked f).ok ∙ not-true _ (ap not c.if-not-worked.true))
 
 pub returns : goal.returns
 unfolding year_cells

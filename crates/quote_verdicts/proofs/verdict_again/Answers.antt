@@ -47,13 +47,13 @@ asked c =
 
 pub returns-in_default : goal.returns-in_default
 unfolding figure_here
-returns-in_default c = none_here _ _ (sym (asked c.before.before) ∙ c.enum_told-1.given.1)
+returns-in_default c = none_here _ _ (sym (asked c.before.before) ∙ c.in_default.is)
 
 pub returns : goal.returns
 unfolding figure_here
 returns c =
     let k = c.before.before in
-    quoted-here _ _ (sym (asked k.before.before) ∙ k.answer-1.given.1) c.age_verdict.ensures
+    quoted-here _ _ (sym (asked k.before.before) ∙ k.in-Quoted.is) c.age_verdict.ensures
 
 pub overflow_cast-age : goal.overflow_cast-age
 overflow_cast-age c = age-fits c.args.age c.requires.1

@@ -118,7 +118,7 @@ returns-in_default c =
     let t = turn k.before in
     let f = first t in
     record {
-      out_of_range = λ n. rw (path-is f) at (worked-out (grid_by (begun f).args.fine) (begun f).args.p (path f) (young-turn t).0 (cell-read k ∙ c.enum_told-1.given.1));
+      out_of_range = λ n. rw (path-is f) at (worked-out (grid_by (begun f).args.fine) (begun f).args.p (path f) (young-turn t).0 (cell-read k ∙ c.in_default.is));
       worked = λ n. absurd n;
       next = λ n. absurd n;
       old = λ n. absurd n;
@@ -161,7 +161,7 @@ loop-done-preserved c =
     let v = t.before.loop-done.invariant in
     let i = (in-limits-series (begun f).args.p (within f).limits).dynamics in
     let a = rw (back i.a tt, back i.theta tt, back i.c tt) at c.year_after-year.ensures in (
-      worked-more v.0 (short f) (young-turn t).0 (cell-read k.before.before.before ∙ k.before.e-1.given.1),
+      worked-more v.0 (short f) (young-turn t).0 (cell-read k.before.before.before ∙ k.before.in-Of.is),
       year-step (within f) v.1 (young-turn t).0 g.goes_on.result g.goes_on.ensures a,
       omega (arith, t.loop-done-test.true),
     )

@@ -14,10 +14,10 @@ returns-in-Lines c =
     let p = l.before.before in
     let s = p.before.before.args in
     c.fits2.ensures ∙ ap (λ (n : ℕ). leb (5 * s.input + n) s.room) l.longest_line.ensures
-    ∙ sym (ap (λ (q : Program). leb (run_room q s.input) s.room) p.program-1.given.1)
+    ∙ sym (ap (λ (q : Program). leb (run_room q s.input) s.room) p.in-Lines.is)
 
 pub returns-in-Verdict : goal.returns-in-Verdict
 unfolding run_room
 returns-in-Verdict c =
     let s = c.before.before.args in
-    sym (ap (λ (q : Program). leb (run_room q s.input) s.room) c.enum_told-1.given.1)
+    sym (ap (λ (q : Program). leb (run_room q s.input) s.room) c.in-Verdict.is)

@@ -17,23 +17,23 @@ pub put_lines-requires : goal.put_lines-requires
 unfolding run_room
 put_lines-requires c =
     let p = c.before.before in
-    room p.before.before.before.before p.program-1.given.1
+    room p.before.before.before.before p.in-Lines.is
 
 pub put_verdict-requires : goal.put_verdict-requires
 unfolding run_room
-put_verdict-requires c = let t = c.before in room t.before.before.before.before t.enum_told-1.given.1
+put_verdict-requires c = let t = c.before in room t.before.before.before.before t.in-Verdict.is
 
 pub returns-in-Lines : goal.returns-in-Lines
 unfolding run_of
 returns-in-Lines c =
     let p = c.before.before.before.before.before in
     let s = p.before.before.before.before.args in
-    put_as (sym (ap (λ (q : Program). run_of q s.input.now) p.program-1.given.1)) c.before.before.put_lines.ensures
+    put_as (sym (ap (λ (q : Program). run_of q s.input.now) p.in-Lines.is)) c.before.before.put_lines.ensures
 
 pub returns-in-Verdict : goal.returns-in-Verdict
 unfolding run_of
 returns-in-Verdict c =
     let t = c.before.before.before.before in
     let s = t.before.before.before.before.args in
-    put_as (sym (ap (λ (q : Program). run_of q s.input.now) t.enum_told-1.given.1))
+    put_as (sym (ap (λ (q : Program). run_of q s.input.now) t.in-Verdict.is))
     c.before.before.put_verdict.ensures

@@ -1,4 +1,6 @@
 -- `run` meets its contract: short, or the whole run.
+use mathlib.Core.Bool.{not}
+use mathlib.Core.Path.{ap}
 use borrow.Author.Rules.{rules}
 use mathlib.Core.Path.{◌≡◌, sym, ◌∙◌}
 use Prim.Native.Nat.{◌≤◌}
@@ -16,14 +18,14 @@ room : (c : goal.Else-not-has_room) → let s = (start c.before).args in
     run_room s.program (length s.input.now) ≤ length s.out-1.now
 room c =
     let h = c.before.has_room in
-    leb-true _ _ (sym h.ensures ∙ not-false h.result c.if-not-has_room.false)
+    leb-true _ _ (sym h.ensures ∙ not-false h.result (ap not c.if-not-has_room.false))
 
 pub returns-then-not-has_room : goal.returns-then-not-has_room
 returns-then-not-has_room c =
     let s = (start c.before).args in
     let h = c.before.has_room in
     into-short (run_room s.program (length s.input.now)) (run_of s.program s.input.now) s.out-1.now
-    (leb-false _ _ (sym h.ensures ∙ not-true h.result c.if-not-has_room.true))
+    (leb-false _ _ (sym h.ensures ∙ not-true h.result (ap not c.if-not-has_room.true)))
 
 pub returns : goal.returns
 returns c =

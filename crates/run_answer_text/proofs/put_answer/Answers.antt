@@ -16,22 +16,22 @@ required s e =
 
 pub put_quote-requires : goal.put_quote-requires
 unfolding SizedAnswer answer_text
-put_quote-requires c = required c.before.before.before.before.before c.before.before.answer-1.given.1
+put_quote-requires c = required c.before.before.before.before.before c.before.before.in-Quoted.is
 
 pub put_refused-requires : goal.put_refused-requires
 unfolding answer_text
-put_refused-requires c = (required c.before.before.before.before.before c.before.before.answer-in-Refused-1.given.1).1
+put_refused-requires c = (required c.before.before.before.before.before c.before.before.in-Refused.is).1
 
 pub returns-in-Quoted : goal.returns-in-Quoted
 unfolding answer_text
 returns-in-Quoted c =
     let s = c.before.before.before.before.before.before.before.before.args in
-    put_as (sym (ap (answer_text s.ends s.decimals) c.before.before.before.before.before.answer-1.given.1))
+    put_as (sym (ap (answer_text s.ends s.decimals) c.before.before.before.before.before.in-Quoted.is))
     c.before.before.put_quote.ensures
 
 pub returns-in-Refused : goal.returns-in-Refused
 unfolding answer_text
 returns-in-Refused c =
     let s = c.before.before.before.before.before.before.before.before.args in
-    put_as (sym (ap (answer_text s.ends s.decimals) c.before.before.before.before.before.answer-in-Refused-1.given.1))
+    put_as (sym (ap (answer_text s.ends s.decimals) c.before.before.before.before.before.in-Refused.is))
     c.before.before.put_refused.ensures

@@ -1,4 +1,5 @@
 -- `put_ends` meets its contract: nothing, or the lower end, right after it the upper one, and then the unit.
+use mathlib.Core.Path.{ap}
 use borrow.Author.Rules.{rules}
 use mathlib.Core.Path.{◌≡◌, sym}
 use mathlib.Core.Bool.{Bool, true, false, not}
@@ -35,7 +36,7 @@ texts : (c : goal.Else-not-ends) → let s = c.before.before.args in
     Three s.buffer-1.now s.at (low s.lower) (high s.upper) (unit_text s.unit)
 texts c =
     let s = c.before.before in
-    record { room = room_as (both s.args.ends s.args.unit s.args.lower s.args.upper c.if-not-ends.false) s.requires.2 }
+    record { room = room_as (both s.args.ends s.args.unit s.args.lower s.args.upper (ap not c.if-not-ends.false)) s.requires.2 }
 
 abbrev asked : goal.After-put_units-place → goal.Else-not-ends
 asked c = c.before.before.before
@@ -58,7 +59,7 @@ second c = c.put_units-end.ensures
 pub returns-then-not-ends : goal.returns-then-not-ends
 returns-then-not-ends c =
     let s = c.before.before.args in
-    put_as (sym (none s.ends s.unit s.lower s.upper c.if-not-ends.true)) (put-none s.buffer-1.now s.at)
+    put_as (sym (none s.ends s.unit s.lower s.upper (ap not c.if-not-ends.true))) (put-none s.buffer-1.now s.at)
 
 pub put_units-place-requires : goal.put_units-place-requires
 unfolding bytes_of
@@ -81,5 +82,5 @@ returns c =
     let c₂ = c.before.before.before.before.before.before in
     let t = asked (one c₂) in
     let s = t.before.before.args in
-    put_as (sym (both s.ends s.unit s.lower s.upper t.if-not-ends.false))
+    put_as (sym (both s.ends s.unit s.lower s.upper (ap not t.if-not-ends.false)))
     (three-put (texts t) (first (one c₂)) (second c₂) c.before.before.put_unit.ensures)

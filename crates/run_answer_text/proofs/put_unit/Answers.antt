@@ -17,22 +17,22 @@ pub put_text-requires : goal.put_text-requires
 unfolding unit_text bytes_of
 put_text-requires c =
     let t = c.before.before in
-    omega (arith, (required t.before.before.before t.enum_told-1.given.1).fits)
+    omega (arith, (required t.before.before.before t.in-Coarse.is).fits)
 
 pub put_text-requires-in-Fine : goal.put_text-requires-in-Fine
 unfolding unit_text bytes_of
 put_text-requires-in-Fine c =
     let t = c.before.before in
-    omega (arith, (required t.before.before.before t.enum_told-in-Fine-1.given.1).fits)
+    omega (arith, (required t.before.before.before t.in-Fine.is).fits)
 
 pub returns-in-Coarse : goal.returns-in-Coarse
 unfolding unit_text bytes_of
 returns-in-Coarse c =
     let p = c.before.before in
-    put_as (sym (ap unit_text p.before.before.before.enum_told-1.given.1)) (put_of p.put_text.ensures)
+    put_as (sym (ap unit_text p.before.before.before.in-Coarse.is)) (put_of p.put_text.ensures)
 
 pub returns-in-Fine : goal.returns-in-Fine
 unfolding unit_text bytes_of
 returns-in-Fine c =
     let p = c.before.before in
-    put_as (sym (ap unit_text p.before.before.before.enum_told-in-Fine-1.given.1)) (put_of p.put_text-in-Fine.ensures)
+    put_as (sym (ap unit_text p.before.before.before.in-Fine.is)) (put_of p.put_text-in-Fine.ensures)

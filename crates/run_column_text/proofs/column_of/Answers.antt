@@ -1,5 +1,6 @@
 -- `column_of` meets its contract. The loop's invariant: the steps before age x and the rows from the present place on are the
 -- whole column. The measure is how many ages are left.
+use mathlib.Core.Bool.{not}
 use borrow.Author.Rules.{rules}
 use borrow.Author.Tests.{not-true, not-false}
 use mathlib.Core.Path.{◌≡◌, refl, sym, ap, ◌∙◌}
@@ -75,13 +76,13 @@ loop-x-init c = record { most = omega arith; within = omega arith; long = refl; 
 pub returns-then-not-put_row : goal.returns-then-not-put_row
 returns-then-not-put_row c =
     let w = c.before.before.before.before in
-    sym (step w ∙ stops _ (row c.before (not-true _ c.if-not-put_row.true)))
+    sym (step w ∙ stops _ (row c.before (not-true _ (ap not c.if-not-put_row.true))))
 
 pub loop-x-preserved : goal.loop-x-preserved
 loop-x-preserved c =
     let w = c.before.before.before.before in
     let l = (turn w).loop-x in
-    let put = row c.before (not-false _ c.if-not-put_row.false) in
+    let put = row c.before (not-false _ (ap not c.if-not-put_row.false)) in
     record {
       most = omega arith;
       within = inside w;

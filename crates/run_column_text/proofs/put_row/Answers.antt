@@ -36,12 +36,12 @@ unfolding with_row
 row_as s x line {e = e} q h = goes _ q ∙ ap (λ (b : Bool). list_read b (set s x e.steps)) h
 
 entry-taken : (c : goal.In-Of-2) → let s = c.before.before.before.before.args in
-    read_entry s.line.now ≡ taken c.entry-1.given.0.0 []
-entry-taken c = sym c.before.before.entry_of.ensures ∙ ap entry_read c.entry-1.given.1
+    read_entry s.line.now ≡ taken c.in-Of.entry-1 []
+entry-taken c = sym c.before.before.entry_of.ensures ∙ ap entry_read c.in-Of.is
 
 pub returns-in_default : goal.returns-in_default
 unfolding with_row
-returns-in_default c = sym (stops _ (sym c.before.before.entry_of.ensures ∙ ap entry_read c.enum_told-1.given.1))
+returns-in_default c = sym (stops _ (sym c.before.before.entry_of.ensures ∙ ap entry_read c.in_default.is))
 
 pub returns-then-entry-x : goal.returns-then-entry-x
 returns-then-entry-x c =

@@ -1,4 +1,6 @@
 -- `q_at` meets its contract: a digit, a point and five digits are read, or one of them is missing.
+use mathlib.Core.Bool.{not}
+use mathlib.Core.Path.{ap}
 use borrow.Author.Rules.{rules}
 use mathlib.Core.Path.{◌≡◌, sym, ◌∙◌}
 use native.Mathlib.Omega.{arith}
@@ -23,7 +25,7 @@ told c = c.before.before
 
 first_taken : (c : goal.In-Unsigned) → let s = (entry c).args in let g = c.before.first-1.given.0 in
     read_digits 0 wholes (drop s.at s.bytes.now) ≡ taken g.0 (drop g.1.0 s.bytes.now)
-first_taken c = unsigned-taken _ c.before.before.before.digits_at.ensures c.before.first-1.given.1
+first_taken c = unsigned-taken _ c.before.before.before.digits_at.ensures c.before.in-Unsigned.is
 
 after_first : (c : goal.In-Unsigned) → let s = (entry c).args in let g = c.before.first-1.given.0 in
     read_q (drop s.at s.bytes.now) ≡ from_point g.0 (drop g.1.0 s.bytes.now)
@@ -32,17 +34,17 @@ after_first c = digit-taken _ (first_taken c)
 -- ---- the needs
 
 pub returns-in_default : goal.returns-in_default
-returns-in_default c = sym (digit-malformed _ (unsigned-malformed _ c.before.before.digits_at.ensures c.enum_told-1.given.1))
+returns-in_default c = sym (digit-malformed _ (unsigned-malformed _ c.before.before.digits_at.ensures c.in_default.is))
 
 pub returns-then-not-text_at : goal.returns-then-not-text_at
 unfolding bytes_of
 returns-then-not-text_at c =
     let t = c.before in
-    sym (after_first (told t) ∙ stops _ (text-missing _ _ (bytes_of ".") (lacks t.text_at.ensures c.if-not-text_at.true)))
+    sym (after_first (told t) ∙ stops _ (text-missing _ _ (bytes_of ".") (lacks t.text_at.ensures (ap not c.if-not-text_at.true))))
 
 pub overflow_add-after : goal.overflow_add-after
 overflow_add-after c =
-    omega (arith, (entry (told c.before)).well_formed.0, text-room _ _ _ (has c.before.text_at.ensures c.if-not-text_at.false))
+    omega (arith, (entry (told c.before)).well_formed.0, text-room _ _ _ (has c.before.text_at.ensures (ap not c.if-not-text_at.false)))
 
 pub digits_at-requires-2 : goal.digits_at-requires-2
 digits_at-requires-2 c = (omega arith, omega (arith, digits-small _ _ _ (first_taken (told c.before))))
@@ -53,4 +55,4 @@ returns c =
     let e = c.before in
     let t = e.before in
     c.digits_at-2.ensures
-    ∙ sym (after_first (told t) ∙ goes _ (text-found _ _ (bytes_of ".") (has t.text_at.ensures e.if-not-text_at.false)))
+    ∙ sym (after_first (told t) ∙ goes _ (text-found _ _ (bytes_of ".") (has t.text_at.ensures (ap not e.if-not-text_at.false))))

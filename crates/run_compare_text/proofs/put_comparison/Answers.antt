@@ -15,22 +15,22 @@ required s e = (subst SizedComparison e s.requires.0, room_as (ap (comparison_te
 
 pub put_pair-requires : goal.put_pair-requires
 unfolding SizedComparison comparison_text
-put_pair-requires c = required c.before.before.before.before.before c.before.before.comparison-1.given.1
+put_pair-requires c = required c.before.before.before.before.before c.before.before.in-Compared.is
 
 pub put_refused-requires : goal.put_refused-requires
 unfolding comparison_text
-put_refused-requires c = (required c.before.before.before.before.before c.before.before.comparison-in-NotCompared-1.given.1).1
+put_refused-requires c = (required c.before.before.before.before.before c.before.before.in-NotCompared.is).1
 
 pub returns-in-Compared : goal.returns-in-Compared
 unfolding comparison_text
 returns-in-Compared c =
     let s = c.before.before.before.before.before.before.before.before.args in
-    put_as (sym (ap (comparison_text s.decimals) c.before.before.before.before.before.comparison-1.given.1))
+    put_as (sym (ap (comparison_text s.decimals) c.before.before.before.before.before.in-Compared.is))
     c.before.before.put_pair.ensures
 
 pub returns-in-NotCompared : goal.returns-in-NotCompared
 unfolding comparison_text
 returns-in-NotCompared c =
     let s = c.before.before.before.before.before.before.before.before.args in
-    put_as (sym (ap (comparison_text s.decimals) c.before.before.before.before.before.comparison-in-NotCompared-1.given.1))
+    put_as (sym (ap (comparison_text s.decimals) c.before.before.before.before.before.in-NotCompared.is))
     c.before.before.put_refused.ensures

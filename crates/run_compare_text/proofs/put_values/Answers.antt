@@ -18,34 +18,34 @@ pub put_excess-requires : goal.put_excess-requires
 unfolding SizedValues values_text bytes_of
 put_excess-requires c =
     let w = c.before.before.before in
-    required w.before.before.before w.values-1.given.1
+    required w.before.before.before w.in-Below.is
 
 pub put_excess-requires-in-Above : goal.put_excess-requires-in-Above
 unfolding SizedValues values_text bytes_of
 put_excess-requires-in-Above c =
     let w = c.before.before.before in
-    required w.before.before.before w.values-in-Above-1.given.1
+    required w.before.before.before w.in-Above.is
 
 pub put_units-requires : goal.put_units-requires
 unfolding SizedValues values_text bytes_of
 put_units-requires c =
     let w = c.before.before.before in
-    required w.before.before.before w.values-in-Near-1.given.1
+    required w.before.before.before w.in-Near.is
 
 pub returns-in-Below : goal.returns-in-Below
 unfolding values_text bytes_of
 returns-in-Below c =
-    put_as (sym (ap values_text c.before.before.before.before.before.before.values-1.given.1))
+    put_as (sym (ap values_text c.before.before.before.before.before.before.in-Below.is))
     c.before.before.put_excess.ensures
 
 pub returns-in-Above : goal.returns-in-Above
 unfolding values_text bytes_of
 returns-in-Above c =
-    put_as (sym (ap values_text c.before.before.before.before.before.before.values-in-Above-1.given.1))
+    put_as (sym (ap values_text c.before.before.before.before.before.before.in-Above.is))
     c.before.before.put_excess-in-Above.ensures
 
 pub returns-in-Near : goal.returns-in-Near
 unfolding values_text bytes_of
 returns-in-Near c =
-    put_as (sym (ap values_text c.before.before.before.before.before.before.values-in-Near-1.given.1))
+    put_as (sym (ap values_text c.before.before.before.before.before.before.in-Near.is))
     c.before.before.put_units.ensures

@@ -23,13 +23,13 @@ step s = answering couple-lengths (couple-bounded s.args.first s.args.second) (l
 -- what the line reads as
 
 torn : (c : goal.In_default) → read_couple (line (start c.before.before)) ≡ malformed
-torn c = sym c.before.before.couple_query_of.ensures ∙ ap couple_read c.enum_told-1.given.1
+torn c = sym c.before.before.couple_query_of.ensures ∙ ap couple_read c.in_default.is
 
 abbrev known : goal.In-Of → goal.After-couple_query_of
 known c = c.before.before.before
 
-read : (c : goal.In-Of) → read_couple (line (start (known c))) ≡ taken c.before.query-1.given.0.0 []
-read c = sym (known c).couple_query_of.ensures ∙ ap couple_read c.before.query-1.given.1
+read : (c : goal.In-Of) → read_couple (line (start (known c))) ≡ taken c.before.in-Of.query-1 []
+read c = sym (known c).couple_query_of.ensures ∙ ap couple_read c.before.in-Of.is
 
 -- ---- the needs
 

@@ -58,15 +58,15 @@ left₄ c =
 
 -- ---- the needs
 
-pub LOST-add-t11 : goal.LOST-add-t11
-LOST-add-t11 c = omega (arith, text-room _ _ _ (sym c.before.text_at.ensures ∙ c.if-text_at.true))
+pub overflow_add-result : goal.overflow_add-result
+overflow_add-result c = omega (arith, text-room _ _ _ (sym c.before.text_at.ensures ∙ c.if-text_at.true))
 
 pub returns-then-text_at : goal.returns-then-text_at
 unfolding couples_on_offer couple_word bytes_of
 returns-then-text_at c = sym (word-found _ _ couple_word JointLife _ c.before.text_at.ensures c.if-text_at.true)
 
-pub LOST-add-t16 : goal.LOST-add-t16
-LOST-add-t16 c = omega (arith, text-room _ _ _ (sym c.before.text_at-2.ensures ∙ c.if-text_at-2.true))
+pub overflow_add-result-then-text_at-2 : goal.overflow_add-result-then-text_at-2
+overflow_add-result-then-text_at-2 c = omega (arith, text-room _ _ _ (sym c.before.text_at-2.ensures ∙ c.if-text_at-2.true))
 
 pub returns-then-text_at-2 : goal.returns-then-text_at-2
 unfolding couples_on_offer couple_word bytes_of
@@ -75,8 +75,8 @@ returns-then-text_at-2 c =
     (left₁ c.before.before.before
     ∙ word-found _ _ couple_word LastSurvivor _ c.before.text_at-2.ensures c.if-text_at-2.true)
 
-pub LOST-add-t21 : goal.LOST-add-t21
-LOST-add-t21 c = omega (arith, text-room _ _ _ (sym c.before.text_at-3.ensures ∙ c.if-text_at-3.true))
+pub overflow_add-result-then-text_at-3 : goal.overflow_add-result-then-text_at-3
+overflow_add-result-then-text_at-3 c = omega (arith, text-room _ _ _ (sym c.before.text_at-3.ensures ∙ c.if-text_at-3.true))
 
 pub returns-then-text_at-3 : goal.returns-then-text_at-3
 unfolding couples_on_offer couple_word bytes_of

@@ -32,16 +32,16 @@ second c = c.before.before.before.before.before
 open-text : (c : goal.In_default) → let s = c.before.before.before.args in
     figure_text s.decimals s.figure-1 ≡ bytes_of "open"
 unfolding figure_text
-open-text c = let s = c.before.before.before.args in ap (figure_text s.decimals) c.enum_told-1.given.1
+open-text c = let s = c.before.before.before.args in ap (figure_text s.decimals) c.in_default.is
 
 -- ---- a printed figure: its steps, and their whole part
 
 abbrev steps : goal.In-Printed → ℕ
-steps c = c.before.figure-1.given.0.0
+steps c = c.before.in-Printed.steps
 
 small : (c : goal.In-Printed) → steps c < 10 ^ most_digits
 unfolding Printable
-small c = subst Printable c.before.figure-1.given.1 (start c).requires.0
+small c = subst Printable c.before.in-Printed.is (start c).requires.0
 
 abbrev decimals : goal.In-Printed → ℕ
 decimals c = (start c).args.decimals
@@ -62,7 +62,7 @@ whole-text c = ap number_text (whole c)
 
 steps-text : (c : goal.In-Printed) → figure_text (decimals c) (start c).args.figure-1 ≡ steps_text (decimals c) (steps c)
 unfolding figure_text
-steps-text c = ap (figure_text (decimals c)) c.before.figure-1.given.1
+steps-text c = ap (figure_text (decimals c)) c.before.in-Printed.is
 
 texts : (c : goal.In-Printed)
     → Three (start c).args.buffer-1.now (start c).args.at (unsigned_text (steps c / 10 ^ decimals c)) (bytes_of ".")

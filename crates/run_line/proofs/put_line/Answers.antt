@@ -39,49 +39,49 @@ unfolding longest_line
 put_query-requires c =
     let m = c.before.before in
     let s = start₁ m in
-    (s.requires.0, s.requires.1, room s m.mode-1.given.1)
+    (s.requires.0, s.requires.1, room s m.in-Quotes.is)
 
 pub put_query-requires-in-Compare : goal.put_query-requires-in-Compare
 unfolding longest_line
 put_query-requires-in-Compare c =
     let t = c.before in
     let s = start₂ t in
-    (s.requires.0, s.requires.1, room s t.enum_told-1.given.1)
+    (s.requires.0, s.requires.1, room s t.in-Compare.is)
 
 pub put_couple-requires : goal.put_couple-requires
 unfolding longest_line
 put_couple-requires c =
     let t = c.before in
     let s = start₃ t in
-    (s.requires.0, s.requires.1, room s t.enum_told-in-Couples-1.given.1)
+    (s.requires.0, s.requires.1, room s t.in-Couples.is)
 
 pub put_target-requires : goal.put_target-requires
 unfolding longest_line
 put_target-requires c =
     let t = c.before in
     let s = start₄ t in
-    (s.requires.0, room s t.enum_told-in-Targets-1.given.1)
+    (s.requires.0, room s t.in-Targets.is)
 
 pub returns-in-Quotes : goal.returns-in-Quotes
 unfolding line_answer
 returns-in-Quotes c =
     let m = c.before.before.before.before.before in
-    put_as (matched (start₁ m) m.mode-1.given.1) c.before.before.put_query.ensures
+    put_as (matched (start₁ m) m.in-Quotes.is) c.before.before.put_query.ensures
 
 pub returns-in-Compare : goal.returns-in-Compare
 unfolding line_answer
 returns-in-Compare c =
     let t = c.before.before.before.before in
-    put_as (matched (start₂ t) t.enum_told-1.given.1) c.before.before.put_query-in-Compare.ensures
+    put_as (matched (start₂ t) t.in-Compare.is) c.before.before.put_query-in-Compare.ensures
 
 pub returns-in-Couples : goal.returns-in-Couples
 unfolding line_answer
 returns-in-Couples c =
     let t = c.before.before.before.before in
-    put_as (matched (start₃ t) t.enum_told-in-Couples-1.given.1) c.before.before.put_couple.ensures
+    put_as (matched (start₃ t) t.in-Couples.is) c.before.before.put_couple.ensures
 
 pub returns-in-Targets : goal.returns-in-Targets
 unfolding line_answer
 returns-in-Targets c =
     let t = c.before.before.before.before in
-    put_as (matched (start₄ t) t.enum_told-in-Targets-1.given.1) c.before.before.put_target.ensures
+    put_as (matched (start₄ t) t.in-Targets.is) c.before.before.put_target.ensures

@@ -23,13 +23,13 @@ step s = answering query-lengths (query-bounded s.args.follows s.args.first s.ar
 -- what the line reads as
 
 torn : (c : goal.In_default) → read_query (line (start c.before.before)) ≡ malformed
-torn c = sym c.before.before.query_of.ensures ∙ ap query_read c.enum_told-1.given.1
+torn c = sym c.before.before.query_of.ensures ∙ ap query_read c.in_default.is
 
 abbrev known : goal.In-Of → goal.After-query_of
 known c = c.before.before.before
 
-read : (c : goal.In-Of) → read_query (line (start (known c))) ≡ taken c.before.query-1.given.0.0 []
-read c = sym (known c).query_of.ensures ∙ ap query_read c.before.query-1.given.1
+read : (c : goal.In-Of) → read_query (line (start (known c))) ≡ taken c.before.in-Of.query-1 []
+read c = sym (known c).query_of.ensures ∙ ap query_read c.before.in-Of.is
 
 -- ---- the needs
 

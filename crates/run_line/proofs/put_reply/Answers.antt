@@ -21,8 +21,8 @@ one c = c.before.before
 
 quoted : (c : goal.In-Quote-2) → let w = one c in let s = (start w).args in
     reply s.follows-1 s.first s.second s.query
-    ≡ answer_text c.follows-1.given.0.0 w.before.decimals_for-decimals.result w.answer_to-answer.result
-quoted c = reply-quotes _ _ _ _ (one c).before.decimals_for-decimals.ensures (one c).answer_to-answer.ensures c.follows-1.given.1
+    ≡ answer_text c.in-Quote.ends w.before.decimals_for-decimals.result w.answer_to-answer.result
+quoted c = reply-quotes _ _ _ _ (one c).before.decimals_for-decimals.ensures (one c).answer_to-answer.ensures c.in-Quote.is
 
 sized : (c : goal.After-answer_to-answer) → SizedAnswer c.answer_to-answer.result
 sized c = let s = (start c).args in rw c.answer_to-answer.ensures (query-sized s.first s.query)
@@ -43,7 +43,7 @@ compared : (c : goal.After-compare-comparison) → let w = both c in let s = (st
     × SizedComparison c.compare-comparison.result
 compared c =
     let w = both c in
-    reply-compare _ _ _ _ w.before.decimals_for-decimals.ensures w.answer_to-answer.ensures c.before.before.enum_told-1.given.1
+    reply-compare _ _ _ _ w.before.decimals_for-decimals.ensures w.answer_to-answer.ensures c.before.before.in-Compared.is
     c.before.answer_to-other.ensures c.compare-comparison.ensures
 
 -- ---- the needs

@@ -94,15 +94,15 @@ left₈ c =
 
 -- ---- the needs
 
-pub LOST-add-t15 : goal.LOST-add-t15
-LOST-add-t15 c = omega (arith, text-room _ _ _ (sym c.before.text_at.ensures ∙ c.if-text_at.true))
+pub overflow_add-result : goal.overflow_add-result
+overflow_add-result c = omega (arith, text-room _ _ _ (sym c.before.text_at.ensures ∙ c.if-text_at.true))
 
 pub returns-then-text_at : goal.returns-then-text_at
 unfolding on_offer word_of bytes_of
 returns-then-text_at c = sym (word-found _ _ word_of Death _ c.before.text_at.ensures c.if-text_at.true)
 
-pub overflow_add-result-then-text_at-3 : goal.overflow_add-result-then-text_at-3
-overflow_add-result-then-text_at-3 c = omega (arith, text-room _ _ _ (sym c.before.text_at-2.ensures ∙ c.if-text_at-2.true))
+pub overflow_add-result-then-text_at-2 : goal.overflow_add-result-then-text_at-2
+overflow_add-result-then-text_at-2 c = omega (arith, text-room _ _ _ (sym c.before.text_at-2.ensures ∙ c.if-text_at-2.true))
 
 pub returns-then-text_at-2 : goal.returns-then-text_at-2
 unfolding on_offer word_of bytes_of
@@ -111,8 +111,8 @@ returns-then-text_at-2 c =
     (left₁ c.before.before.before
     ∙ word-found _ _ word_of CohortSurvival _ c.before.text_at-2.ensures c.if-text_at-2.true)
 
-pub LOST-add-t25 : goal.LOST-add-t25
-LOST-add-t25 c = omega (arith, text-room _ _ _ (sym c.before.text_at-3.ensures ∙ c.if-text_at-3.true))
+pub overflow_add-result-then-text_at-3 : goal.overflow_add-result-then-text_at-3
+overflow_add-result-then-text_at-3 c = omega (arith, text-room _ _ _ (sym c.before.text_at-3.ensures ∙ c.if-text_at-3.true))
 
 pub returns-then-text_at-3 : goal.returns-then-text_at-3
 unfolding on_offer word_of bytes_of
@@ -121,8 +121,8 @@ returns-then-text_at-3 c =
     (left₂ c.before.before.before
     ∙ word-found _ _ word_of PeriodSurvival _ c.before.text_at-3.ensures c.if-text_at-3.true)
 
-pub LOST-add-t30 : goal.LOST-add-t30
-LOST-add-t30 c = omega (arith, text-room _ _ _ (sym c.before.text_at-4.ensures ∙ c.if-text_at-4.true))
+pub overflow_add-result-then-text_at-4 : goal.overflow_add-result-then-text_at-4
+overflow_add-result-then-text_at-4 c = omega (arith, text-room _ _ _ (sym c.before.text_at-4.ensures ∙ c.if-text_at-4.true))
 
 pub returns-then-text_at-4 : goal.returns-then-text_at-4
 unfolding on_offer word_of bytes_of
@@ -131,8 +131,8 @@ returns-then-text_at-4 c =
     (left₃ c.before.before.before
     ∙ word-found _ _ word_of CohortExpectancy _ c.before.text_at-4.ensures c.if-text_at-4.true)
 
-pub LOST-add-t35 : goal.LOST-add-t35
-LOST-add-t35 c = omega (arith, text-room _ _ _ (sym c.before.text_at-5.ensures ∙ c.if-text_at-5.true))
+pub overflow_add-result-then-text_at-5 : goal.overflow_add-result-then-text_at-5
+overflow_add-result-then-text_at-5 c = omega (arith, text-room _ _ _ (sym c.before.text_at-5.ensures ∙ c.if-text_at-5.true))
 
 pub returns-then-text_at-5 : goal.returns-then-text_at-5
 unfolding on_offer word_of bytes_of
@@ -141,8 +141,8 @@ returns-then-text_at-5 c =
     (left₄ c.before.before.before
     ∙ word-found _ _ word_of PeriodExpectancy _ c.before.text_at-5.ensures c.if-text_at-5.true)
 
-pub LOST-add-t40 : goal.LOST-add-t40
-LOST-add-t40 c = omega (arith, text-room _ _ _ (sym c.before.text_at-6.ensures ∙ c.if-text_at-6.true))
+pub overflow_add-result-then-text_at-6 : goal.overflow_add-result-then-text_at-6
+overflow_add-result-then-text_at-6 c = omega (arith, text-room _ _ _ (sym c.before.text_at-6.ensures ∙ c.if-text_at-6.true))
 
 pub returns-then-text_at-6 : goal.returns-then-text_at-6
 unfolding on_offer word_of bytes_of
@@ -151,8 +151,8 @@ returns-then-text_at-6 c =
     (left₅ c.before.before.before
     ∙ word-found _ _ word_of (CohortAnnuity (pos 0)) _ c.before.text_at-6.ensures c.if-text_at-6.true)
 
-pub LOST-add-t45 : goal.LOST-add-t45
-LOST-add-t45 c = omega (arith, text-room _ _ _ (sym c.before.text_at-7.ensures ∙ c.if-text_at-7.true))
+pub overflow_add-result-then-text_at-7 : goal.overflow_add-result-then-text_at-7
+overflow_add-result-then-text_at-7 c = omega (arith, text-room _ _ _ (sym c.before.text_at-7.ensures ∙ c.if-text_at-7.true))
 
 pub returns-then-text_at-7 : goal.returns-then-text_at-7
 unfolding on_offer word_of bytes_of

@@ -1,4 +1,5 @@
 -- `rate_at` meets its contract: the kind takes no rate, or the rate is malformed, or the kind has the rate that was read.
+use mathlib.Core.Bool.{not}
 use borrow.Author.Rules.{rules}
 use mathlib.Core.Path.{sym, ap, ◌∙◌}
 use lib.ListN.{drop}
@@ -10,7 +11,7 @@ use Rattle.run_query.proofs.QuerySteps.{rate-none, rate-malformed, rate-taken}
 use Rattle.run_query.proofs.rate_at.Goals as goal
 
 pub returns-then-not-takes_rate : goal.returns-then-not-takes_rate
-returns-then-not-takes_rate c = sym (rate-none _ _ (lacks c.before.takes_rate.ensures c.if-not-takes_rate.true))
+returns-then-not-takes_rate c = sym (rate-none _ _ (lacks c.before.takes_rate.ensures (ap not c.if-not-takes_rate.true)))
 
 pub returns-in_default : goal.returns-in_default
 unfolding bytes_of
@@ -18,8 +19,8 @@ returns-in_default c =
     let f = c.before.before in
     let t = f.before.before in
     sym
-    (rate-malformed _ _ (has t.before.takes_rate.ensures t.if-not-takes_rate.false)
-    (read-malformed _ f.field_at.ensures c.enum_told-1.given.1))
+    (rate-malformed _ _ (has t.before.takes_rate.ensures (ap not t.if-not-takes_rate.false))
+    (read-malformed _ f.field_at.ensures c.in_default.is))
 
 pub returns : goal.returns
 unfolding bytes_of
@@ -27,9 +28,9 @@ returns c =
     let r = c.before.before in
     let f = r.before.before in
     let t = f.before.before in
-    let e = held r.rate-1.given.0.0 c.before.known_told-1.given.0.1 in
-    ap (λ (k : Kind). taken k (drop r.rate-1.given.0.1.0 t.before.before.before.args.bytes.now))
+    let e = held r.in-Number.rate-1 c.before.known_told-1.given.0.1 in
+    ap (λ (k : Kind). taken k (drop r.in-Number.next t.before.before.before.args.bytes.now))
     (c.with_rate.ensures ∙ ap (with_rate t.before.before.before.args.kind) e)
     ∙ sym
-    (rate-taken _ _ (has t.before.takes_rate.ensures t.if-not-takes_rate.false)
-    (read_taken _ f.field_at.ensures r.rate-1.given.1))
+    (rate-taken _ _ (has t.before.takes_rate.ensures (ap not t.if-not-takes_rate.false))
+    (read_taken _ f.field_at.ensures r.in-Number.is))

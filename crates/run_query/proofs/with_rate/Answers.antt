@@ -13,36 +13,36 @@ at s e = sym (ap (λ (k : Kind). with_rate k s.args.rate) e)
 
 pub returns-in-Death : goal.returns-in-Death
 unfolding with_rate
-returns-in-Death c = at c.before.before c.enum_told-1.given.1
+returns-in-Death c = at c.before.before c.in-Death.is
 
 pub returns-in-CohortSurvival : goal.returns-in-CohortSurvival
 unfolding with_rate
-returns-in-CohortSurvival c = at c.before.before c.enum_told-in-CohortSurvival-1.given.1
+returns-in-CohortSurvival c = at c.before.before c.in-CohortSurvival.is
 
 pub returns-in-PeriodSurvival : goal.returns-in-PeriodSurvival
 unfolding with_rate
-returns-in-PeriodSurvival c = at c.before.before c.enum_told-in-PeriodSurvival-1.given.1
+returns-in-PeriodSurvival c = at c.before.before c.in-PeriodSurvival.is
 
 pub returns-in-CohortExpectancy : goal.returns-in-CohortExpectancy
 unfolding with_rate
-returns-in-CohortExpectancy c = at c.before.before c.enum_told-in-CohortExpectancy-1.given.1
+returns-in-CohortExpectancy c = at c.before.before c.in-CohortExpectancy.is
 
 pub returns-in-PeriodExpectancy : goal.returns-in-PeriodExpectancy
 unfolding with_rate
-returns-in-PeriodExpectancy c = at c.before.before c.enum_told-in-PeriodExpectancy-1.given.1
+returns-in-PeriodExpectancy c = at c.before.before c.in-PeriodExpectancy.is
 
 pub returns-in-CohortAnnuity : goal.returns-in-CohortAnnuity
 unfolding with_rate
 returns-in-CohortAnnuity c =
     let s = c.before.before in
-    ap CohortAnnuity (to_z-of_z s.ranges.rate) ∙ at s c.enum_told-in-CohortAnnuity-1.given.1
+    ap CohortAnnuity (to_z-of_z s.ranges.rate) ∙ at s c.in-CohortAnnuity.is
 
 pub returns-in-PeriodAnnuity : goal.returns-in-PeriodAnnuity
 unfolding with_rate
 returns-in-PeriodAnnuity c =
     let s = c.before.before in
-    ap PeriodAnnuity (to_z-of_z s.ranges.rate) ∙ at s c.enum_told-in-PeriodAnnuity-1.given.1
+    ap PeriodAnnuity (to_z-of_z s.ranges.rate) ∙ at s c.in-PeriodAnnuity.is
 
 pub returns-in-Day : goal.returns-in-Day
 unfolding with_rate
-returns-in-Day c = at c.before.before c.enum_told-in-Day-1.given.1
+returns-in-Day c = at c.before.before c.in-Day.is

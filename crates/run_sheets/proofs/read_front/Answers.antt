@@ -36,16 +36,16 @@ pub returns-in-One : goal.returns-in-One
 returns-in-One c =
     let t = c.before in
     let w = read t.before.before in
-    front-one (input w) (omega arith) t.enum_told-1.given.1 (one w) (end w)
+    front-one (input w) (omega arith) t.in-One.is (one w) (end w)
 
 pub returns-in-InTurn : goal.returns-in-InTurn
 returns-in-InTurn c =
     let t = c.before in
     let w = read t.before.before in
-    c.read_second.ensures ∙ front-turn (input w) (omega arith) t.enum_told-in-InTurn-1.given.1
+    c.read_second.ensures ∙ front-turn (input w) (omega arith) t.in-InTurn.is
 
 pub returns-in-ByNumber : goal.returns-in-ByNumber
 returns-in-ByNumber c =
     let t = c.before in
     let w = read t.before.before in
-    c.read_second-in-ByNumber.ensures ∙ front-number (input w) (omega arith) t.enum_told-in-ByNumber-1.given.1
+    c.read_second-in-ByNumber.ensures ∙ front-number (input w) (omega arith) t.in-ByNumber.is

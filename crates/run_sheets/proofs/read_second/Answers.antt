@@ -1,4 +1,5 @@
 -- `read_second` meets its contract: the second sheet is read behind the first, and its answer is given, or the first is named.
+use mathlib.Core.Bool.{not}
 use borrow.Author.Rules.{rules}
 use mathlib.Core.Path.{◌≡◌, ap, ◌∙◌}
 use mathlib.Core.Bool.{cond}
@@ -60,7 +61,7 @@ returns-then-not-second_given c =
     let s = start w in
     c.stop.ensures
     ∙ two-first (input s) s.requires.0 s.requires.1 s.args.numbered (other w) (given g)
-    (not-true g.second_given.result c.before.if-not-second_given.true)
+    (not-true g.second_given.result (ap not c.before.if-not-second_given.true))
 
 pub overflow_add-result : goal.overflow_add-result
 overflow_add-result c =
@@ -74,7 +75,7 @@ returns c =
     let w = called g in
     let s = start w in
     two-second (input s) s.requires.0 s.requires.1 s.args.numbered (other w) (given g)
-    (not-false g.second_given.result c.if-not-second_given.false) (len w)
+    (not-false g.second_given.result (ap not c.if-not-second_given.false)) (len w)
 
 pub slice_bounds-rest-count : goal.slice_bounds-rest-count
 slice_bounds-rest-count c = within c.before

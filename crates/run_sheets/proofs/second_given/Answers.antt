@@ -1,4 +1,6 @@
 -- `second_given` meets its contract, test by test.
+use mathlib.Core.Bool.{not}
+use mathlib.Core.Path.{ap}
 use mathlib.Core.Path.{◌≡◌}
 use mathlib.Core.Bool.{Bool, true, false, cond}
 use Prim.Native.Nat.{ℕ}
@@ -34,16 +36,16 @@ returns-then-first-eq0 c = let s = c.before.args in accepted s.numbered s.first 
 pub returns-then-not-numbered : goal.returns-then-not-numbered
 returns-then-not-numbered c =
     let s = c.before.before.args in
-    in-turn s.first s.second c.before.if-first-eq0.false (not-true s.numbered c.if-not-numbered.true)
+    in-turn s.first s.second c.before.if-first-eq0.false (not-true s.numbered (ap not c.if-not-numbered.true))
 
 pub returns-then-second-eq0 : goal.returns-then-second-eq0
 returns-then-second-eq0 c =
     let t = c.before in
     let s = t.before.before.args in
-    second-accepted s.first s.second t.before.if-first-eq0.false (not-false s.numbered t.if-not-numbered.false) c.if-second-eq0.true
+    second-accepted s.first s.second t.before.if-first-eq0.false (not-false s.numbered (ap not t.if-not-numbered.false)) c.if-second-eq0.true
 
 pub returns : goal.returns
 returns c =
     let t = c.before in
     let s = t.before.before.args in
-    by-number s.first s.second t.before.if-first-eq0.false (not-false s.numbered t.if-not-numbered.false) c.if-second-eq0.false
+    by-number s.first s.second t.before.if-first-eq0.false (not-false s.numbered (ap not t.if-not-numbered.false)) c.if-second-eq0.false

@@ -20,45 +20,45 @@ unfolding SizedFound found_text
 put_year-requires c =
     let k = c.before in
     let f = k.before in
-    rw (held f.found-1.given.0.0 k.known_told-1.given.0.1) (required f.before.before.before f.found-1.given.1)
+    rw (held f.in-Reached.year k.known_told-1.given.0.1) (required f.before.before.before f.in-Reached.is)
 
 pub put_text-requires : goal.put_text-requires
 unfolding found_text bytes_of
 put_text-requires c =
-    let w = c.before.before in (required w.before.before.before w.enum_told-1.given.1).1.ranges
+    let w = c.before.before in (required w.before.before.before w.in-Open.is).1.ranges
 
 pub put_text-requires-in-Never : goal.put_text-requires-in-Never
 unfolding found_text bytes_of
 put_text-requires-in-Never c =
-    let w = c.before.before in (required w.before.before.before w.enum_told-in-Never-1.given.1).1.ranges
+    let w = c.before.before in (required w.before.before.before w.in-Never.is).1.ranges
 
 pub put_refused-requires : goal.put_refused-requires
 unfolding found_text
 put_refused-requires c =
-    let f = c.before.before in (required f.before.before.before f.found-in-Refused-1.given.1).1
+    let f = c.before.before in (required f.before.before.before f.in-Refused.is).1
 
 pub returns-in-Reached : goal.returns-in-Reached
 unfolding found_text
 returns-in-Reached c =
     let k = c.before.before.before.before in
     let f = k.before in
-    put_as (sym (ap found_text f.found-1.given.1))
-    (rw (held f.found-1.given.0.0 k.known_told-1.given.0.1) at c.before.before.put_year.ensures)
+    put_as (sym (ap found_text f.in-Reached.is))
+    (rw (held f.in-Reached.year k.known_told-1.given.0.1) at c.before.before.put_year.ensures)
 
 pub returns-in-Open : goal.returns-in-Open
 unfolding found_text bytes_of
 returns-in-Open c =
-    put_as (sym (ap found_text c.before.before.before.before.before.enum_told-1.given.1))
+    put_as (sym (ap found_text c.before.before.before.before.before.in-Open.is))
     (put_of c.before.before.put_text.ensures)
 
 pub returns-in-Never : goal.returns-in-Never
 unfolding found_text bytes_of
 returns-in-Never c =
-    put_as (sym (ap found_text c.before.before.before.before.before.enum_told-in-Never-1.given.1))
+    put_as (sym (ap found_text c.before.before.before.before.before.in-Never.is))
     (put_of c.before.before.put_text-in-Never.ensures)
 
 pub returns-in-Refused : goal.returns-in-Refused
 unfolding found_text
 returns-in-Refused c =
-    put_as (sym (ap found_text c.before.before.before.before.before.found-in-Refused-1.given.1))
+    put_as (sym (ap found_text c.before.before.before.before.before.in-Refused.is))
     c.before.before.put_refused.ensures

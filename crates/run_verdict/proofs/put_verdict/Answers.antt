@@ -46,17 +46,17 @@ front c = c.before.read_front-front.result
 
 year-taken : (c : goal.In-Number-2) → let y = c.before.before in let g = c.year-1.given.0 in
     read_year (drop (front y).next (input y)) ≡ taken g.0 (drop g.1.0 (input y))
-year-taken c = read_taken _ c.before.before.year_at.ensures.0 c.year-1.given.1
+year-taken c = read_taken _ c.before.before.year_at.ensures.0 c.in-Number.is
 
 -- the column begins within the input
-within : (c : goal.In-Number-2) → c.year-1.given.0.1.0 ≤ length (input c.before.before)
+within : (c : goal.In-Number-2) → c.in-Number.next ≤ length (input c.before.before)
 within c =
     let y = c.before.before in
-    subst (PlaceIn (length (input y))) c.year-1.given.1 y.year_at.ensures.1
+    subst (PlaceIn (length (input y))) c.in-Number.is y.year_at.ensures.1
 
 -- the year, from its bits
-year-back : (c : goal.After-refusal_number) → let z = (asked c).year-1.given.0.0 in to_z w64 (of_z w64 z) ≡ z
-year-back c = held (asked c).year-1.given.0.0 c.before.known_told-1.given.0.1
+year-back : (c : goal.After-refusal_number) → let z = (asked c).in-Number.year-1 in to_z w64 (of_z w64 z) ≡ z
+year-back c = held (asked c).in-Number.year-1 c.before.known_told-1.given.0.1
 
 -- ---- there is room, for the line and for any refusal
 
@@ -85,7 +85,7 @@ abbrev before : goal.After-verdict_on-judged → goal.Else-refusal_number-ne0
 before c = c.before.before.before
 
 line : (c : goal.After-verdict_on-judged) → let r = (before c).before in
-    verdict_run (input (known r)) ≡ verdict_line (asked r).year-1.given.0.0 c.verdict_on-judged.result
+    verdict_run (input (known r)) ≡ verdict_line (asked r).in-Number.year-1 c.verdict_on-judged.result
 line c =
     let r = (before c).before in
     let y = known r in
@@ -104,7 +104,7 @@ pub returns-in_default : goal.returns-in_default
 returns-in_default c =
     let t = c.before.before.before.before in
     let y = t.before.before in
-    let none = read-malformed _ y.year_at.ensures.0 t.enum_told-1.given.1 in
+    let none = read-malformed _ y.year_at.ensures.0 t.in_default.is in
     put_as (sym (run-malformed (input y) y.before.read_front-front.ensures none)) c.before.before.put_refusal.ensures
 
 pub put_refusal-requires-then-refusal_number-ne0 : goal.put_refusal-requires-then-refusal_number-ne0

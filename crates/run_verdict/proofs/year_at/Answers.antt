@@ -1,4 +1,6 @@
 -- `year_at` meets its contract: no year is found, or no line feed behind it, or both are read.
+use mathlib.Core.Bool.{not}
+use mathlib.Core.Path.{ap}
 use borrow.Author.Rules.{rules}
 use mathlib.Core.Path.{◌≡◌, sym, ◌∙◌}
 use native.Mathlib.Omega.{arith}
@@ -24,7 +26,7 @@ after-year : (c : goal.After-text_at) → let s = (start (named c)).args in let 
 unfolding bytes_of
 after-year c =
     let y = named c in
-    year-steps _ ∙ goes _ (read_taken _ y.before.before.field_at.ensures y.year-1.given.1)
+    year-steps _ ∙ goes _ (read_taken _ y.before.before.field_at.ensures y.in-Number.is)
 
 -- ---- the needs
 
@@ -32,25 +34,25 @@ pub returns-in_default : goal.returns-in_default
 unfolding bytes_of
 returns-in_default c =
     let f = c.before.before in
-    (sym (year-steps _ ∙ stops _ (read-malformed _ f.field_at.ensures c.enum_told-1.given.1)), tt)
+    (sym (year-steps _ ∙ stops _ (read-malformed _ f.field_at.ensures c.in_default.is)), tt)
 
 pub returns-then-not-text_at : goal.returns-then-not-text_at
 unfolding bytes_of
 returns-then-not-text_at c =
     let t = c.before in
-    (sym (after-year t ∙ stops _ (text-missing _ _ (bytes_of "\n") (lacks t.text_at.ensures c.if-not-text_at.true))), tt)
+    (sym (after-year t ∙ stops _ (text-missing _ _ (bytes_of "\n") (lacks t.text_at.ensures (ap not c.if-not-text_at.true)))), tt)
 
 pub overflow_add-result : goal.overflow_add-result
 overflow_add-result c =
     let t = c.before in
-    omega (arith, (start (named t)).ranges, text-room _ _ _ (has t.text_at.ensures c.if-not-text_at.false))
+    omega (arith, (start (named t)).ranges, text-room _ _ _ (has t.text_at.ensures (ap not c.if-not-text_at.false)))
 
 pub returns : goal.returns
 unfolding bytes_of
 returns c =
     let t = c.before in
-    let h = has t.text_at.ensures c.if-not-text_at.false in (
-      rw (held (named t).year-1.given.0.0 t.before.before.known_told-1.given.0.1)
+    let h = has t.text_at.ensures (ap not c.if-not-text_at.false) in (
+      rw (held (named t).in-Number.year-1 t.before.before.known_told-1.given.0.1)
           (sym (after-year t ∙ goes _ (text-found _ _ (bytes_of "\n") h))),
       omega (arith, text-room _ _ (bytes_of "\n") h),
     )

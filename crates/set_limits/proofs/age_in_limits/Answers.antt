@@ -1,4 +1,6 @@
 -- `age_in_limits` meets its contract: the four tests in their order, up to the first that fails.
+use mathlib.Core.Bool.{not}
+use mathlib.Core.Path.{ap}
 use borrow.Author.Rules.{rules}
 use mathlib.Core.Path.{◌≡◌, refl}
 use mathlib.Core.Bool.{Bool, ◌&&◌}
@@ -61,28 +63,28 @@ beta-test c = tested slope_limit c.within-4.ensures (fields₄ c).beta refl
 -- ---- past the tests that passed
 
 past-level : (c : goal.Else-not-within) {x b : Bool} → x ≡ b → x ≡ (within level_limit (age₁ c.before).level && b)
-past-level c e = passes c.if-not-within.false (level-test c.before) e
+past-level c e = passes (ap not c.if-not-within.false) (level-test c.before) e
 
 past-slope : (c : goal.Else-not-within-2) {x b : Bool} → x ≡ b → let a = age₂ c.before in
     x ≡ (within level_limit a.level && (within slope_limit a.slope && b))
-past-slope c e = past-level c.before.before.before (passes c.if-not-within-2.false (slope-test c.before) e)
+past-slope c e = past-level c.before.before.before (passes (ap not c.if-not-within-2.false) (slope-test c.before) e)
 
 -- ---- the needs
 
 pub returns-then-not-within : goal.returns-then-not-within
 unfolding age_in_limits
-returns-then-not-within c = fails _ c.if-not-within.true (level-test c.before)
+returns-then-not-within c = fails _ (ap not c.if-not-within.true) (level-test c.before)
 
 pub returns-then-not-within-2 : goal.returns-then-not-within-2
 unfolding age_in_limits
-returns-then-not-within-2 c = past-level c.before.before.before (fails _ c.if-not-within-2.true (slope-test c.before))
+returns-then-not-within-2 c = past-level c.before.before.before (fails _ (ap not c.if-not-within-2.true) (slope-test c.before))
 
 pub returns-then-not-within-3 : goal.returns-then-not-within-3
 unfolding age_in_limits
-returns-then-not-within-3 c = past-slope c.before.before.before (fails _ c.if-not-within-3.true (alpha-test c.before))
+returns-then-not-within-3 c = past-slope c.before.before.before (fails _ (ap not c.if-not-within-3.true) (alpha-test c.before))
 
 pub returns : goal.returns
 unfolding age_in_limits
 returns c =
     let e = c.before.before in
-    past-slope e.before.before.before (passes e.if-not-within-3.false (alpha-test e.before) (beta-test c))
+    past-slope e.before.before.before (passes (ap not e.if-not-within-3.false) (alpha-test e.before) (beta-test c))

@@ -6,8 +6,8 @@ use Rattle.set_limits.proofs.constant_limit.Goals as goal
 
 pub returns-in-Ag2014 : goal.returns-in-Ag2014
 unfolding constant_limit_of
-returns-in-Ag2014 c = rw c.enum_told-1.given.1
+returns-in-Ag2014 c = rw c.in-Ag2014.is
 
 pub returns-in-LiLee : goal.returns-in-LiLee
 unfolding constant_limit_of
-returns-in-LiLee c = rw c.enum_told-in-LiLee-1.given.1
+returns-in-LiLee c = rw c.in-LiLee.is

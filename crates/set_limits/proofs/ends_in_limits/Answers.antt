@@ -1,4 +1,6 @@
 -- `ends_in_limits` meets its contract: the test of the lower end, and then that of the upper one.
+use mathlib.Core.Bool.{not}
+use mathlib.Core.Path.{ap}
 use borrow.Author.Rules.{rules}
 use mathlib.Core.Path.{◌≡◌, refl}
 use Rattle.number_whole.proofs.Signed.{EndsFit}
@@ -15,11 +17,11 @@ lower-test c = tested kappa_limit c.within.ensures (ends-fit c.before.before).lo
 
 pub returns-then-not-within : goal.returns-then-not-within
 unfolding ends_in_limits
-returns-then-not-within c = fails _ c.if-not-within.true (lower-test c.before)
+returns-then-not-within c = fails _ (ap not c.if-not-within.true) (lower-test c.before)
 
 pub returns : goal.returns
 unfolding ends_in_limits
 returns c =
     let e = c.before.before in
     let w = e.before in
-    passes e.if-not-within.false (lower-test w) (tested kappa_limit c.within-2.ensures (ends-fit w.before.before).upper refl)
+    passes (ap not e.if-not-within.false) (lower-test w) (tested kappa_limit c.within-2.ensures (ends-fit w.before.before).upper refl)

@@ -1,5 +1,6 @@
 -- `in_limits` meets its contract. The loop's invariant: the ages before x are in limits. The measure is how many are
 -- left. A set of AG2014 needs no test of kappa, by `steady-kappa`.
+use mathlib.Core.Bool.{not}
 use borrow.Author.Rules.{rules}
 use mathlib.Core.Path.{◌≡◌, refl, ap, sym, ◌∙◌}
 use mathlib.Core.Bool.{Bool, true, ◌&&◌}
@@ -52,17 +53,17 @@ before-ages : (c : goal.Else-not-series_in_limits) {x b : Bool} → x ≡ b
     x ≡ (table_in_limits p.table p.start p.c && (series_in_limits p && b))
 before-ages c e =
     let t = c.before.before in
-    passes t.if-not-table_in_limits.false (table-tested t.before) (passes c.if-not-series_in_limits.false c.before.series_in_limits.ensures e)
+    passes (ap not t.if-not-table_in_limits.false) (table-tested t.before) (passes (ap not c.if-not-series_in_limits.false) c.before.series_in_limits.ensures e)
 
 table-in : (c : goal.Else-not-series_in_limits) → let p = c.before.before.before.before.before.before.args.p in
     T (table_in_limits p.table p.start p.c)
 table-in c =
     let t = c.before.before in
-    rw (← table-tested t.before, not-false t.before.table_in_limits.result t.if-not-table_in_limits.false) tt
+    rw (← table-tested t.before, not-false t.before.table_in_limits.result (ap not t.if-not-table_in_limits.false)) tt
 
 series-in : (c : goal.Else-not-series_in_limits) → let p = c.before.before.before.before.before.before.args.p in
     T (series_in_limits p)
-series-in c = rw (← c.before.series_in_limits.ensures, not-false c.before.series_in_limits.result c.if-not-series_in_limits.false) tt
+series-in c = rw (← c.before.series_in_limits.ensures, not-false c.before.series_in_limits.result (ap not c.if-not-series_in_limits.false)) tt
 
 -- all ages are in limits
 ages-in : (c : goal.After-loop-x) → let p = c.before.before.before.before.before.before.before.before.args.p in
@@ -74,13 +75,13 @@ ages-in c =
 
 pub returns-then-not-table_in_limits : goal.returns-then-not-table_in_limits
 unfolding in_limits
-returns-then-not-table_in_limits c = fails _ c.if-not-table_in_limits.true (table-tested c.before)
+returns-then-not-table_in_limits c = fails _ (ap not c.if-not-table_in_limits.true) (table-tested c.before)
 
 pub returns-then-not-series_in_limits : goal.returns-then-not-series_in_limits
 unfolding in_limits
 returns-then-not-series_in_limits c =
     let t = c.before.before in
-    passes t.if-not-table_in_limits.false (table-tested t.before) (fails _ c.if-not-series_in_limits.true c.before.series_in_limits.ensures)
+    passes (ap not t.if-not-table_in_limits.false) (table-tested t.before) (fails _ (ap not c.if-not-series_in_limits.true) c.before.series_in_limits.ensures)
 
 pub loop-x-init : goal.loop-x-init
 unfolding all_below
@@ -92,7 +93,7 @@ returns-then-not-age_in_limits c =
     let l = turn c.before.before in
     let a = c.before.age_in_limits in
     let h : l.loop-x.x < ages = omega arith in
-    let e = sym (age-tested c.before) ∙ not-true a.result c.if-not-age_in_limits.true in
+    let e = sym (age-tested c.before) ∙ not-true a.result (ap not c.if-not-age_in_limits.true) in
     before-ages l.before (rw (all-out _ _ ages h e))
 
 pub loop-x-preserved : goal.loop-x-preserved
@@ -100,14 +101,14 @@ unfolding all_below
 loop-x-preserved c =
     let l = (turn c.before.before).loop-x in
     let a = c.before.age_in_limits in
-    (search rules, rw (add-one l.x, l.invariant.1, ← age-tested c.before, not-false a.result c.if-not-age_in_limits.false))
+    (search rules, rw (add-one l.x, l.invariant.1, ← age-tested c.before, not-false a.result (ap not c.if-not-age_in_limits.false)))
 
 pub returns-in-Ag2014 : goal.returns-in-Ag2014
 unfolding in_limits
 returns-in-Ag2014 c =
     let e = c.before.before in
     let s = e.before.before in
-    before-ages s (rw (ages-in e, steady-kappa _ c.enum_told-1.given.1 (table-in s) (series-in s)))
+    before-ages s (rw (ages-in e, steady-kappa _ c.in-Ag2014.is (table-in s) (series-in s)))
 
 -- the loop's end, before kappa is walked
 abbrev ended : goal.After-struct_told-in-LiLee-4-1 → goal.After-loop-x

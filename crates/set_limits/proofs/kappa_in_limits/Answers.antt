@@ -1,5 +1,6 @@
 -- `kappa_in_limits` meets its contract. The loop's invariant: the ends are those of kappa in year n, and the years before are in
 -- limits. The measure is how many are left.
+use mathlib.Core.Bool.{not}
 use borrow.Author.Rules.{rules}
 use mathlib.Core.Path.{◌≡◌, refl, ap, sym, ◌∙◌}
 use mathlib.Core.Bool.{Bool, true}
@@ -43,14 +44,14 @@ returns-then-not-ends_in_limits c =
     let t = c.before in
     let l = t.before.before in
     let h : l.loop-n.n < suc last_years = omega arith in
-    sym (all-out _ l.loop-n.n (suc last_years) h (sym (year-tested t) ∙ not-true _ c.if-not-ends_in_limits.true))
+    sym (all-out _ l.loop-n.n (suc last_years) h (sym (year-tested t) ∙ not-true _ (ap not c.if-not-ends_in_limits.true)))
 
 pub kappa_step-e-requires : goal.kappa_step-e-requires
 unfolding grid_of unit_by
 kappa_step-e-requires c =
     let t = c.before in
     let l = t.before.before in
-    (l.before.requires, ends-within l.loop-n.e (rw (← t.ends_in_limits.ensures, not-false t.ends_in_limits.result c.if-not-ends_in_limits.false) tt))
+    (l.before.requires, ends-within l.loop-n.e (rw (← t.ends_in_limits.ensures, not-false t.ends_in_limits.result (ap not c.if-not-ends_in_limits.false)) tt))
 
 pub loop-n-preserved : goal.loop-n-preserved
 unfolding kappa_in all_below grid_of unit_by
@@ -61,7 +62,7 @@ loop-n-preserved c =
     let f = to_z-of_z l.before.ranges.start in (
       rw (c.kappa_step-e.ensures, l.loop-n.invariant.0, add-one l.loop-n.n),
       omega arith,
-      rw (add-one l.loop-n.n, l.loop-n.invariant.2, f, ← year-tested t, not-false t.ends_in_limits.result e.if-not-ends_in_limits.false),
+      rw (add-one l.loop-n.n, l.loop-n.invariant.2, f, ← year-tested t, not-false t.ends_in_limits.result (ap not e.if-not-ends_in_limits.false)),
     )
 
 pub returns : goal.returns

@@ -1,5 +1,6 @@
 -- `series_in_limits` meets its contract: the five tests in their order, up to the first that fails. K and theta have
 -- passed theirs where K + 171·theta is formed, so that it does not overflow.
+use mathlib.Core.Bool.{not}
 use borrow.Author.Rules.{rules}
 use mathlib.Core.Path.{◌≡◌, refl, ap, ◌∙◌}
 use mathlib.Core.Bool.{Bool, ◌&&◌}
@@ -84,10 +85,10 @@ period-test : (c : goal.After-within-3) → c.within-3.result ≡ within period_
 period-test c = tested period_limit c.within-3.ensures (fields₃ c).period refl
 
 theta-under : (c : goal.Else-not-within-3) → Under (set₃ c.before).theta theta_limit
-theta-under c = let e = c.before.before.before in passed theta_limit e.if-not-within-2.false (theta-test e.before)
+theta-under c = let e = c.before.before.before in passed theta_limit (ap not e.if-not-within-2.false) (theta-test e.before)
 
 period-under : (c : goal.Else-not-within-3) → Under (set₃ c.before).period period_limit
-period-under c = passed period_limit c.if-not-within-3.false (period-test c.before)
+period-under c = passed period_limit (ap not c.if-not-within-3.false) (period-test c.before)
 
 last-test : (c : goal.After-within-4)
     → c.within-4.result ≡ within period_limit ((set₄ c).period +ℤ pos last_years *ℤ (set₄ c).theta)
@@ -101,16 +102,16 @@ kappa-test c = tested kappa_limit c.within-5.ensures (fields₅ c).kappa refl
 -- ---- past the tests that passed
 
 past-a : (c : goal.Else-not-within) {x b : Bool} → x ≡ b → x ≡ (within a_limit (set₁ c.before).a && b)
-past-a c e = passes c.if-not-within.false (a_test c.before) e
+past-a c e = passes (ap not c.if-not-within.false) (a_test c.before) e
 
 past-theta : (c : goal.Else-not-within-2) {x b : Bool} → x ≡ b
     → let p = set₂ c.before in x ≡ (within a_limit p.a && (within theta_limit p.theta && b))
-past-theta c e = past-a c.before.before.before (passes c.if-not-within-2.false (theta-test c.before) e)
+past-theta c e = past-a c.before.before.before (passes (ap not c.if-not-within-2.false) (theta-test c.before) e)
 
 past-period : (c : goal.Else-not-within-3) {x b : Bool} → x ≡ b
     → let p = set₃ c.before in
     x ≡ (within a_limit p.a && (within theta_limit p.theta && (within period_limit p.period && b)))
-past-period c e = past-theta c.before.before.before (passes c.if-not-within-3.false (period-test c.before) e)
+past-period c e = past-theta c.before.before.before (passes (ap not c.if-not-within-3.false) (period-test c.before) e)
 
 past-last : (c : goal.Else-not-within-4) {x b : Bool} → x ≡ b
     → let p = set₄ c.before in
@@ -118,21 +119,21 @@ past-last : (c : goal.Else-not-within-4) {x b : Bool} → x ≡ b
     && (within period_limit (p.period +ℤ pos last_years *ℤ p.theta) && b))))
 past-last c e =
     past-period c.before.before.before.before.before.before
-    (passes c.if-not-within-4.false (last-test c.before) e)
+    (passes (ap not c.if-not-within-4.false) (last-test c.before) e)
 
 -- ---- the needs
 
 pub returns-then-not-within : goal.returns-then-not-within
 unfolding series_in_limits
-returns-then-not-within c = fails _ c.if-not-within.true (a_test c.before)
+returns-then-not-within c = fails _ (ap not c.if-not-within.true) (a_test c.before)
 
 pub returns-then-not-within-2 : goal.returns-then-not-within-2
 unfolding series_in_limits
-returns-then-not-within-2 c = past-a c.before.before.before (fails _ c.if-not-within-2.true (theta-test c.before))
+returns-then-not-within-2 c = past-a c.before.before.before (fails _ (ap not c.if-not-within-2.true) (theta-test c.before))
 
 pub returns-then-not-within-3 : goal.returns-then-not-within-3
 unfolding series_in_limits
-returns-then-not-within-3 c = past-theta c.before.before.before (fails _ c.if-not-within-3.true (period-test c.before))
+returns-then-not-within-3 c = past-theta c.before.before.before (fails _ (ap not c.if-not-within-3.true) (period-test c.before))
 
 pub overflow_mul-p : goal.overflow_mul-p
 overflow_mul-p c = let e = c.before.before in years-fit (theta-under e) (period-under e)
@@ -143,7 +144,7 @@ overflow_add-p c = let e = c.before.before.before.before in last_fits (theta-und
 pub returns-then-not-within-4 : goal.returns-then-not-within-4
 unfolding series_in_limits
 returns-then-not-within-4 c =
-    past-period c.before.before.before.before.before.before (fails _ c.if-not-within-4.true (last-test c.before))
+    past-period c.before.before.before.before.before.before (fails _ (ap not c.if-not-within-4.true) (last-test c.before))
 
 pub returns : goal.returns
 unfolding series_in_limits

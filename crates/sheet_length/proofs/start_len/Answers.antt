@@ -9,7 +9,7 @@ use Rattle.sheet_length.specs.laws.PartsLaws.{no_start, start-length}
 use Rattle.sheet_length.proofs.start_len.Goals as goal
 
 pub returns-in-Ag2014 : goal.returns-in-Ag2014
-returns-in-Ag2014 c = sym (ap length (no_start _ _ c.enum_told-1.given.1))
+returns-in-Ag2014 c = sym (ap length (no_start _ _ c.in-Ag2014.is))
 
 pub returns-in-LiLee : goal.returns-in-LiLee
 returns-in-LiLee c =
@@ -18,4 +18,4 @@ returns-in-LiLee c =
     let s = t.before.before in
     let start = l.line_len.ensures.0 ∙ ap (line_length 5) (to_z-of_z s.ranges.start) in
     let constant = c.line_len-in-LiLee.ensures.0 ∙ ap (line_length 1) (to_z-of_z s.ranges.c) in
-    omega (arith, start, constant, start-length s.args.start s.args.c t.enum_told-in-LiLee-1.given.1)
+    omega (arith, start, constant, start-length s.args.start s.args.c t.in-LiLee.is)

@@ -8,8 +8,8 @@ use Rattle.sheet_length.proofs.table_len.Goals as goal
 
 pub returns-in-Ag2014 : goal.returns-in-Ag2014
 unfolding table_text bytes_of
-returns-in-Ag2014 c = sym (table-length c.enum_told-1.given.1)
+returns-in-Ag2014 c = sym (table-length c.in-Ag2014.is)
 
 pub returns-in-LiLee : goal.returns-in-LiLee
 unfolding table_text bytes_of
-returns-in-LiLee c = sym (table-length c.enum_told-in-LiLee-1.given.1)
+returns-in-LiLee c = sym (table-length c.in-LiLee.is)

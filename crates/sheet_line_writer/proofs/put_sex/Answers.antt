@@ -10,22 +10,22 @@ pub put_text-requires : goal.put_text-requires
 unfolding sex_text bytes_of
 put_text-requires c =
     let t = c.before.before in
-    (room_as (ap sex_text t.enum_told-1.given.1) t.before.before.before.requires).ranges
+    (room_as (ap sex_text t.in-M.is) t.before.before.before.requires).ranges
 
 pub put_text-requires-in-F : goal.put_text-requires-in-F
 unfolding sex_text bytes_of
 put_text-requires-in-F c =
     let t = c.before.before in
-    (room_as (ap sex_text t.enum_told-in-F-1.given.1) t.before.before.before.requires).ranges
+    (room_as (ap sex_text t.in-F.is) t.before.before.before.requires).ranges
 
 pub returns-in-M : goal.returns-in-M
 unfolding sex_text bytes_of
 returns-in-M c =
     let t = c.before.before.before.before.before in
-    put_as (sym (ap sex_text t.enum_told-1.given.1)) (put_of c.before.before.put_text.ensures)
+    put_as (sym (ap sex_text t.in-M.is)) (put_of c.before.before.put_text.ensures)
 
 pub returns-in-F : goal.returns-in-F
 unfolding sex_text bytes_of
 returns-in-F c =
     let t = c.before.before.before.before.before in
-    put_as (sym (ap sex_text t.enum_told-in-F-1.given.1)) (put_of c.before.before.put_text-in-F.ensures)
+    put_as (sym (ap sex_text t.in-F.is)) (put_of c.before.before.put_text-in-F.ensures)

@@ -15,7 +15,7 @@ use Rattle.sheet_line_writer.proofs.Line.{line-room, line-put}
 use Rattle.sheet_line_writer.proofs.put_start.Goals as goal
 
 pub returns-in-Ag2014 : goal.returns-in-Ag2014
-returns-in-Ag2014 c = put_as (sym (no_start _ _ c.enum_told-1.given.1)) (put-none _ _)
+returns-in-Ag2014 c = put_as (sym (no_start _ _ c.in-Ag2014.is)) (put-none _ _)
 
 -- ---- of LILEE: the two values, the room for their lines, and what each call writes
 
@@ -30,7 +30,7 @@ c-held s = let e = to_z-of_z s.ranges.c in record { is = e; small = small-as e s
 
 room : (c : goal.In-LiLee) → let s = (start c).args in
     Room s.buffer-1.now s.at (line_text (bytes_of "start") s.start ++ (line_text (bytes_of "c") s.c ++ []))
-room c = room_as (start-lines _ _ c.enum_told-in-LiLee-1.given.1) (start c).requires.2
+room c = room_as (start-lines _ _ c.in-LiLee.is) (start c).requires.2
 
 abbrev first : goal.After-put_line-constant → goal.In-LiLee
 first c = c.before.before.before
@@ -53,7 +53,7 @@ whole : (c : goal.After-put_line) → let s = (start (first (second c))).args in
 whole c =
     let b = second c in
     let t = first b in
-    put_as (sym (start-lines _ _ t.enum_told-in-LiLee-1.given.1))
+    put_as (sym (start-lines _ _ t.in-LiLee.is))
     (put-join (start-put b) (put_as (sym (append-nil _)) (c-put c)) (room t))
 
 -- ---- the needs

@@ -1,5 +1,6 @@
 -- `read_first` meets its contract: what is read at the front is the sheet there, and ends where it ends; where there is none its
 -- lines are counted.
+use mathlib.Core.Bool.{not}
 use borrow.Author.Rules.{rules}
 use borrow.Author.Tests.{not-false}
 use mathlib.Core.Path.{◌≡◌, ap, ◌∙◌}
@@ -23,7 +24,7 @@ place : (c : goal.Else-not-got) → let f = c.before.before.before.before in
     sheet_end bytes + (length bytes - f.front-got.result.next) ≡ length bytes
 place c =
     let f = c.before.before.before.before.front-got in
-    first-place _ f.result f.ensures (not-false _ c.if-not-got.false)
+    first-place _ f.result f.ensures (not-false _ (ap not c.if-not-got.false))
 
 pub returns-then-not-got : goal.returns-then-not-got
 unfolding sheet_end front_lines

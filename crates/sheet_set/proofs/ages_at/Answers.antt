@@ -20,7 +20,7 @@ returns-in_default c =
     let called = c.before.before in
     let head = called.before.before in
     sym
-    (ages-malformed called.before.loop-x-test.true (four-malformed _ called.age_at.ensures c.enum_told-1.given.1)
+    (ages-malformed called.before.loop-x-test.true (four-malformed _ called.age_at.ensures c.in_default.is)
     head.loop-x.invariant.1)
 
 pub loop-x-preserved : goal.loop-x-preserved
@@ -38,7 +38,7 @@ loop-x-preserved c =
         held vs.1.1.0 told.1.1.0.1,
         held vs.1.1.1.0 told.1.1.1.0.1,
       )
-          (ages-next called.before.loop-x-test.true (four-taken _ called.age_at.ensures read.after-1.given.1)
+          (ages-next called.before.loop-x-test.true (four-taken _ called.age_at.ensures read.in-Four.is)
           head.loop-x.invariant.1),
     )
 

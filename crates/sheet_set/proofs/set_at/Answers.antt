@@ -54,7 +54,7 @@ series c =
 pub returns-in_default : goal.returns-in_default
 returns-in_default c =
     let t = c.before in
-    none_read _ c.none.result c.none.ensures (series-malformed _ _ _ (four-malformed _ (series t.before.before) t.enum_told-1.given.1))
+    none_read _ c.none.result c.none.ensures (series-malformed _ _ _ (four-malformed _ (series t.before.before) t.in_default.is))
 
 pub returns-in_default-start_at : goal.returns-in_default-start_at
 returns-in_default-start_at c =
@@ -62,8 +62,8 @@ returns-in_default-start_at c =
     let s = t.before.before in
     let r = s.before.before in
     none_read _ c.none-in_default-start_at.result c.none-in_default-start_at.ensures
-    (start-malformed _ _ _ (four-taken _ (series r.before.before) r.next-1.given.1)
-    (sym s.start_at.ensures ∙ ap (start_read _) t.enum_told-in_default-start_at-1.given.1))
+    (start-malformed _ _ _ (four-taken _ (series r.before.before) r.in-Four.is)
+    (sym s.start_at.ensures ∙ ap (start_read _) t.in_default-start_at.is))
 
 pub returns : goal.returns
 returns c =
@@ -76,16 +76,16 @@ returns c =
     let ws = told.known_told-1.given.1 in
     c.ages_at.ensures
     ∙ sym
-    (series-read _ _ {mid = drop r.next-1.given.0.0 (start r.before.before).args.bytes.now}
+    (series-read _ _ {mid = drop r.in-Four.next-1 (start r.before.before).args.bytes.now}
     (rw (
       held vs.0 ws.0.1,
       held vs.1.0 ws.1.0.1,
       held vs.1.1.0 ws.1.1.0.1,
       held vs.1.1.1.0 ws.1.1.1.0.1,
     )
-    (four-taken _ (series r.before.before) r.next-1.given.1))
+    (four-taken _ (series r.before.before) r.in-Four.is))
     (rw (
-      held f.first-1.given.0.1.0 begun.known_told-in-Start-1.given.1.0.1,
-      held f.first-1.given.0.1.1.0 begun.known_told-in-Start-1.given.1.1.0.1,
+      held f.in-Start.start begun.known_told-in-Start-1.given.1.0.1,
+      held f.in-Start.c begun.known_told-in-Start-1.given.1.1.0.1,
     )
-    (sym s.start_at.ensures ∙ ap (start_read _) f.first-1.given.1)))
+    (sym s.start_at.ensures ∙ ap (start_read _) f.in-Start.is)))

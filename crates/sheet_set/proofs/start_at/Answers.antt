@@ -7,7 +7,7 @@ use Rattle.sheet_set.proofs.start_at.Goals as goal
 
 pub returns-in-Ag2014 : goal.returns-in-Ag2014
 unfolding read_start
-returns-in-Ag2014 c = sym (start-by _ c.enum_told-1.given.1)
+returns-in-Ag2014 c = sym (start-by _ c.in-Ag2014.is)
 
 pub returns-in-LiLee : goal.returns-in-LiLee
-returns-in-LiLee c = c.start_lines.ensures ∙ sym (start-by _ c.before.enum_told-in-LiLee-1.given.1)
+returns-in-LiLee c = c.start_lines.ensures ∙ sym (start-by _ c.before.in-LiLee.is)

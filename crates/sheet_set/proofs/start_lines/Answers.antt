@@ -48,7 +48,7 @@ pub returns-in_default : goal.returns-in_default
 unfolding read_start
 returns-in_default c =
     let l = c.before.before in
-    sym (first-malformed _ _ _ (read-malformed _ (first l) c.enum_told-1.given.1))
+    sym (first-malformed _ _ _ (read-malformed _ (first l) c.in_default.is))
 
 pub returns-in_default-line_at : goal.returns-in_default-line_at
 unfolding read_start bytes_of
@@ -57,8 +57,8 @@ returns-in_default-line_at c =
     let r₀ = l₁.before.before.before in
     let e₁ = l₁.line_at-2.ensures (bytes_of "c") (record { text = l₁.before.two.ensures.holds }) in
     sym
-    (two-malformed _ _ _ (read_taken _ (first r₀.before.before) r₀.start-1.given.1)
-    (read-malformed _ e₁ c.enum_told-in_default-line_at-1.given.1))
+    (two-malformed _ _ _ (read_taken _ (first r₀.before.before) r₀.in-Number.is)
+    (read-malformed _ e₁ c.in_default-line_at.is))
 
 pub returns : goal.returns
 unfolding read_start bytes_of
@@ -67,6 +67,6 @@ returns c =
     let l₁ = r₁.before.before in
     let r₀ = l₁.before.before.before in
     let e₁ = l₁.line_at-2.ensures (bytes_of "c") (record { text = l₁.before.two.ensures.holds }) in
-    rw (held r₀.start-1.given.0.0 l₁.before.before.known_told-1.given.0.1, held r₁.c-1.given.0.0 c.known_told-in-Number-line_at-2-1.given.0.1)
+    rw (held r₀.in-Number.start-1 l₁.before.before.known_told-1.given.0.1, held r₁.in-Number-line_at.c-1 c.known_told-in-Number-line_at-2-1.given.0.1)
     (sym
-    (two-taken _ _ _ (read_taken _ (first r₀.before.before) r₀.start-1.given.1) (read_taken _ e₁ r₁.c-1.given.1)))
+    (two-taken _ _ _ (read_taken _ (first r₀.before.before) r₀.in-Number.is) (read_taken _ e₁ r₁.in-Number-line_at.is)))

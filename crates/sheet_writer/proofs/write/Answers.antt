@@ -1,4 +1,6 @@
 -- `write` meets its contract: out of limits, else short, else the sheet.
+use mathlib.Core.Bool.{not}
+use mathlib.Core.Path.{ap}
 use borrow.Author.Rules.{rules}
 use mathlib.Core.Path.{◌≡◌, sym, ◌∙◌}
 use mathlib.Core.Bool.{true}
@@ -10,13 +12,13 @@ use Rattle.sheet_writer.proofs.write.Goals as goal
 
 -- past the first test
 in-limits : (c : goal.Else-not-in_limits) → in_limits c.before.before.before.args.p ≡ true
-in-limits c = let t = c.before.in_limits in sym t.ensures ∙ not-false t.result c.if-not-in_limits.false
+in-limits c = let t = c.before.in_limits in sym t.ensures ∙ not-false t.result (ap not c.if-not-in_limits.false)
 
 pub returns-then-not-in_limits : goal.returns-then-not-in_limits
 returns-then-not-in_limits c =
     let s = c.before.before.before.args in
     let t = c.before.in_limits in
-    out-of-limits s.p s.buffer-1.now (sym t.ensures ∙ not-true t.result c.if-not-in_limits.true)
+    out-of-limits s.p s.buffer-1.now (sym t.ensures ∙ not-true t.result (ap not c.if-not-in_limits.true))
 
 pub sheet_len-requires : goal.sheet_len-requires
 sheet_len-requires c = rw (in-limits c) tt

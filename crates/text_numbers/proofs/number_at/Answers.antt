@@ -11,10 +11,10 @@ use Rattle.text_tokens.proofs.NumberSteps.{unsigned_small, positive-fits, minus-
 use Rattle.text_numbers.proofs.number_at.Goals as goal
 
 -- the number without its sign that was read
-small : (c : goal.In-Unsigned-2) → c.value-1.given.0.0 < 10 ^ most_digits
+small : (c : goal.In-Unsigned-2) → c.in-Unsigned.value-1 < 10 ^ most_digits
 small c =
     let called = c.before.before in
-    unsigned_small _ _ called.unsigned_at.ensures c.value-1.given.1
+    unsigned_small _ _ called.unsigned_at.ensures c.in-Unsigned.is
 
 pub returns-then-bytes-at : goal.returns-then-bytes-at
 returns-then-bytes-at c = sym (number_past _ _ (omega arith))
@@ -29,7 +29,7 @@ returns-in_default c =
     let called = c.before.before in
     sym
     (sign-malformed _ _ (omega arith) called.before.minus_at-minus.ensures called.unsigned_at.ensures
-    c.enum_told-1.given.1)
+    c.in_default.is)
 
 pub overflow_cast-result : goal.overflow_cast-result
 overflow_cast-result c = positive-fits _ (small c.before.before)
@@ -39,7 +39,7 @@ returns-then-minus-eq0 c =
     let read = c.before.before in
     let called = read.before.before in
     sym
-    (sign-none _ _ (omega arith) called.before.minus_at-minus.ensures called.unsigned_at.ensures read.value-1.given.1
+    (sign-none _ _ (omega arith) called.before.minus_at-minus.ensures called.unsigned_at.ensures read.in-Unsigned.is
     c.if-minus-eq0.true)
 
 pub returns-then-value-eq0 : goal.returns-then-value-eq0
@@ -47,7 +47,7 @@ returns-then-value-eq0 c =
     let read = c.before.before.before in
     let called = read.before.before in
     sym
-    (sign_zero _ _ (omega arith) called.before.minus_at-minus.ensures called.unsigned_at.ensures read.value-1.given.1
+    (sign_zero _ _ (omega arith) called.before.minus_at-minus.ensures called.unsigned_at.ensures read.in-Unsigned.is
     c.before.if-minus-eq0.false c.if-value-eq0.true)
 
 pub overflow_cast-result-2 : goal.overflow_cast-result-2
@@ -61,5 +61,5 @@ returns c =
     let read = c.before.before.before in
     let called = read.before.before in
     sym
-    (sign-minus _ _ (omega arith) called.before.minus_at-minus.ensures called.unsigned_at.ensures read.value-1.given.1
+    (sign-minus _ _ (omega arith) called.before.minus_at-minus.ensures called.unsigned_at.ensures read.in-Unsigned.is
     c.before.if-minus-eq0.false c.if-value-eq0.false)

@@ -1,5 +1,6 @@
 -- `text_at` meets its contract. The loop's invariant: the test of the whole text is the test of what is left of it. The
 -- measure is what is left of the text.
+use mathlib.Core.Bool.{not}
 use mathlib.Core.Path.{◌≡◌, sym, ap, ◌∙◌}
 use Prim.Native.Nat.{ℕ, ◌+◌, ◌-◌, ◌≤◌}
 use native.Mathlib.Omega.{arith}
@@ -29,7 +30,7 @@ returns-then-not-same_bytes c =
     (head.loop-done.invariant.1
     ∙ text-other _ _ _ head.loop-done.done word_bytes (omega arith)
     (λ e.
-    compared.same_bytes.ensures.no (not-true _ c.if-not-same_bytes.true)
+    compared.same_bytes.ensures.no (not-true _ (ap not c.if-not-same_bytes.true))
     (here.word_at-here.ensures ∙ e ∙ sym there.word_at.ensures)))
 
 pub loop-done-preserved : goal.loop-done-preserved
@@ -41,7 +42,7 @@ loop-done-preserved c =
       search rules,
       head.loop-done.invariant.1
           ∙ text-run _ _ _ head.loop-done.done word_bytes (omega arith)
-          (sym here.word_at-here.ensures ∙ compared.same_bytes.ensures.yes (not-false _ c.if-not-same_bytes.false)
+          (sym here.word_at-here.ensures ∙ compared.same_bytes.ensures.yes (not-false _ (ap not c.if-not-same_bytes.false))
           ∙ there.word_at.ensures),
     )
 
