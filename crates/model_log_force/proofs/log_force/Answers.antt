@@ -61,7 +61,7 @@ mixed_over-requires c =
     rw ((trend u l).1, back (beta-under u l) tt, low c) (within u l (chosen-under u (beta-under u l) l.kappas.low l.kappas.high))
 
 pub mixed_over-requires-2 : goal.mixed_over-requires-2
-mixed_over-requires-2 m κs =
+mixed_over-requires-2 m =
     let c = m.before in
     let s = start c in
     let u = unit_by s.args.fine in

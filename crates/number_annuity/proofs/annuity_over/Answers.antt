@@ -23,13 +23,16 @@ use Rattle.number_annuity.proofs.Running.{
   price-more,
 }
 use Rattle.number_annuity.proofs.annuity_over.Goals as goal
+use Rattle.number_annuity.proofs.annuity_over.Tie as tie
+use Rattle.number_annuity.proofs.annuity_over.Lts as lts
+use Rattle.number_annuity.proofs.annuity_over.Reads as reads
 
 -- the array's length
-size : (c : goal.Start) → length c.args.factors ≡ most_factors
+size : (c : lts.Start tie.the-claims reads.Pre reads.Post goal.the-invariant-loop-k goal.the-decreases-loop-k) → length c.args.factors ≡ most_factors
 size c = search rules
 
 -- no product is too great
-small : (c : goal.Start) → (grid_by c.args.fine).unit ≤ ten_trillionths.unit
+small : (c : lts.Start tie.the-claims reads.Pre reads.Post goal.the-invariant-loop-k goal.the-decreases-loop-k) → (grid_by c.args.fine).unit ≤ ten_trillionths.unit
 small c = unit-most (unit_by c.args.fine)
 
 pub loop-k-init : goal.loop-k-init
@@ -72,14 +75,14 @@ pub with_factor-payment-requires : goal.with_factor-payment-requires
 with_factor-payment-requires c = ((later c).small, (longer c.before).small)
 
 -- the payment after one year more
-paid : (c : goal.After-with_factor-payment) →
+paid : (c : lts.After-with_factor2 tie.the-claims reads.Pre reads.Post goal.the-invariant-loop-k goal.the-decreases-loop-k) →
     let l = c.before.before.before.before.before in
     let s = l.before.before in
     PaymentTo (grid_by s.args.fine) s.args.rate s.args.factors (l.loop-k.k + 1) c.with_factor-payment.result
 paid c = payment-to (later c.before) (longer c.before.before) c.with_factor-payment.ensures
 
 -- it fits beside the price
-room : (c : goal.After-with_factor-payment) →
+room : (c : lts.After-with_factor2 tie.the-claims reads.Pre reads.Post goal.the-invariant-loop-k goal.the-decreases-loop-k) →
     let l = c.before.before.before.before.before in
     AtMost ten_trillionths.unit c.with_factor-payment.result × AtMost (suc most_factors * ten_trillionths.unit) l.loop-k.price
 room c =

@@ -18,9 +18,12 @@ use Rattle.number_products.specs.laws.Units.{unit-most}
 use Rattle.number_exp_ends.specs.code.Code.{PairCount}
 use Rattle.number_exp_ends.proofs.Pairs.{Lower, Less, LowerPairs, room, positive, none, more, all, lower-next, less-next, first-upper, lower-sum, lower-out}
 use Rattle.number_exp_ends.proofs.sum_lower.Goals as goal
+use Rattle.number_exp_ends.proofs.sum_lower.Tie as tie
+use Rattle.number_exp_ends.proofs.sum_lower.Lts as lts
+use Rattle.number_exp_ends.proofs.sum_lower.Reads as reads
 
 -- what stands before the loop: the function's start, the grid, f, which is not 0, and the pairs
-abbrev start : goal.Else-f-eq0 → goal.Start
+abbrev start : goal.Else-f-eq0 → lts.Start tie.the-claims reads.Pre reads.Post goal.the-invariant-loop-i goal.the-decreases-loop-i
 start e = e.before.before.before
 
 abbrev grid : goal.Else-f-eq0 → Grid

@@ -18,9 +18,12 @@ use Rattle.number_products.specs.laws.Units.{unit-most}
 use Rattle.number_exp_ends.specs.code.Code.{PairCount}
 use Rattle.number_exp_ends.proofs.Pairs.{Lower, Less, UpperPairs, room, positive, none, more, all, lower-next, less-next, first-lower, upper-sum, upper-out}
 use Rattle.number_exp_ends.proofs.sum_upper.Goals as goal
+use Rattle.number_exp_ends.proofs.sum_upper.Tie as tie
+use Rattle.number_exp_ends.proofs.sum_upper.Lts as lts
+use Rattle.number_exp_ends.proofs.sum_upper.Reads as reads
 
 -- what stands before the loop: the function's start, the grid, f, which is not 0, and the pairs
-abbrev start : goal.Else-f-eq0 → goal.Start
+abbrev start : goal.Else-f-eq0 → lts.Start tie.the-claims reads.Pre reads.Post goal.the-invariant-loop-i goal.the-decreases-loop-i
 start e = e.before.before.before
 
 abbrev grid : goal.Else-f-eq0 → Grid
@@ -124,7 +127,7 @@ next_less-less-requires c =
     let h = even-less c.before.before in (search rules, some (begun t))
 
 -- the sums of a turn's start, or of the loop's end, fit
-sums-fit : (l : goal.At-loop-i) → let b = l.before in
+sums-fit : (l : lts.At-loop tie.the-claims reads.Pre reads.Post goal.the-invariant-loop-i goal.the-decreases-loop-i) → let b = l.before in
     (l.loop-i.evens ≤ 41 * ten_trillionths.unit) × (l.loop-i.odds ≤ 41 * ten_trillionths.unit) × ((grid b).unit ≤ ten_trillionths.unit)
     × (pairs b ≤ 40)
 sums-fit l =

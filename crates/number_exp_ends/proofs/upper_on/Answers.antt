@@ -11,25 +11,28 @@ use Rattle.number_exponential.specs.laws.GridFacts.{unit-sound}
 use Rattle.number_products.specs.laws.Units.{unit-most}
 use Rattle.number_exp_ends.proofs.Products.{upper_first, upper-later, upper-small, constant-more, upper-past}
 use Rattle.number_exp_ends.proofs.upper_on.Goals as goal
+use Rattle.number_exp_ends.proofs.upper_on.Tie as tie
+use Rattle.number_exp_ends.proofs.upper_on.Lts as lts
+use Rattle.number_exp_ends.proofs.upper_on.Reads as reads
 
-abbrev grid : goal.After-cutoff_of → Grid
+abbrev grid : lts.After-cutoff_of tie.the-claims reads.Pre reads.Post → Grid
 grid c = grid_by c.before.before.args.fine
 
-sound : (c : goal.After-cutoff_of) → Sound (grid c)
+sound : (c : lts.After-cutoff_of tie.the-claims reads.Pre reads.Post) → Sound (grid c)
 sound c = unit-sound (unit_by c.before.before.args.fine)
 
 pub nonzero_rem-z : goal.nonzero_rem-z
-nonzero_rem-z c = rw c.before.before.step_of_lem.ensures (step-positive _ (sound c.before))
+nonzero_rem-z c = rw c.before.before.step_of-step.ensures (step-positive _ (sound c.before))
 
 pub sum_upper-sum-requires : goal.sum_upper-sum-requires
-sum_upper-sum-requires c = rw c.before.before.step_of_lem.ensures (rest-small _ (sound c.before) _)
+sum_upper-sum-requires c = rw c.before.before.step_of-step.ensures (rest-small _ (sound c.before) _)
 
 -- the sum alone, and its product with the constant
 pub returns-then-n-eq0 : goal.returns-then-n-eq0
 returns-then-n-eq0 c =
     let t = c.before.before in
     let k = t.before in
-    upper_first _ (sound k) k.before.step_of_lem.ensures k.cutoff_of.ensures t.if-z-cutoff_of.true c.before.sum_upper-sum.ensures
+    upper_first _ (sound k) k.before.step_of-step.ensures k.cutoff_of.ensures t.if-z-cutoff_of.true c.before.sum_upper-sum.ensures
     c.if-n-eq0.true
 
 -- one more than the constant, and one less than the unit
@@ -38,7 +41,7 @@ more c =
     let b = c.before.before in
     let t = b.before in
     let k = t.before in
-    constant-more _ (sound k) k.before.step_of_lem.ensures k.cutoff_of.ensures t.if-z-cutoff_of.true c.before.if-n-eq0.false
+    constant-more _ (sound k) k.before.step_of-step.ensures k.cutoff_of.ensures t.if-z-cutoff_of.true c.before.if-n-eq0.false
     c.whole_part.ensures
 
 pub overflow_add-whole_part : goal.overflow_add-whole_part
@@ -53,7 +56,7 @@ product_by-requires c =
     let b = w.before.before in
     let t = b.before in
     let k = t.before in (
-      upper-small _ (sound k) k.before.step_of_lem.ensures k.cutoff_of.ensures t.if-z-cutoff_of.true b.sum_upper-sum.ensures,
+      upper-small _ (sound k) k.before.step_of-step.ensures k.cutoff_of.ensures t.if-z-cutoff_of.true b.sum_upper-sum.ensures,
       omega (arith, more w),
       omega (arith, c.unit_by.ensures),
     )
@@ -65,7 +68,7 @@ returns-then-z-cutoff_of c =
     let b = w.before.before in
     let t = b.before in
     let k = t.before in
-    upper-later _ (sound k) k.before.step_of_lem.ensures k.cutoff_of.ensures t.if-z-cutoff_of.true w.before.if-n-eq0.false
+    upper-later _ (sound k) k.before.step_of-step.ensures k.cutoff_of.ensures t.if-z-cutoff_of.true w.before.if-n-eq0.false
     b.sum_upper-sum.ensures w.whole_part.ensures o.unit_by.ensures c.product_by.ensures
 
 pub nonzero_div-n : goal.nonzero_div-n

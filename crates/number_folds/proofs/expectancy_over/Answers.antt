@@ -20,9 +20,12 @@ use Rattle.number_folds.proofs.Running.{
   factor-small,
 }
 use Rattle.number_folds.proofs.expectancy_over.Goals as goal
+use Rattle.number_folds.proofs.expectancy_over.Tie as tie
+use Rattle.number_folds.proofs.expectancy_over.Lts as lts
+use Rattle.number_folds.proofs.expectancy_over.Reads as reads
 
 -- the array's length
-size : (c : goal.Start) → length c.args.factors ≡ most_factors
+size : (c : lts.Start tie.the-claims reads.Pre reads.Post goal.the-invariant-loop-k goal.the-decreases-loop-k) → length c.args.factors ≡ most_factors
 size c = search rules
 
 pub loop-k-init : goal.loop-k-init
@@ -38,7 +41,7 @@ with_factor-longer-requires c =
     (l.loop-k.invariant.1.small, factor-small (size s) s.requires l.loop-k.k (omega arith))
 
 -- the survival over one factor more
-longer : (c : goal.After-with_factor-longer) →
+longer : (c : lts.After-with_factor tie.the-claims reads.Pre reads.Post goal.the-invariant-loop-k goal.the-decreases-loop-k) →
     let l = c.before.before.before in
     let s = l.before.before in
     SurvivalTo (grid_by s.args.fine) s.args.factors (l.loop-k.k + 1) c.with_factor-longer.result
@@ -48,7 +51,7 @@ longer c =
     survival-more (size s) s.requires (omega arith) l.loop-k.invariant.1 c.with_factor-longer.ensures
 
 -- the sums have room
-small : (c : goal.After-with_factor-longer) →
+small : (c : lts.After-with_factor tie.the-claims reads.Pre reads.Post goal.the-invariant-loop-k goal.the-decreases-loop-k) →
     (grid_by c.before.before.before.before.before.args.fine).unit ≤ ten_trillionths.unit
 small c = unit-most (unit_by c.before.before.before.before.before.args.fine)
 

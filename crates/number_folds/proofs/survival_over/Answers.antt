@@ -11,9 +11,12 @@ use Rattle.number_folds.specs.Folds.{survival_over}
 use Rattle.number_folds.specs.code.Code.{most_factors}
 use Rattle.number_folds.proofs.Running.{SurvivalTo, survival-none, survival-more, factor-small}
 use Rattle.number_folds.proofs.survival_over.Goals as goal
+use Rattle.number_folds.proofs.survival_over.Tie as tie
+use Rattle.number_folds.proofs.survival_over.Lts as lts
+use Rattle.number_folds.proofs.survival_over.Reads as reads
 
 -- the array's length
-size : (c : goal.Start) → length c.args.factors ≡ most_factors
+size : (c : lts.Start tie.the-claims reads.Pre reads.Post goal.the-invariant-loop-i goal.the-decreases-loop-i) → length c.args.factors ≡ most_factors
 size c = search rules
 
 pub loop-i-init : goal.loop-i-init

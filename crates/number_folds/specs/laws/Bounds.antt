@@ -29,7 +29,7 @@ module _ (g : Grid) (positive : 0 < g.unit) where
       → AtMost g.unit (survival_from g s ps)
   unfolding survival_from
   from-at-most a none = a
-  from-at-most a (also b h) = from-at-most (with-factor-at-most a b) h
+  from-at-most {s = s} a (also {x = x} {xs = xs} b h) = from-at-most {s = with_factor g s x} (with-factor-at-most a b) h
 
   pub survival-at-most : {ps : List Ends} → Each (AtMost g.unit) ps → AtMost g.unit (survival_over g ps)
   unfolding survival_over one

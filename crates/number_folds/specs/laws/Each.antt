@@ -14,7 +14,7 @@ module _ {A : Type 0} {P : A → Type 0} where
   pub each_take : {xs : List A} (n : ℕ) → Each P xs → Each P (take n xs)
   each_take zero h = none
   each_take (suc n) none = none
-  each_take (suc n) (also p h) = also p (each_take n h)
+  each_take (suc n) (also {x = x} {xs = xs} p h) = also p (each_take {xs = xs} n h)
 
   -- of the one at place i
   pub each_at : (d : A) {xs : List A} → Each P xs → (i : ℕ) → i < length xs → P (get_or xs i d)

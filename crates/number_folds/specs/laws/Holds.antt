@@ -78,7 +78,8 @@ module _ (g : Grid) where
       → Over (survival_from g e es) (order_survival_from b bs)
   unfolding survival_from order_survival_from
   from-holds h Forall₂.nil = h
-  from-holds h (Forall₂.cons k ks) = from-holds (with-factor-holds h k) ks
+  from-holds {e = e} {b = b} h (Forall₂.cons {a = x} {b = y} k ks) =
+      from-holds {e = with_factor g e x} {b = order_with_factor b y} (with-factor-holds h k) ks
 
   pub survival-holds : {es : List Ends} {bs : List Bracket} → Forall₂ Over es bs
       → Over (survival_over g es) (order_survival_over bs)

@@ -45,7 +45,8 @@ from-agrees : {a b : Bracket} {ps qs : List Bracket} → NotAbove a b → Forall
     → NotAbove (order_survival_from a ps) (order_survival_from b qs)
 unfolding order_survival_from
 from-agrees h Forall₂.nil = h
-from-agrees h (Forall₂.cons k ks) = from-agrees (with-factor-agrees h k) ks
+from-agrees {a = a} {b = b} h (Forall₂.cons {a = x} {b = y} k ks) =
+    from-agrees {a = order_with_factor a x} {b = order_with_factor b y} (with-factor-agrees h k) ks
 
 pub survival-agrees : {ps qs : List Bracket} → Forall₂ NotAbove ps qs
     → NotAbove (order_survival_over ps) (order_survival_over qs)

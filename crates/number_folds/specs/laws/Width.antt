@@ -79,7 +79,8 @@ module _ (g : Grid) (positive : 0 < g.unit) where
       → Chance g (a + spread ws) (survival_from g s es)
   unfolding survival_from spread
   from-chance h Forall₂.nil = chance-wider h (omega arith)
-  from-chance h (Forall₂.cons k ks) = chance-wider (from-chance (with-factor-chance h k) ks) (omega arith)
+  from-chance {a = a} {s = s} h (Forall₂.cons {a = w} {b = e} k ks) =
+      chance-wider (from-chance {a = a + (w + 2)} {s = with_factor g s e} (with-factor-chance h k) ks) (omega arith)
 
   pub one-chance : Chance g 0 (one g)
   unfolding one

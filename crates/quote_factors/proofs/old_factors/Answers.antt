@@ -150,7 +150,7 @@ pub overflow_add-done : goal.overflow_add-done
 overflow_add-done c = let t = turn c in omega (arith, on-path t, short (begun t.before))
 
 pub year_after-year-requires : goal.year_after-year-requires
-year_after-year-requires g κs =
+year_after-year-requires g =
     let t = turn g.before in
     let s = begun t.before in
     let i = (in-limits-series s.args.p s.requires.0.limits).dynamics in

@@ -11,16 +11,19 @@ use Rattle.set_params.specs.Limits.{level_limit, slope_limit, within}
 use Rattle.set_limits.specs.InLimits.{age_in_limits}
 use Rattle.set_limits.proofs.Sizes.{tested, fails, passes}
 use Rattle.set_limits.proofs.age_in_limits.Goals as goal
+use Rattle.set_limits.proofs.age_in_limits.Tie as tie
+use Rattle.set_limits.proofs.age_in_limits.Lts as lts
+use Rattle.set_limits.proofs.age_in_limits.Reads as reads
 
 -- ---- the age, after each test
 
-abbrev age₁ : goal.After-within → Age
+abbrev age₁ : lts.After-within tie.the-claims reads.Pre reads.Post → Age
 age₁ c = c.before.before.args.a
 
-abbrev age₂ : goal.After-within-2 → Age
+abbrev age₂ : lts.After-within2 tie.the-claims reads.Pre reads.Post → Age
 age₂ c = age₁ c.before.before.before
 
-abbrev age₃ : goal.After-within-3 → Age
+abbrev age₃ : lts.After-within3 tie.the-claims reads.Pre reads.Post → Age
 age₃ c = age₂ c.before.before.before
 
 abbrev age₄ : goal.After-within-4 → Age
@@ -34,27 +37,27 @@ record Fields (a : Age) : Type 0 where
   alpha : SFits w64 a.alpha
   beta : SFits w64 a.beta
 
-fields₁ : (c : goal.After-within) → Fields (age₁ c)
+fields₁ : (c : lts.After-within tie.the-claims reads.Pre reads.Post) → Fields (age₁ c)
 fields₁ c =
     let s = c.before.before in
     record { level = search rules; slope = search rules; alpha = search rules; beta = search rules }
 
-fields₂ : (c : goal.After-within-2) → Fields (age₂ c)
+fields₂ : (c : lts.After-within2 tie.the-claims reads.Pre reads.Post) → Fields (age₂ c)
 fields₂ c = fields₁ c.before.before.before
 
-fields₃ : (c : goal.After-within-3) → Fields (age₃ c)
+fields₃ : (c : lts.After-within3 tie.the-claims reads.Pre reads.Post) → Fields (age₃ c)
 fields₃ c = fields₂ c.before.before.before
 
 fields₄ : (c : goal.After-within-4) → Fields (age₄ c)
 fields₄ c = fields₃ c.before.before.before
 
-level-test : (c : goal.After-within) → c.within.result ≡ within level_limit (age₁ c).level
+level-test : (c : lts.After-within tie.the-claims reads.Pre reads.Post) → c.within.result ≡ within level_limit (age₁ c).level
 level-test c = tested level_limit c.within.ensures (fields₁ c).level refl
 
-slope-test : (c : goal.After-within-2) → c.within-2.result ≡ within slope_limit (age₂ c).slope
+slope-test : (c : lts.After-within2 tie.the-claims reads.Pre reads.Post) → c.within-2.result ≡ within slope_limit (age₂ c).slope
 slope-test c = tested slope_limit c.within-2.ensures (fields₂ c).slope refl
 
-alpha-test : (c : goal.After-within-3) → c.within-3.result ≡ within level_limit (age₃ c).alpha
+alpha-test : (c : lts.After-within3 tie.the-claims reads.Pre reads.Post) → c.within-3.result ≡ within level_limit (age₃ c).alpha
 alpha-test c = tested level_limit c.within-3.ensures (fields₃ c).alpha refl
 
 beta-test : (c : goal.After-within-4) → c.within-4.result ≡ within slope_limit (age₄ c).beta
@@ -62,10 +65,10 @@ beta-test c = tested slope_limit c.within-4.ensures (fields₄ c).beta refl
 
 -- ---- past the tests that passed
 
-past-level : (c : goal.Else-not-within) {x b : Bool} → x ≡ b → x ≡ (within level_limit (age₁ c.before).level && b)
+past-level : (c : lts.Else1 tie.the-claims reads.Pre reads.Post) {x b : Bool} → x ≡ b → x ≡ (within level_limit (age₁ c.before).level && b)
 past-level c e = passes (ap not c.if-not-within.false) (level-test c.before) e
 
-past-slope : (c : goal.Else-not-within-2) {x b : Bool} → x ≡ b → let a = age₂ c.before in
+past-slope : (c : lts.Else2 tie.the-claims reads.Pre reads.Post) {x b : Bool} → x ≡ b → let a = age₂ c.before in
     x ≡ (within level_limit a.level && (within slope_limit a.slope && b))
 past-slope c e = past-level c.before.before.before (passes (ap not c.if-not-within-2.false) (slope-test c.before) e)
 

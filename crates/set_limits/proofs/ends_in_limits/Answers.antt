@@ -8,11 +8,14 @@ use Rattle.set_params.specs.Limits.{kappa_limit, within}
 use Rattle.set_limits.specs.InLimits.{ends_in_limits}
 use Rattle.set_limits.proofs.Sizes.{tested, fails, passes}
 use Rattle.set_limits.proofs.ends_in_limits.Goals as goal
+use Rattle.set_limits.proofs.ends_in_limits.Tie as tie
+use Rattle.set_limits.proofs.ends_in_limits.Lts as lts
+use Rattle.set_limits.proofs.ends_in_limits.Reads as reads
 
-ends-fit : (s : goal.Start) → EndsFit s.args.e
+ends-fit : (s : lts.Start tie.the-claims reads.Pre reads.Post) → EndsFit s.args.e
 ends-fit s = record { lower = search rules; upper = search rules }
 
-lower-test : (c : goal.After-within) → c.within.result ≡ within kappa_limit c.before.before.args.e.lower
+lower-test : (c : lts.After-within tie.the-claims reads.Pre reads.Post) → c.within.result ≡ within kappa_limit c.before.before.args.e.lower
 lower-test c = tested kappa_limit c.within.ensures (ends-fit c.before.before).lower refl
 
 pub returns-then-not-within : goal.returns-then-not-within

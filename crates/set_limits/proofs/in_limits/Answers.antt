@@ -19,13 +19,16 @@ use Rattle.set_limits.specs.InLimits.{all_below, table_in_limits, series_in_limi
 use Rattle.set_limits.specs.laws.LimitsLaws.{age_test, all-out, dynamics-within, steady-kappa}
 use Rattle.set_limits.proofs.Sizes.{fails, passes}
 use Rattle.set_limits.proofs.in_limits.Goals as goal
+use Rattle.set_limits.proofs.in_limits.Tie as tie
+use Rattle.set_limits.proofs.in_limits.Lts as lts
+use Rattle.set_limits.proofs.in_limits.Reads as reads
 
 -- the turn of the loop that reads an age
-abbrev turn : goal.After-age_of_runs-age → goal.At-loop-x
-turn c = c.before.before.before.before.before.before.before
+abbrev turn : lts.After-age_of_runs tie.the-claims reads.Pre reads.Post goal.the-invariant-loop-x goal.the-decreases-loop-x → lts.At-loop tie.the-claims reads.Pre reads.Post goal.the-invariant-loop-x goal.the-decreases-loop-x
+turn c = c.before.before.before.before.before.before
 
 -- the test of an age is that of the set's
-age-tested : (c : goal.After-age_in_limits) → let l = turn c.before in
+age-tested : (c : lts.After-age_in_limits tie.the-claims reads.Pre reads.Post goal.the-invariant-loop-x goal.the-decreases-loop-x) → let l = turn c.before in
     c.age_in_limits.result ≡ age_test l.before.before.before.before.before.before.before.args.p l.loop-x.x
 age-tested c = c.age_in_limits.ensures ∙ ap age_in_limits (c.before.age_of_runs-age.ensures ∙ four-age _ _)
 
@@ -37,36 +40,36 @@ record Fields (p : Params) : Type 0 where
   c : SFits w64 p.c
   kappa : SFits w64 p.kappa
 
-fields : (s : goal.Start) → Fields s.args.p
+fields : (s : lts.Start tie.the-claims reads.Pre reads.Post goal.the-invariant-loop-x goal.the-decreases-loop-x) → Fields s.args.p
 fields s = record { start = search rules; a = search rules; theta = search rules; c = search rules; kappa = search rules }
 
 -- the test of the start and c is that of the set's
-table-tested : (c : goal.After-table_in_limits) → let p = c.before.before.before.args.p in
+table-tested : (c : lts.After-table_in_limits tie.the-claims reads.Pre reads.Post goal.the-invariant-loop-x goal.the-decreases-loop-x) → let p = c.before.before.before.args.p in
     c.table_in_limits.result ≡ table_in_limits p.table p.start p.c
 table-tested c =
     let f = fields c.before.before.before in
     rw (to_z-of_z f.start, to_z-of_z f.c) at c.table_in_limits.ensures
 
 -- past the tests before the ages'
-before-ages : (c : goal.Else-not-series_in_limits) {x b : Bool} → x ≡ b
+before-ages : (c : lts.Else2 tie.the-claims reads.Pre reads.Post goal.the-invariant-loop-x goal.the-decreases-loop-x) {x b : Bool} → x ≡ b
     → let p = c.before.before.before.before.before.before.args.p in
     x ≡ (table_in_limits p.table p.start p.c && (series_in_limits p && b))
 before-ages c e =
     let t = c.before.before in
     passes (ap not t.if-not-table_in_limits.false) (table-tested t.before) (passes (ap not c.if-not-series_in_limits.false) c.before.series_in_limits.ensures e)
 
-table-in : (c : goal.Else-not-series_in_limits) → let p = c.before.before.before.before.before.before.args.p in
+table-in : (c : lts.Else2 tie.the-claims reads.Pre reads.Post goal.the-invariant-loop-x goal.the-decreases-loop-x) → let p = c.before.before.before.before.before.before.args.p in
     T (table_in_limits p.table p.start p.c)
 table-in c =
     let t = c.before.before in
     rw (← table-tested t.before, not-false t.before.table_in_limits.result (ap not t.if-not-table_in_limits.false)) tt
 
-series-in : (c : goal.Else-not-series_in_limits) → let p = c.before.before.before.before.before.before.args.p in
+series-in : (c : lts.Else2 tie.the-claims reads.Pre reads.Post goal.the-invariant-loop-x goal.the-decreases-loop-x) → let p = c.before.before.before.before.before.before.args.p in
     T (series_in_limits p)
 series-in c = rw (← c.before.series_in_limits.ensures, not-false c.before.series_in_limits.result (ap not c.if-not-series_in_limits.false)) tt
 
 -- all ages are in limits
-ages-in : (c : goal.After-loop-x) → let p = c.before.before.before.before.before.before.before.before.args.p in
+ages-in : (c : lts.After-loop tie.the-claims reads.Pre reads.Post goal.the-invariant-loop-x goal.the-decreases-loop-x) → let p = c.before.before.before.before.before.before.before.before.args.p in
     all_below (age_test p) ages ≡ true
 ages-in c =
     let l = c.before in
@@ -106,13 +109,13 @@ loop-x-preserved c =
 pub returns-in-Ag2014 : goal.returns-in-Ag2014
 unfolding in_limits
 returns-in-Ag2014 c =
-    let e = c.before.before in
+    let e = c.before in
     let s = e.before.before in
     before-ages s (rw (ages-in e, steady-kappa _ c.in-Ag2014.is (table-in s) (series-in s)))
 
 -- the loop's end, before kappa is walked
-abbrev ended : goal.After-struct_told-in-LiLee-4-1 → goal.After-loop-x
-ended c = c.before.before.before.before.before.before
+abbrev ended : goal.After-struct_told-in-LiLee-4-1 → lts.After-loop tie.the-claims reads.Pre reads.Post goal.the-invariant-loop-x goal.the-decreases-loop-x
+ended c = c.before.before.before.before.before
 
 pub kappa_in_limits-requires : goal.kappa_in_limits-requires
 kappa_in_limits-requires c =

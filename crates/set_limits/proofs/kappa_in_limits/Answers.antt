@@ -22,6 +22,9 @@ use Rattle.set_series.specs.laws.Finer.{in_grid-coarse}
 use Rattle.set_limits.specs.InLimits.{all_below, ends_in_limits, kappa_in_limits}
 use Rattle.set_limits.specs.laws.LimitsLaws.{all-out, ends-within}
 use Rattle.set_limits.proofs.kappa_in_limits.Goals as goal
+use Rattle.set_limits.proofs.kappa_in_limits.Tie as tie
+use Rattle.set_limits.proofs.kappa_in_limits.Lts as lts
+use Rattle.set_limits.proofs.kappa_in_limits.Reads as reads
 
 -- kappa in a year is in limits
 abbrev year_test : Dynamics → ℤ → ℕ → Bool
@@ -32,7 +35,7 @@ unfolding kappa_in all_below
 loop-n-init c = (both_ends (sym (in_grid-coarse _)) (sym (in_grid-coarse _)), omega arith, refl)
 
 -- the year's test is that of its kappa
-year-tested : (c : goal.After-ends_in_limits) → let l = c.before.before in
+year-tested : (c : lts.After-ends_in_limits tie.the-claims reads.Pre reads.Post goal.the-invariant-loop-n goal.the-decreases-loop-n) → let l = c.before.before in
     c.ends_in_limits.result ≡ year_test l.before.args.d l.before.args.start l.loop-n.n
 year-tested c =
     let l = c.before.before in

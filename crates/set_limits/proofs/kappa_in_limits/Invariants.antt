@@ -23,7 +23,7 @@ use Rattle.set_limits.proofs.kappa_in_limits.Given as goal
 
 abbrev pub invariant-loop-n : goal.invariant-loop-n
 invariant-loop-n l =
-    (l.e ≡ kappa_in billionths l.d (to_z w64 l.start) l.n) × (l.n ≤ suc last_years) × (all_below (year_test l.d (to_z w64 l.start)) l.n ≡ true)
+    (l.e ≡ kappa_in billionths l.d l.start l.n) × (l.n ≤ suc last_years) × (all_below (λ (k : ℕ). ends_in_limits (kappa_in billionths l.d l.start k)) l.n ≡ true)
 
 abbrev pub decreases-loop-n : goal.decreases-loop-n
 decreases-loop-n l = suc last_years - l.n

@@ -15,6 +15,9 @@ use Rattle.set_params.specs.Limits.{a_limit, theta_limit, period_limit, kappa_li
 use Rattle.set_limits.specs.InLimits.{series_in_limits}
 use Rattle.set_limits.proofs.Sizes.{tested, passed, fails, passes}
 use Rattle.set_limits.proofs.series_in_limits.Goals as goal
+use Rattle.set_limits.proofs.series_in_limits.Tie as tie
+use Rattle.set_limits.proofs.series_in_limits.Lts as lts
+use Rattle.set_limits.proofs.series_in_limits.Reads as reads
 
 -- ---- K + 171·theta in 64 bits
 
@@ -37,16 +40,16 @@ module _ {t k : ℤ} (u : Under t theta_limit) (v : Under k period_limit) where
 
 -- ---- the set, after each test
 
-abbrev set₁ : goal.After-within → Params
+abbrev set₁ : lts.After-within tie.the-claims reads.Pre reads.Post → Params
 set₁ c = c.before.before.args.p
 
-abbrev set₂ : goal.After-within-2 → Params
+abbrev set₂ : lts.After-within2 tie.the-claims reads.Pre reads.Post → Params
 set₂ c = set₁ c.before.before.before
 
-abbrev set₃ : goal.After-within-3 → Params
+abbrev set₃ : lts.After-within3 tie.the-claims reads.Pre reads.Post → Params
 set₃ c = set₂ c.before.before.before
 
-abbrev set₄ : goal.After-within-4 → Params
+abbrev set₄ : lts.After-within4 tie.the-claims reads.Pre reads.Post → Params
 set₄ c = set₃ c.before.before.before.before.before.before
 
 abbrev set₅ : goal.After-within-5 → Params
@@ -60,37 +63,37 @@ record Fields (p : Params) : Type 0 where
   period : SFits w64 p.period
   kappa : SFits w64 p.kappa
 
-fields : (s : goal.Start) → Fields s.args.p
+fields : (s : lts.Start tie.the-claims reads.Pre reads.Post) → Fields s.args.p
 fields s = record { a = search rules; theta = search rules; period = search rules; kappa = search rules }
 
-fields₁ : (c : goal.After-within) → Fields (set₁ c)
+fields₁ : (c : lts.After-within tie.the-claims reads.Pre reads.Post) → Fields (set₁ c)
 fields₁ c = fields c.before.before
 
-fields₂ : (c : goal.After-within-2) → Fields (set₂ c)
+fields₂ : (c : lts.After-within2 tie.the-claims reads.Pre reads.Post) → Fields (set₂ c)
 fields₂ c = fields₁ c.before.before.before
 
-fields₃ : (c : goal.After-within-3) → Fields (set₃ c)
+fields₃ : (c : lts.After-within3 tie.the-claims reads.Pre reads.Post) → Fields (set₃ c)
 fields₃ c = fields₂ c.before.before.before
 
 fields₅ : (c : goal.After-within-5) → Fields (set₅ c)
 fields₅ c = fields₃ c.before.before.before.before.before.before.before.before.before
 
-a_test : (c : goal.After-within) → c.within.result ≡ within a_limit (set₁ c).a
+a_test : (c : lts.After-within tie.the-claims reads.Pre reads.Post) → c.within.result ≡ within a_limit (set₁ c).a
 a_test c = tested a_limit c.within.ensures (fields₁ c).a refl
 
-theta-test : (c : goal.After-within-2) → c.within-2.result ≡ within theta_limit (set₂ c).theta
+theta-test : (c : lts.After-within2 tie.the-claims reads.Pre reads.Post) → c.within-2.result ≡ within theta_limit (set₂ c).theta
 theta-test c = tested theta_limit c.within-2.ensures (fields₂ c).theta refl
 
-period-test : (c : goal.After-within-3) → c.within-3.result ≡ within period_limit (set₃ c).period
+period-test : (c : lts.After-within3 tie.the-claims reads.Pre reads.Post) → c.within-3.result ≡ within period_limit (set₃ c).period
 period-test c = tested period_limit c.within-3.ensures (fields₃ c).period refl
 
-theta-under : (c : goal.Else-not-within-3) → Under (set₃ c.before).theta theta_limit
+theta-under : (c : lts.Else3 tie.the-claims reads.Pre reads.Post) → Under (set₃ c.before).theta theta_limit
 theta-under c = let e = c.before.before.before in passed theta_limit (ap not e.if-not-within-2.false) (theta-test e.before)
 
-period-under : (c : goal.Else-not-within-3) → Under (set₃ c.before).period period_limit
+period-under : (c : lts.Else3 tie.the-claims reads.Pre reads.Post) → Under (set₃ c.before).period period_limit
 period-under c = passed period_limit (ap not c.if-not-within-3.false) (period-test c.before)
 
-last-test : (c : goal.After-within-4)
+last-test : (c : lts.After-within4 tie.the-claims reads.Pre reads.Post)
     → c.within-4.result ≡ within period_limit ((set₄ c).period +ℤ pos last_years *ℤ (set₄ c).theta)
 last-test c =
     let e = c.before.before.before.before.before in
@@ -101,19 +104,19 @@ kappa-test c = tested kappa_limit c.within-5.ensures (fields₅ c).kappa refl
 
 -- ---- past the tests that passed
 
-past-a : (c : goal.Else-not-within) {x b : Bool} → x ≡ b → x ≡ (within a_limit (set₁ c.before).a && b)
+past-a : (c : lts.Else1 tie.the-claims reads.Pre reads.Post) {x b : Bool} → x ≡ b → x ≡ (within a_limit (set₁ c.before).a && b)
 past-a c e = passes (ap not c.if-not-within.false) (a_test c.before) e
 
-past-theta : (c : goal.Else-not-within-2) {x b : Bool} → x ≡ b
+past-theta : (c : lts.Else2 tie.the-claims reads.Pre reads.Post) {x b : Bool} → x ≡ b
     → let p = set₂ c.before in x ≡ (within a_limit p.a && (within theta_limit p.theta && b))
 past-theta c e = past-a c.before.before.before (passes (ap not c.if-not-within-2.false) (theta-test c.before) e)
 
-past-period : (c : goal.Else-not-within-3) {x b : Bool} → x ≡ b
+past-period : (c : lts.Else3 tie.the-claims reads.Pre reads.Post) {x b : Bool} → x ≡ b
     → let p = set₃ c.before in
     x ≡ (within a_limit p.a && (within theta_limit p.theta && (within period_limit p.period && b)))
 past-period c e = past-theta c.before.before.before (passes (ap not c.if-not-within-3.false) (period-test c.before) e)
 
-past-last : (c : goal.Else-not-within-4) {x b : Bool} → x ≡ b
+past-last : (c : lts.Else4 tie.the-claims reads.Pre reads.Post) {x b : Bool} → x ≡ b
     → let p = set₄ c.before in
     x ≡ (within a_limit p.a && (within theta_limit p.theta && (within period_limit p.period
     && (within period_limit (p.period +ℤ pos last_years *ℤ p.theta) && b))))
@@ -136,10 +139,10 @@ unfolding series_in_limits
 returns-then-not-within-3 c = past-theta c.before.before.before (fails _ (ap not c.if-not-within-3.true) (period-test c.before))
 
 pub overflow_mul-p : goal.overflow_mul-p
-overflow_mul-p c = let e = c.before.before in years-fit (theta-under e) (period-under e)
+overflow_mul-p c = let e = c.before.before.before in years-fit (theta-under e) (period-under e)
 
 pub overflow_add-p : goal.overflow_add-p
-overflow_add-p c = let e = c.before.before.before.before in last_fits (theta-under e) (period-under e)
+overflow_add-p c = let e = c.before.before.before.before.before in last_fits (theta-under e) (period-under e)
 
 pub returns-then-not-within-4 : goal.returns-then-not-within-4
 unfolding series_in_limits

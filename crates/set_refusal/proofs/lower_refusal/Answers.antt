@@ -6,12 +6,13 @@ use native.Mathlib.Omega.{arith}
 use Rattle.set_refusal.specs.Refusals.{refusal_number}
 use Rattle.set_refusal.specs.laws.RefusalLaws.{lower-second-none, lower-first-none, lower-first, lower-second}
 use Rattle.set_refusal.proofs.lower_refusal.Goals as goal
+use Rattle.set_refusal.proofs.lower_refusal.Tie as tie
 
 -- the second is refused, and so is the first
-second : (c : goal.Else-n-eq0) → refusal_number c.before.before.before.args.second ≡ 0 → ⊥
+second : (c : tie.Else-n-eq0) → refusal_number c.before.before.before.args.second ≡ 0 → ⊥
 second c e = c.if-n-eq0.false (c.before.refusal_number-n.ensures ∙ e)
 
-first : (c : goal.Else-m-eq0) → refusal_number c.before.before.before.before.args.first ≡ 0 → ⊥
+first : (c : tie.Else-m-eq0) → refusal_number c.before.before.before.before.args.first ≡ 0 → ⊥
 first c e = c.if-m-eq0.false (c.before.before.before.refusal_number-m.ensures ∙ e)
 
 pub returns-then-n-eq0 : goal.returns-then-n-eq0

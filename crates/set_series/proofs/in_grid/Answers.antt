@@ -11,9 +11,11 @@ use Rattle.number_exponential.specs.code.Flag.{unit_by, grid_by}
 use Rattle.set_series.specs.Series.{in_grid}
 use Rattle.set_series.specs.laws.Finer.{in_grid-coarse}
 use Rattle.set_series.proofs.in_grid.Goals as goal
+use Rattle.set_series.proofs.in_grid.Lts as lts
+use Rattle.set_series.proofs.in_grid.Reads as reads
 
 -- 10^4·z, as it is read
-fine : (s : goal.Start) → SFits w64 (pos 10000 *ℤ bits s.args.z) × (bits (pos 10000 *ℤ bits s.args.z) ≡ pos 10000 *ℤ s.args.z)
+fine : (s : lts.Start reads.Pre reads.Post) → SFits w64 (pos 10000 *ℤ bits s.args.z) × (bits (pos 10000 *ℤ bits s.args.z) ≡ pos 10000 *ℤ s.args.z)
 fine s =
     product {x = pos 10000} refl (to_z-of_z s.ranges.z) refl (fits (under-mul {a = pos 10000} (under-lit {k = 10000} tt) s.requires) tt)
 

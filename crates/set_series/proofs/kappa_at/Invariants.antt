@@ -16,7 +16,7 @@ use Rattle.set_series.specs.laws.BoundLaws.{in_grid-under}
 use Rattle.set_series.proofs.kappa_at.Given as goal
 
 abbrev pub invariant-loop-i : goal.invariant-loop-i
-invariant-loop-i l = (l.e ≡ kappa_in (grid_by l.fine) l.d (to_z w64 l.start) l.i) × (l.i ≤ l.n)
+invariant-loop-i l = (l.e ≡ kappa_in (grid_by l.fine) l.d l.start l.i) × (l.i ≤ l.n)
 
 abbrev pub decreases-loop-i : goal.decreases-loop-i
 decreases-loop-i l = l.n - l.i

@@ -27,6 +27,9 @@ use Rattle.set_series.specs.laws.Mixed.{end_by, least-over, greatest-over, none-
 use Rattle.set_series.specs.code.Within.{mixed_over, MixedWithin}
 use Rattle.set_series.proofs.Chosen.{chosen-under, chosen-read}
 use Rattle.set_series.proofs.kappa_step.Goals as goal
+use Rattle.set_series.proofs.kappa_step.Tie as tie
+use Rattle.set_series.proofs.kappa_step.Lts as lts
+use Rattle.set_series.proofs.kappa_step.Reads as reads
 
 -- each step fits and is read as the number that the definition has
 module _ (u : GridUnit) {d : Dynamics} {e : SignedEnds} (l : DynamicsWithin d) (w : Within ((grid_of u).scale * kappa_limit) e) where
@@ -76,13 +79,13 @@ in_grid-added-requires c =
     rw (back l.c tt) (under-weaken l.c (omega arith))
 
 -- the places after both choices: the first choice, c in the grid's units, and the function's start
-abbrev first : goal.After-end_by-high → goal.After-end_by-low
+abbrev first : goal.After-end_by-high → lts.After-end_by tie.the-claims reads.Pre reads.Post
 first c = c.before.before.before
 
-abbrev grid : goal.After-end_by-high → goal.After-in_grid-added
+abbrev grid : goal.After-end_by-high → lts.After-in_grid tie.the-claims reads.Pre reads.Post
 grid c = (first c).before.before.before.before
 
-abbrev start : goal.After-end_by-high → goal.Start
+abbrev start : goal.After-end_by-high → lts.Start tie.the-claims reads.Pre reads.Post
 start c = (grid c).before.before
 
 -- c, and the two chosen ends, as they are read
@@ -106,7 +109,7 @@ mixed_over-requires c =
     rw (back l.a tt, low c) (within (unit_by s.args.fine) l w (chosen-under (unit_by s.args.fine) l.a w.low w.high))
 
 pub mixed_over-requires-2 : goal.mixed_over-requires-2
-mixed_over-requires-2 m κs =
+mixed_over-requires-2 m =
     let c = m.before in
     let s = start c in
     let l = s.requires.0 in

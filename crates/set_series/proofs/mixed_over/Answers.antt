@@ -78,7 +78,7 @@ unfolding grid_of unit_by
 returns-then-fine c =
     let a = c.before in
     let s = a.before in
-    to_z-of_z (record { sfits = c.fine_over.type_inv })
+    to_z-of_z {w = w64} (record { sfits = c.fine_over.type_inv })
     ∙ rw (to_z-of_z s.ranges.p, to_z-of_z s.ranges.c, to_z-of_z s.ranges.z) at c.fine_over.ensures
     ∙ sym (ap (λ b. mixed_over (grid_by b) s.args.p s.args.c s.args.z s.args.upper) a.if-fine.true)
 
@@ -87,6 +87,6 @@ unfolding grid_of unit_by
 returns c =
     let a = c.before in
     let s = a.before in
-    to_z-of_z (record { sfits = c.outward_div.type_inv }) ∙ coarse (asked₁ a) s.ranges.p s.ranges.c s.ranges.z s.args.upper
+    to_z-of_z {w = w64} (record { sfits = c.outward_div.type_inv }) ∙ coarse (asked₁ a) s.ranges.p s.ranges.c s.ranges.z s.args.upper
     (add (asked₁ a) s.ranges.p s.ranges.c s.ranges.z).1 c.outward_div.ensures
     ∙ sym (ap (λ b. mixed_over (grid_by b) s.args.p s.args.c s.args.z s.args.upper) a.if-fine.false)
