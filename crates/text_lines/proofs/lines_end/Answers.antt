@@ -34,13 +34,13 @@ loop-left-preserved c =
     let l = c.before.before.loop-left in
     let bytes = c.before.before.before.before.args.bytes.now in
     let e : c.line_end-at.result ≡ l.at + length (first_line (drop l.at bytes)) = c.line_end-at.ensures in
-    rw e (place-within bytes l.at l.invariant.0, l.invariant.1 ∙ one_less bytes l.at l.false (omega arith))
+    rw e (place-within bytes l.at l.invariant.0, l.invariant.1 ∙ one_less bytes l.at l.left (omega arith))
 
 pub returns : goal.returns
 returns c =
     let l = c.before.loop-left in
     let bytes = c.before.before.before.args.bytes.now in
-    omega (arith, l.invariant.1, none bytes l.at l.false (omega arith))
+    omega (arith, l.invariant.1, none bytes l.at l.left (omega arith))
 
 pub loop-left-init : goal.loop-left-init
 loop-left-init c = (omega arith, omega arith)

@@ -1,50 +1,53 @@
 -- `digits_at` meets its contract: the digits stop in the first word, or fill it and go on in the second.
 use mathlib.Core.Path.{refl}
-use Prim.Native.Nat.{◌≤◌}
+use mathlib.Core.Path.{◌≡◌}
+use Prim.Native.Nat.{ℕ, ◌≤◌}
+use lib.ListN.{length}
+use Rattle.text_tokens.specs.Number.{digits}
 use native.Mathlib.Omega.{arith}
 use borrow.Author.Rules.{rules}
-use Rattle.text_words.specs.code.Word.{word_bytes}
+use Rattle.text_words.specs.code.Word.{word_bytes, bytes_in}
 use Rattle.text_numbers.proofs.WordSteps.{count_most, words-few, words-all, last-full}
 use Rattle.text_numbers.proofs.digits_at.Goals as goal
 
 -- the second word has at most eight digits
-most : (c : goal.After-digit_count-more) → c.digit_count-more.result ≤ word_bytes
-most c = omega (arith, c.digit_count-more.ensures, count_most c.before.word_at.result)
+most : (w : ℕ) {n : ℕ} → n ≡ length (digits (bytes_in word_bytes w)) → n ≤ word_bytes
+most w e = omega (arith, e, count_most w)
 
 pub returns-then-count-lt-BYTES : goal.returns-then-count-lt-BYTES
 returns-then-count-lt-BYTES c =
-    let counted = c.before.before in
-    let read = counted.before in
+    let counted = c in
+    let read = counted in
     words-few _ _ _ read.word_at-first.ensures (omega arith) counted.digit_count-count.ensures (omega arith)
-    c.value_of_lem.ensures.value
+    c.value_of-value.ensures.value
 
 pub value_of-before-requires : goal.value_of-before-requires
 value_of-before-requires c =
-    let counted = c.before.before.before in
-    omega (arith, most c, counted.digit_count-count.ensures)
+    let counted = c in
+    omega (arith, most c.word_at.result c.digit_count-more.ensures, counted.digit_count-count.ensures)
 
 pub overflow_add-at-2 : goal.overflow_add-at-2
-overflow_add-at-2 c = omega (arith, most c.before)
+overflow_add-at-2 c = omega (arith, most c.word_at.result c.digit_count-more.ensures)
 
 pub word_at-requires-2 : goal.word_at-requires-2
-word_at-requires-2 c = omega (arith, most c.before)
+word_at-requires-2 c = omega (arith, most c.word_at.result c.digit_count-more.ensures)
 
 pub value_of-last-requires : goal.value_of-last-requires
 value_of-last-requires c =
-    let second = c.before.before in
-    let first = second.before.before.before in
-    let read = first.before in
+    let second = c in
+    let first = second in
+    let read = first in
     last-full _ _ _ read.word_at-first.ensures (omega arith) _ _ (omega (arith, first.digit_count-count.ensures))
-    second.before.word_at.ensures second.digit_count-more.ensures _ c.word_at-2.ensures
+    second.word_at.ensures second.digit_count-more.ensures _ c.word_at-2.ensures
 
 pub overflow_add-result : goal.overflow_add-result
-overflow_add-result c = omega (arith, most c.before.before.before)
+overflow_add-result c = omega (arith, most c.word_at.result c.digit_count-more.ensures)
 
 pub returns : goal.returns
 returns c =
-    let second = c.before.before.before in
-    let first = second.before.before.before in
-    let read = first.before in
+    let second = c in
+    let first = second in
+    let read = first in
     words-all _ _ _ read.word_at-first.ensures (omega arith) _ _ (omega (arith, first.digit_count-count.ensures))
-    second.before.word_at.ensures second.digit_count-more.ensures _ c.before.word_at-2.ensures
-    c.before.before.value_of-before.ensures.value c.value_of-last.ensures.value refl
+    second.word_at.ensures second.digit_count-more.ensures _ c.word_at-2.ensures
+    c.value_of-before.ensures.value c.value_of-last.ensures.value refl

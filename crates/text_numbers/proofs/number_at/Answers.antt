@@ -10,56 +10,50 @@ use Rattle.text_tokens.proofs.NumberSteps.{number_past, minus-most, sign-malform
 use Rattle.text_tokens.proofs.NumberSteps.{unsigned_small, positive-fits, minus-fits}
 use Rattle.text_numbers.proofs.number_at.Goals as goal
 
--- the number without its sign that was read
-small : (c : goal.In-Unsigned-2) → c.in-Unsigned.value-1 < 10 ^ most_digits
-small c =
-    let called = c.before.before in
-    unsigned_small _ _ called.unsigned_at.ensures c.in-Unsigned.is
-
 pub returns-then-bytes-at : goal.returns-then-bytes-at
 returns-then-bytes-at c = sym (number_past _ _ (omega arith))
 
 pub overflow_add-at : goal.overflow_add-at
 overflow_add-at c =
-    let start = c.before.before.before in
+    let start = c in
     omega (arith, c.minus_at-minus.ensures, minus-most (get_or start.args.bytes.now start.args.at 0))
 
 pub returns-in_default : goal.returns-in_default
 returns-in_default c =
-    let called = c.before.before in
+    let called = c in
     sym
-    (sign-malformed _ _ (omega arith) called.before.minus_at-minus.ensures called.unsigned_at.ensures
+    (sign-malformed _ _ (omega arith) called.minus_at-minus.ensures called.unsigned_at.ensures
     c.in_default.is)
 
 pub overflow_cast-result : goal.overflow_cast-result
-overflow_cast-result c = positive-fits _ (small c.before.before)
+overflow_cast-result c = positive-fits _ (unsigned_small _ _ c.unsigned_at.ensures c.in-Unsigned.is)
 
 pub returns-then-minus-eq0 : goal.returns-then-minus-eq0
 returns-then-minus-eq0 c =
-    let read = c.before.before in
-    let called = read.before.before in
+    let read = c in
+    let called = read in
     sym
-    (sign-none _ _ (omega arith) called.before.minus_at-minus.ensures called.unsigned_at.ensures read.in-Unsigned.is
+    (sign-none _ _ (omega arith) called.minus_at-minus.ensures called.unsigned_at.ensures read.in-Unsigned.is
     c.if-minus-eq0.true)
 
 pub returns-then-value-eq0 : goal.returns-then-value-eq0
 returns-then-value-eq0 c =
-    let read = c.before.before.before in
-    let called = read.before.before in
+    let read = c in
+    let called = read in
     sym
-    (sign_zero _ _ (omega arith) called.before.minus_at-minus.ensures called.unsigned_at.ensures read.in-Unsigned.is
-    c.before.if-minus-eq0.false c.if-value-eq0.true)
+    (sign_zero _ _ (omega arith) called.minus_at-minus.ensures called.unsigned_at.ensures read.in-Unsigned.is
+    c.if-minus-eq0.false c.if-value-eq0.true)
 
 pub overflow_cast-result-2 : goal.overflow_cast-result-2
-overflow_cast-result-2 c = positive-fits _ (small c.before.before.before)
+overflow_cast-result-2 c = positive-fits _ (unsigned_small _ _ c.unsigned_at.ensures c.in-Unsigned.is)
 
 pub overflow_sub-result : goal.overflow_sub-result
-overflow_sub-result c = minus-fits _ (small c.before.before.before)
+overflow_sub-result c = minus-fits _ (unsigned_small _ _ c.unsigned_at.ensures c.in-Unsigned.is)
 
 pub returns : goal.returns
 returns c =
-    let read = c.before.before.before in
-    let called = read.before.before in
+    let read = c in
+    let called = read in
     sym
-    (sign-minus _ _ (omega arith) called.before.minus_at-minus.ensures called.unsigned_at.ensures read.in-Unsigned.is
-    c.before.if-minus-eq0.false c.if-value-eq0.false)
+    (sign-minus _ _ (omega arith) called.minus_at-minus.ensures called.unsigned_at.ensures read.in-Unsigned.is
+    c.if-minus-eq0.false c.if-value-eq0.false)

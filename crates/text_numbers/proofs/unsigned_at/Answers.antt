@@ -7,30 +7,32 @@ use native.Mathlib.Omega.{arith}
 use borrow.Author.Tests.{ltb-true, ltb-false, eqb-true, eqb-false}
 use Rattle.text_tokens.proofs.NumberSteps.{count-within, malformed-none, malformed-long, malformed-zero, taken-one, taken_more}
 use Rattle.text_numbers.proofs.unsigned_at.Goals as goal
+use Rattle.text_numbers.proofs.unsigned_at.Goals.{else-run-gt1-via-then-run-gt1+else-bytes-at-eq48, else-run-gt1-via-else-run-gt1}
 
 pub returns-then-run-eq0 : goal.returns-then-run-eq0
 returns-then-run-eq0 c =
-    let read = c.before.before.digits_at-run.ensures in
-    sym (⊎_elim (λ w. malformed-none read w.true) (λ w. malformed-long read (omega (arith, ltb-true))) c.if-run-eq0.branch)
+    let read = c.digits_at-run.ensures in
+    sym (⊎_elim (λ w. malformed-none read w) (λ w. malformed-long read w.1) c.then-run-eq0.either)
 
 pub bounds-bytes-at : goal.bounds-bytes-at
 bounds-bytes-at c =
-    omega (arith, count-within c.before.before.before.before.before.before.before.digits_at-run.ensures)
+    omega (arith, count-within c.digits_at-run.ensures)
 
 pub returns-then-bytes-at-eq48 : goal.returns-then-bytes-at-eq48
 returns-then-bytes-at-eq48 c =
-    let read = c.before.before.before.before.before.before.before.before.digits_at-run.ensures in
-    sym (malformed-zero read (omega arith) (eqb-true _ _ c.if-bytes-at-eq48.true))
+    let read = c.digits_at-run.ensures in
+    sym (malformed-zero read (omega arith) c.if-bytes-at-eq48.true)
 
 pub overflow_add-result : goal.overflow_add-result
 overflow_add-result c =
-    omega (arith, count-within c.before.before.before.before.before.before.before.digits_at-run.ensures)
+    omega (arith, count-within c.digits_at-run.ensures)
 
 pub returns : goal.returns
 returns c =
-    let read = c.before.before.before.before.before.before.before.digits_at-run.ensures in
+    let read = c.digits_at-run.ensures in
     sym
-    (⊎_elim
-    (λ w. taken_more read (omega arith) (omega (arith, ltb-false)) (eqb-false _ _ w.2.false))
-    (λ w. taken-one read (omega arith))
-    c.before.if-run-gt1.branch)
+    (elim c.else-run-gt1.branch [
+      else-run-gt1-via-then-run-gt1+else-bytes-at-eq48 w ↦
+        taken_more read (omega arith) (omega arith) w.if-bytes-at-eq48.false
+      | else-run-gt1-via-else-run-gt1 w ↦ taken-one read (omega arith)
+    ])

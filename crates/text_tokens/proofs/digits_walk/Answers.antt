@@ -11,10 +11,11 @@ use Rattle.text_tokens.specs.Number.{most_digits}
 use Rattle.text_tokens.specs.laws.DigitLaws.{digit-between, digit-below, digit-above}
 use Rattle.text_tokens.proofs.DigitSteps.{Run, run-start, run-bound, run_end, run-break, run-next}
 use Rattle.text_tokens.proofs.digits_walk.Goals as goal
+use Rattle.text_tokens.proofs.digits_walk.Goals.{then-most-gt16, else-most-gt16}
 
 pub loop-count-init : goal.loop-count-init
 loop-count-init c =
-    (⊎_elim (λ w. omega arith) (λ w. omega arith) c.if-most-gt16.branch, search rules, run-start _ _)
+    (elim c.if-most-gt16.branch [ then-most-gt16 w ↦ omega arith | else-most-gt16 w ↦ omega arith ], search rules, run-start _ _)
 
 pub overflow_mul-value : goal.overflow_mul-value
 overflow_mul-value c =
@@ -45,4 +46,4 @@ pub returns-then-digit-lt48 : goal.returns-then-digit-lt48
 returns-then-digit-lt48 c =
     let head = c.before.before.before in
     run-break _ _ head.loop-count.invariant.2 (omega arith)
-    (⊎_elim (λ w. digit-below _ (omega arith)) (λ w. digit-above _ (omega (arith, ltb-true))) c.if-digit-lt48.branch)
+    (⊎_elim (λ w. digit-below _ (omega arith)) (λ w. digit-above _ (omega (arith, ltb-true))) c.then-digit-lt48.either)

@@ -19,7 +19,7 @@ has {r} e h = sym e ∙ not-false r h
 
 -- the bits of a number that fits stand for it
 pub held : (z : ℤ) → mag z < 2 ^ hbits w64 → to_z w64 (of_z w64 z) ≡ z
-held z h = to_z-of_z (record { sfits = h })
+held z h = to_z-of_z {w = w64} (record { sfits = h })
 
 -- a number that was malformed, and one that was read
 module _ (bytes : List ℕ) where
