@@ -15,9 +15,10 @@ use Rattle.model_closure.specs.Closure.{least_sum, greatest_sum, weighted_mean}
 use Rattle.model_closure.specs.code.Code.{sums_limit, weight_of}
 use Rattle.model_closure.proofs.Sums.{sums_to, sums_next, sums-within}
 use Rattle.model_closure.proofs.closed_sum.Goals as goal
+use Rattle.model_closure.proofs.closed_sum.Goals.{At-loop-i}
 
 -- the sums at the loop's head are within their limit
-sums-small : (c : goal.At-loop-i) → Within sums_limit c.loop-i.sums
+sums-small : (c : At-loop-i) → Within sums_limit c.loop-i.sums
 sums-small c =
     let s = c.before in
     let p = s.requires in

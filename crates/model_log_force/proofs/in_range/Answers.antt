@@ -17,6 +17,7 @@ use Rattle.set_series.specs.code.Within.{number_limit}
 use Rattle.set_series.specs.laws.BoundLaws.{in_grid-under}
 use Rattle.model_log_force.specs.LogForce.{lowest_force, highest_force, in_range}
 use Rattle.model_log_force.proofs.in_range.Goals as goal
+use Rattle.model_log_force.proofs.in_range.Goals.{After-in_grid-highest}
 
 ends-fit : (s : goal.Start) → EndsFit s.args.m
 ends-fit s = record { lower = search rules; upper = search rules }
@@ -25,14 +26,14 @@ ends-fit s = record { lower = search rules; upper = search rules }
 bound : (u : GridUnit) {r z : ℤ} → Under z number_limit → r ≡ in_grid (grid_of u) z → bits r ≡ in_grid (grid_of u) z
 bound u k e = read e (fits (under-scaled u number_limit (in_grid-under (grid_of u) k)) tt)
 
-lowest : (c : goal.After-in_grid-highest) → let s = c.before.before in bits c.before.in_grid-lowest.result ≡ in_grid (grid_by s.args.fine) lowest_force
+lowest : (c : After-in_grid-highest) → let s = c.before.before in bits c.before.in_grid-lowest.result ≡ in_grid (grid_by s.args.fine) lowest_force
 lowest c = bound (unit_by c.before.before.args.fine) (under-lit tt) c.before.in_grid-lowest.ensures
 
-highest : (c : goal.After-in_grid-highest) → let s = c.before.before in bits c.in_grid-highest.result ≡ in_grid (grid_by s.args.fine) highest_force
+highest : (c : After-in_grid-highest) → let s = c.before.before in bits c.in_grid-highest.result ≡ in_grid (grid_by s.args.fine) highest_force
 highest c = bound (unit_by c.before.before.args.fine) (under-lit tt) c.in_grid-highest.ensures
 
 -- the range, by the test of the lower end as the code has it
-tested : (c : goal.After-in_grid-highest) {b : Bool} → let s = c.before.before in le_z (bits c.before.in_grid-lowest.result) (bits s.args.m.lower) ≡ b
+tested : (c : After-in_grid-highest) {b : Bool} → let s = c.before.before in le_z (bits c.before.in_grid-lowest.result) (bits s.args.m.lower) ≡ b
     → in_range (grid_by s.args.fine) s.args.m ≡ b && le_z s.args.m.upper (in_grid (grid_by s.args.fine) highest_force)
 unfolding in_range
 tested c e = rw (← e, lowest c, to_z-of_z (ends-fit c.before.before).lower)

@@ -15,16 +15,6 @@ use Rattle.model_log_force.specs.LogForce.{cell_force}
 use Rattle.model_log_force.proofs.Cell.{number-under, number, fixed, trend, beta-under, within, lower-end, upper-end}
 use Rattle.model_log_force.proofs.log_force.Goals as goal
 
--- the places after both choices: the first choice, the number in the grid's units, and the function's start
-abbrev first : goal.After-end_by-high → goal.After-end_by-low
-first c = c.before.before.before
-
-abbrev grid : goal.After-end_by-high → goal.After-in_grid-fixed
-grid c = (first c).before.before.before.before.before.before
-
-abbrev start : goal.After-end_by-high → goal.Start
-start c = (grid c).before.before.before
-
 pub overflow_add-age : goal.overflow_add-age
 overflow_add-age c = let s = c.before.before in (number (unit_by s.args.fine) s.requires).0
 
@@ -36,57 +26,50 @@ overflow_mul-trend c = let s = c.before.before.before.before.before in (trend (u
 
 -- A + alpha, and the two chosen ends, as they are read
 module _ (c : goal.After-end_by-high) where
-  added : bits (grid c).in_grid-fixed.result ≡ in_grid (grid_by (start c).args.fine) ((start c).args.age.level +ℤ (start c).args.age.alpha)
+  added : bits c.in_grid-fixed.result ≡ in_grid (grid_by c.args.fine) (c.args.age.level +ℤ c.args.age.alpha)
   added =
-      let s = start c in
-      fixed (unit_by s.args.fine) s.requires (number (unit_by s.args.fine) s.requires).1 (grid c).in_grid-fixed.ensures
+      fixed (unit_by c.args.fine) c.requires (number (unit_by c.args.fine) c.requires).1 c.in_grid-fixed.ensures
 
-  low : bits (first c).end_by-low.result ≡ end_by (start c).args.age.beta (start c).args.kappas.lower (start c).args.kappas.upper
+  low : bits c.end_by-low.result ≡ end_by c.args.age.beta c.args.kappas.lower c.args.kappas.upper
   low =
-      let s = start c in
-      let l = s.requires in
-      chosen-read (unit_by s.args.fine) (beta-under (unit_by s.args.fine) l) l.kappas.low l.kappas.high (first c).end_by-low.ensures
+      let l = c.requires in
+      chosen-read (unit_by c.args.fine) (beta-under (unit_by c.args.fine) l) l.kappas.low l.kappas.high c.end_by-low.ensures
 
-  high : bits c.end_by-high.result ≡ end_by (start c).args.age.beta (start c).args.kappas.upper (start c).args.kappas.lower
+  high : bits c.end_by-high.result ≡ end_by c.args.age.beta c.args.kappas.upper c.args.kappas.lower
   high =
-      let s = start c in
-      let l = s.requires in
-      chosen-read (unit_by s.args.fine) (beta-under (unit_by s.args.fine) l) l.kappas.high l.kappas.low c.end_by-high.ensures
+      let l = c.requires in
+      chosen-read (unit_by c.args.fine) (beta-under (unit_by c.args.fine) l) l.kappas.high l.kappas.low c.end_by-high.ensures
 
 pub mixed_over-requires : goal.mixed_over-requires
 mixed_over-requires c =
-    let s = start c in
-    let u = unit_by s.args.fine in
-    let l = s.requires in
+    let u = unit_by c.args.fine in
+    let l = c.requires in
     rw ((trend u l).1, back (beta-under u l) tt, low c) (within u l (chosen-under u (beta-under u l) l.kappas.low l.kappas.high))
 
 pub mixed_over-requires-2 : goal.mixed_over-requires-2
 mixed_over-requires-2 m =
     let c = m.before in
-    let s = start c in
-    let u = unit_by s.args.fine in
-    let l = s.requires in
+    let u = unit_by c.args.fine in
+    let l = c.requires in
     rw ((trend u l).1, back (beta-under u l) tt, high c) (within u l (chosen-under u (beta-under u l) l.kappas.high l.kappas.low))
 
 -- the two ends
-lower : (m : goal.After-mixed_over) → let c = m.before in let s = start c in
-    let r = bits (grid c).in_grid-fixed.result +ℤ bits m.mixed_over.result in
-    SFits w64 r × (bits r ≡ (cell_force (grid_by s.args.fine) s.args.age s.args.period s.args.kappas).lower)
+lower : (m : goal.After-mixed_over) → let c = m.before in
+    let r = bits c.in_grid-fixed.result +ℤ bits m.mixed_over.result in
+    SFits w64 r × (bits r ≡ (cell_force (grid_by c.args.fine) c.args.age c.args.period c.args.kappas).lower)
 lower m =
     let c = m.before in
-    let s = start c in
-    let u = unit_by s.args.fine in
-    let l = s.requires in
+    let u = unit_by c.args.fine in
+    let l = c.requires in
     lower-end u l (added c) (rw ((trend u l).1, back (beta-under u l) tt, low c) at m.mixed_over.ensures)
 
-upper : (n : goal.After-mixed_over-2) → let c = n.before.before in let s = start c in
-    let r = bits (grid c).in_grid-fixed.result +ℤ bits n.mixed_over-2.result in
-    SFits w64 r × (bits r ≡ (cell_force (grid_by s.args.fine) s.args.age s.args.period s.args.kappas).upper)
+upper : (n : goal.After-mixed_over-2) → let c = n.before.before in
+    let r = bits c.in_grid-fixed.result +ℤ bits n.mixed_over-2.result in
+    SFits w64 r × (bits r ≡ (cell_force (grid_by c.args.fine) c.args.age c.args.period c.args.kappas).upper)
 upper n =
     let c = n.before.before in
-    let s = start c in
-    let u = unit_by s.args.fine in
-    let l = s.requires in
+    let u = unit_by c.args.fine in
+    let l = c.requires in
     upper-end u l (added c) (rw ((trend u l).1, back (beta-under u l) tt, high c) at n.mixed_over-2.ensures)
 
 pub overflow_add-lower : goal.overflow_add-lower

@@ -8,19 +8,20 @@ use mir.Val.{SFits}
 use Rattle.number_whole.specs.laws.Bound.{bits, fits, back}
 use Rattle.number_whole.proofs.Signed.{sum}
 use Rattle.model_log_force.proofs.next_year.Goals as goal
+use Rattle.model_log_force.proofs.next_year.Goals.{After-kappa_step-next, Start}
 
 pub kappa_step-next-requires : goal.kappa_step-next-requires
-kappa_step-next-requires c = let p = c.before.requires in (p.dynamics, p.kappas-1)
+kappa_step-next-requires c = let p = c.before.requires in (p.dynamics, p.kappas)
 
 -- the function's start, from after the step
-abbrev start : goal.After-kappa_step-next → goal.Start
+abbrev start : After-kappa_step-next → Start
 start c = c.before.before
 
 pub overflow_add-result : goal.overflow_add-result
 overflow_add-result c = omega (arith, (start c.before).requires.number)
 
 -- K with theta
-next : (c : goal.After-kappa_step-next) → let y = (start c).args.y in let d = (start c).args.d in
+next : (c : After-kappa_step-next) → let y = (start c).args.y in let d = (start c).args.d in
     SFits w64 (bits y.period +ℤ bits d.theta) × (bits (bits y.period +ℤ bits d.theta) ≡ y.period +ℤ d.theta)
 next c = let p = (start c).requires in sum (back p.period tt) (back p.dynamics.theta tt) refl (fits p.next tt)
 

@@ -14,9 +14,10 @@ use Rattle.model_logarithm.specs.Logarithm.{log_upper}
 use Rattle.model_logarithm.proofs.Steps.{LowerSteps, UpperSteps, few-terms, room, lower-second, upper-second, lower-more, upper-more}
 use Rattle.model_logarithm.proofs.Steps.{lower-done, upper-done, lower-out, upper-out}
 use Rattle.model_logarithm.proofs.between_on.Goals as goal
+use Rattle.model_logarithm.proofs.between_on.Goals.{Start}
 
 -- what stands before the loop: the function's start, the grid and the terms
-abbrev start : goal.After-next_up-up → goal.Start
+abbrev start : goal.After-next_up-up → Start
 start c = c.before.before.before
 
 abbrev grid : goal.After-next_up-up → Grid

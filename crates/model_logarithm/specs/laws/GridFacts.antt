@@ -1,4 +1,5 @@
 -- Both grids have what the logarithm's laws ask of a grid, by computation.
+use Rattle.std.specs.Prelude.{suc, ◌*◌, ◌^◌, ◌≤◌, ◌<◌}
 use Rattle.std.proofs.Common.{lit≤, lit<}
 use Rattle.number_exponential.specs.declared.GridUnit.{GridUnit}
 use Rattle.number_exponential.specs.declared.GridUnit.TheVariants.{Coarse, Fine}
@@ -9,6 +10,6 @@ pub unit-fine : (u : GridUnit) → facts.Fine (grid_of u)
 unfolding grid_of
 unit-fine u =
     record {
-      terms-positive = elim u [ Coarse ↦ lit< tt | Fine ↦ lit< tt ];
-      rest-small = elim u [ Coarse ↦ lit≤ tt | Fine ↦ lit≤ tt ];
+      terms-positive = elim u as (λ v. 0 < (grid_of v).log_terms) [ Coarse ↦ lit< tt | Fine ↦ lit< tt ];
+      rest-small = elim u as (λ v. (grid_of v).unit ≤ 2 ^ suc (grid_of v).log_terms * suc (grid_of v).log_terms) [ Coarse ↦ lit≤ tt | Fine ↦ lit≤ tt ];
     }

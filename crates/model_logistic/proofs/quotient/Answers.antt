@@ -9,9 +9,10 @@ use Rattle.number_exponential.specs.Units.{grid_of}
 use Rattle.number_exponential.specs.code.Flag.{unit_by, grid_by}
 use Rattle.number_products.specs.laws.Products.{quotient-up}
 use Rattle.model_logistic.proofs.quotient.Goals as goal
+use Rattle.model_logistic.proofs.quotient.Goals.{Start}
 
 -- the divisor is some units
-divisor : (s : goal.Start) → 0 < s.args.d
+divisor : (s : Start) → 0 < s.args.d
 divisor s = omega (arith, s.requires.1, (grid_by s.args.fine).positive)
 
 pub returns-then-upper : goal.returns-then-upper

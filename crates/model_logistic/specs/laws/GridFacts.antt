@@ -1,5 +1,5 @@
 -- Both grids have what the law on the force's width asks, where G is at most 25,000 units wide.
-use Rattle.std.specs.Prelude.{ℕ, ◌≤◌}
+use Rattle.std.specs.Prelude.{ℕ, suc, ◌*◌, ◌≤◌}
 use Rattle.std.proofs.Common.{lit≤}
 use Rattle.number_exponential.specs.declared.GridUnit.{GridUnit}
 use Rattle.number_exponential.specs.declared.GridUnit.TheVariants.{Coarse, Fine}
@@ -12,4 +12,4 @@ use Rattle.model_logistic.specs.laws.LogisticWidth.{fine-below}
 
 pub unit-fine : (u : GridUnit) {d : ℕ} → d ≤ 25000 → facts.Fine (grid_of u) d
 unfolding grid_of facts.spread slack_upper slack_lower slack total
-unit-fine u l = fine-below l (record { small = elim u [ Coarse ↦ lit≤ tt | Fine ↦ lit≤ tt ] })
+unit-fine u l = fine-below l (record { small = elim u as (λ v. facts.spread (grid_of v) 25000 * suc (facts.spread (grid_of v) 25000) ≤ 6 * (grid_of v).unit) [ Coarse ↦ lit≤ tt | Fine ↦ lit≤ tt ] })

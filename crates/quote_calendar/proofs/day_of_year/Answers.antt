@@ -9,14 +9,15 @@ use mir.Facts.{to_z-of_z}
 use Rattle.quote_calendar.specs.Calendar.{date_year, date_month, date_day, is_day, day_of_year}
 use Rattle.quote_calendar.specs.laws.Days.{day-natural, day-plain, day-parts, day-below, year-days}
 use Rattle.quote_calendar.proofs.day_of_year.Goals as goal
+use Rattle.quote_calendar.proofs.day_of_year.Goals.{After-plain-z}
 
 pub plain-z-requires : goal.plain-z-requires
 plain-z-requires c = rw (to_z-of_z c.ranges.date) (day-natural c.args.date c.requires)
 
-plain-is : (c : goal.After-plain-z) → c.plain-z.result ≡ nat_abs c.before.args.date
+plain-is : (c : After-plain-z) → c.plain-z.result ≡ nat_abs c.before.args.date
 plain-is c = c.plain-z.ensures ∙ ap nat_abs (to_z-of_z c.before.ranges.date)
 
-plain-day : (c : goal.After-plain-z) → T (is_day (pos c.plain-z.result))
+plain-day : (c : After-plain-z) → T (is_day (pos c.plain-z.result))
 plain-day c = rw (plain-is c) (day-plain c.before.args.date c.before.requires)
 
 -- the month and the day of the month are in the calendar

@@ -8,14 +8,15 @@ use borrow.Author.Tests.{not-true, not-false}
 use Rattle.quote_calendar.specs.Calendar.{date_year, date_month, date_day, month_days, between, is_day}
 use Rattle.quote_calendar.specs.laws.Days.{tested}
 use Rattle.quote_calendar.proofs.is_plain_day.Goals as goal
+use Rattle.quote_calendar.proofs.is_plain_day.Goals.{Else-not-between, Else-not-between-2}
 
 -- ---- the tests that passed
 
-year-in : (c : goal.Else-not-between) → between 1000 9999 (date_year c.before.before.args.z) ≡ true
+year-in : (c : Else-not-between) → between 1000 9999 (date_year c.before.before.args.z) ≡ true
 unfolding date_year
 year-in c = sym c.before.between.ensures ∙ not-false _ (ap not c.if-not-between.false)
 
-month-in : (c : goal.Else-not-between-2) → between 1 12 (date_month c.before.before.before.before.args.z) ≡ true
+month-in : (c : Else-not-between-2) → between 1 12 (date_month c.before.before.before.before.args.z) ≡ true
 unfolding date_month
 month-in c = sym c.before.between-2.ensures ∙ not-false _ (ap not c.if-not-between-2.false)
 
