@@ -6,7 +6,9 @@ use lib.ListN.{take}
 use mir.Syntax.{w64}
 use mir.Val.{SFits}
 use mir.Facts.{to_z-of_z}
+use mathlib.Core.List.{List}
 use Rattle.number_exponential.specs.Grid.{Grid}
+use Rattle.number_exponential.specs.declared.Ends.{Ends}
 use Rattle.number_exponential.specs.Units.{grid_of}
 use Rattle.number_exponential.specs.code.Flag.{unit_by, grid_by}
 use Rattle.number_folds.specs.code.Code.{AtMost}
@@ -20,27 +22,22 @@ use Rattle.quote_kinds.specs.code.Code.{RateWithin}
 use Rattle.quote_kinds.proofs.Casts.{cast-whole}
 use Rattle.quote_kinds.proofs.folded.Goals as goal
 
--- the grid of the code's unit
-abbrev grid : goal.Start → Grid
-grid s = grid_by s.args.fine
-
 pub death_of-requires : goal.death_of-requires
 death_of-requires c =
-    let e = c.before.before.before in
-    let g = grid e in
-    let h = survival-at-most g g.positive e.requires.0.each in
+    let g = grid_by c.args.fine in
+    let h = survival-at-most g g.positive c.requires.0.each in
     let k : AtMost g.unit c.survival_over.result = rw c.survival_over.ensures h in
     (k.lower, k.upper)
 
 -- the rate in the annuity's arm
 abbrev rate : goal.In-Annuity → ℤ
-rate c = c.before.in-Annuity.rate
+rate c = c.in-Annuity.rate
 
 rate-fits : (c : goal.In-Annuity) → SFits w64 (rate c)
-rate-fits c = record { sfits = c.known_told-1.given.0.1 }
+rate-fits c = search rules
 
 rate-within : (c : goal.In-Annuity) → RateWithin (Annuity (rate c))
-rate-within c = rw c.before.in-Annuity.is at c.before.before.before.requires.1
+rate-within c = rw c.in-Annuity.is at c.requires.1
 
 pub overflow_cast-rate : goal.overflow_cast-rate
 unfolding rate_of
@@ -48,31 +45,29 @@ overflow_cast-rate c = cast-whole (rate-fits c) (rate-within c).is
 
 pub annuity_over-requires : goal.annuity_over-requires
 unfolding rate_of
-annuity_over-requires c = (c.before.before.before.requires.0, rw (to_z-of_z (rate-fits c)) (rate-within c).most)
+annuity_over-requires c = (c.requires.0, rw (to_z-of_z (rate-fits c)) (rate-within c).most)
 
 -- the fold over the factors that the code's enum names
-at : (c : goal.Start) {f : Fold} → c.args.fold-1 ≡ f
-    → fold_over f (grid c) (take c.args.count c.args.factors)
-    ≡ fold_over c.args.fold-1 (grid c) (take c.args.count c.args.factors)
-at c e = ap (λ (f : Fold). fold_over f (grid c) (take c.args.count c.args.factors)) (sym e)
+at : (g : Grid) (factors : List Ends) {f : Fold} {fold : Fold} → fold ≡ f → fold_over f g factors ≡ fold_over fold g factors
+at g factors e = ap (λ (f : Fold). fold_over f g factors) (sym e)
 
 pub returns-in-Death : goal.returns-in-Death
 unfolding fold_over
 returns-in-Death c =
-    let v = c.before in
-    let s = v.before.before.before in
-    c.death_of.ensures ∙ ap (death_of (grid s)) v.survival_over.ensures ∙ at s v.before.in-Death.is
+    let g = grid_by c.args.fine in
+    c.death_of.ensures ∙ ap (death_of g) c.survival_over.ensures ∙ at g (take c.args.count c.args.factors) c.in-Death.is
 
 pub returns-in-Survival : goal.returns-in-Survival
 unfolding fold_over
-returns-in-Survival c = c.survival_over-in-Survival.ensures ∙ at c.before.before.before c.before.in-Survival.is
+returns-in-Survival c =
+    c.survival_over-in-Survival.ensures ∙ at (grid_by c.args.fine) (take c.args.count c.args.factors) c.in-Survival.is
 
 pub returns-in-Expectancy : goal.returns-in-Expectancy
 unfolding fold_over
-returns-in-Expectancy c = c.expectancy_over.ensures ∙ at c.before.before.before c.before.in-Expectancy.is
+returns-in-Expectancy c = c.expectancy_over.ensures ∙ at (grid_by c.args.fine) (take c.args.count c.args.factors) c.in-Expectancy.is
 
 pub returns-in-Annuity : goal.returns-in-Annuity
 unfolding fold_over
 returns-in-Annuity c =
-    let k = c.before in
-    rw (to_z-of_z (rate-fits k)) at c.annuity_over.ensures ∙ at k.before.before.before k.before.in-Annuity.is
+    rw (to_z-of_z (rate-fits c.before)) at c.annuity_over.ensures
+    ∙ at (grid_by c.args.fine) (take c.args.count c.args.factors) c.in-Annuity.is

@@ -7,16 +7,16 @@ use Rattle.quote_kinds.proofs.most_span.Goals as goal
 
 pub returns-in-Death : goal.returns-in-Death
 unfolding most_span
-returns-in-Death c = sym (ap (λ (f : Fold). most_span f c.before.before.args.age) c.in-Death.is)
+returns-in-Death c = sym (ap (λ (f : Fold). most_span f c.args.age) c.in-Death.is)
 
 pub returns-in-Survival : goal.returns-in-Survival
 unfolding most_span
-returns-in-Survival c = sym (ap (λ (f : Fold). most_span f c.before.before.args.age) c.in-Survival.is)
+returns-in-Survival c = sym (ap (λ (f : Fold). most_span f c.args.age) c.in-Survival.is)
 
 pub returns-in-Expectancy : goal.returns-in-Expectancy
 unfolding most_span
-returns-in-Expectancy c = sym (ap (λ (f : Fold). most_span f c.before.before.args.age) c.in-Expectancy.is)
+returns-in-Expectancy c = sym (ap (λ (f : Fold). most_span f c.args.age) c.in-Expectancy.is)
 
 pub returns-in-Annuity : goal.returns-in-Annuity
 unfolding most_span
-returns-in-Annuity c = sym (ap (λ (f : Fold). most_span f c.before.before.args.age) c.in-Annuity.is)
+returns-in-Annuity c = sym (ap (λ (f : Fold). most_span f c.args.age) c.in-Annuity.is)

@@ -1,5 +1,4 @@
 -- `part_of` meets its contract: of a date its days since 1 January and those of its year, and of a span none.
-use mathlib.Core.Bool.{not}
 use mathlib.Core.Path.{◌≡◌, refl, ap, ◌∙◌}
 use mathlib.Core.Bool.{true}
 use borrow.Author.Rules.{rules}
@@ -13,10 +12,10 @@ use Rattle.quote_kinds.proofs.part_of.Goals as goal
 
 pub returns-then-not-rule : goal.returns-then-not-rule
 unfolding part_of whole/
-returns-then-not-rule c = rw (not-true c.before.before.args.rule.dated (ap not c.if-not-rule.true)) (record { days = refl; whole = refl })
+returns-then-not-rule c = rw (not-true c.before.before.args.rule.dated c.if-not-rule.true) (record { days = refl; whole = refl })
 
 dated : (c : goal.Else-not-rule) → c.before.before.args.rule.dated ≡ true
-dated c = not-false c.before.before.args.rule.dated (ap not c.if-not-rule.false)
+dated c = not-false c.before.before.args.rule.dated c.if-not-rule.false
 
 -- the term is a day
 is-day : (c : goal.Else-not-rule) → T (is_day c.before.before.args.term)

@@ -1,6 +1,7 @@
 -- `rate_of` meets its contract, case by case.
 use borrow.Author.Rules.{rules}
 use mathlib.Core.Path.{sym, ap, ◌∙◌}
+use mir.Syntax.{w64}
 use mir.Facts.{to_z-of_z}
 use Rattle.quote_kinds.specs.Kinds.{rate_of}
 use Rattle.quote_kinds.proofs.rate_of.Goals as goal
@@ -19,4 +20,4 @@ returns-in-Expectancy c = sym (ap rate_of c.in-Expectancy.is)
 
 pub returns-in-Annuity : goal.returns-in-Annuity
 unfolding rate_of
-returns-in-Annuity c = to_z-of_z (record { sfits = c.known_told-1.given.0.1 }) ∙ sym (ap rate_of c.before.in-Annuity.is)
+returns-in-Annuity c = to_z-of_z {w = w64} (search rules) ∙ sym (ap rate_of c.in-Annuity.is)

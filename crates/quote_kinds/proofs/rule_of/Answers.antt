@@ -2,6 +2,7 @@
 use borrow.Author.Rules.{rules}
 use mathlib.Core.Path.{sym, ap, ◌∙◌}
 use lib.IntN.{ℤ}
+use mir.Syntax.{w64}
 use mir.Facts.{to_z-of_z}
 use Rattle.quote_kinds.specs.declared.Kind.TheVariants.{CohortAnnuity, PeriodAnnuity}
 use Rattle.quote_kinds.specs.Kinds.{rule_of}
@@ -30,14 +31,14 @@ returns-in-PeriodExpectancy c = sym (ap rule_of c.in-PeriodExpectancy.is)
 pub returns-in-CohortAnnuity : goal.returns-in-CohortAnnuity
 unfolding rule_of
 returns-in-CohortAnnuity c =
-    ap (λ (rate : ℤ). rule_of (CohortAnnuity rate)) (to_z-of_z (record { sfits = c.known_told-1.given.0.1 }))
-    ∙ sym (ap rule_of c.before.in-CohortAnnuity.is)
+    ap (λ (rate : ℤ). rule_of (CohortAnnuity rate)) (to_z-of_z {w = w64} (search rules))
+    ∙ sym (ap rule_of c.in-CohortAnnuity.is)
 
 pub returns-in-PeriodAnnuity : goal.returns-in-PeriodAnnuity
 unfolding rule_of
 returns-in-PeriodAnnuity c =
-    ap (λ (rate : ℤ). rule_of (PeriodAnnuity rate)) (to_z-of_z (record { sfits = c.known_told-in-PeriodAnnuity-1.given.0.1 }))
-    ∙ sym (ap rule_of c.before.in-PeriodAnnuity.is)
+    ap (λ (rate : ℤ). rule_of (PeriodAnnuity rate)) (to_z-of_z {w = w64} (search rules))
+    ∙ sym (ap rule_of c.in-PeriodAnnuity.is)
 
 pub returns-in-Day : goal.returns-in-Day
 unfolding rule_of

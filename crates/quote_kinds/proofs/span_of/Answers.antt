@@ -1,6 +1,4 @@
 -- `span_of` meets its contract: a span is itself, and of a date its year less the query's.
-use mathlib.Core.Bool.{not}
-use mathlib.Core.Path.{ap}
 use mathlib.Core.Path.{◌≡◌, refl, ◌∙◌}
 use mathlib.Core.Bool.{true}
 use native.Mathlib.Omega.{arith}
@@ -18,10 +16,10 @@ use Rattle.quote_kinds.proofs.span_of.Goals as goal
 
 pub returns-then-not-rule : goal.returns-then-not-rule
 unfolding span_of
-returns-then-not-rule c = rw (not-true c.before.before.args.rule.dated (ap not c.if-not-rule.true)) (to_z-of_z c.before.before.ranges.term)
+returns-then-not-rule c = rw (not-true c.before.before.args.rule.dated c.if-not-rule.true) (to_z-of_z c.before.before.ranges.term)
 
 dated : (c : goal.Else-not-rule) → c.before.before.args.rule.dated ≡ true
-dated c = not-false c.before.before.args.rule.dated (ap not c.if-not-rule.false)
+dated c = not-false c.before.before.args.rule.dated c.if-not-rule.false
 
 -- the term is a day
 is-day : (c : goal.Else-not-rule) → T (is_day c.before.before.args.term)

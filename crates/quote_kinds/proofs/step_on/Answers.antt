@@ -20,20 +20,17 @@ step_small Survival = lit≤ tt
 step_small Expectancy = lit≤ tt
 step_small (Annuity rate) = lit≤ tt
 
-abbrev began : goal.After-step_of-step → goal.Start
-began c = c.before
-
 pub overflow_mul-result : goal.overflow_mul-result
-overflow_mul-result c = omega (arith, c.before.step_of_lem.ensures, step_small (began c.before).args.fold)
+overflow_mul-result c = omega (arith, c.step_of-step.ensures, step_small c.args.fold)
 
 pub returns-then-fine : goal.returns-then-fine
 unfolding grid_of unit_by
 returns-then-fine c =
-    let s = began c.before in
-    ap (λ (n : ℕ). n * 10000) c.before.step_of_lem.ensures ∙ sym (ap (λ b. step_of s.args.fold * (grid_by b).scale) c.if-fine.true)
+    let s = c in
+    ap (λ (n : ℕ). n * 10000) c.step_of-step.ensures ∙ sym (ap (λ b. step_of s.args.fold * (grid_by b).scale) c.if-fine.true)
 
 pub returns : goal.returns
 unfolding grid_of unit_by
 returns c =
-    let s = began c.before in
-    c.before.step_of_lem.ensures ∙ sym (mul-one (step_of s.args.fold)) ∙ sym (ap (λ b. step_of s.args.fold * (grid_by b).scale) c.if-fine.false)
+    let s = c in
+    c.step_of-step.ensures ∙ sym (mul-one (step_of s.args.fold)) ∙ sym (ap (λ b. step_of s.args.fold * (grid_by b).scale) c.if-fine.false)
