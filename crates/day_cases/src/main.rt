@@ -1,10 +1,13 @@
 // Reads dates, each a signed word of eight bytes, the lowest first, and writes for each a word in its place: 0 where it is no
 // day, else its year, the days of the year and the days since 1 January, YYYYDDDddd.
 #![tactic(auto)]
+
 ghost use Rattle.std.specs.Prelude.{◌+◌, ◌≤◌, length};
 ghost use Rattle.text_words.specs.code.Word.{word_bytes};
 
 use run_streams::Input;
+use std::io;
+use std::io::{Eprint, Print};
 use text_words::BYTES;
 
 // Bytes that a run takes.
@@ -50,16 +53,16 @@ fn put_cases(bytes: &mut [u8]) {
     }
 }
 
-fn answer(bytes: &mut [u8]) {
-    let Input::Read(len) = run_streams::read_all(bytes) else {
+fn answer<R: io::Input + Print + Eprint>(rt: &R, bytes: &mut [u8]) {
+    let Input::Read(len) = run_streams::read_all(rt, bytes) else {
         return;
     };
     put_cases(bytes);
-    run_streams::write_all(&bytes[..len]);
+    run_streams::write_all(rt, &bytes[..len]);
 }
 
-fn main() {
+fn main(rt: HostRuntime) {
     let mut space = [0u8; ROOM];
     let bytes: &mut [u8] = &mut space;
-    answer(bytes);
+    answer(&rt, bytes);
 }

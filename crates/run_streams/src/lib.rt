@@ -1,9 +1,11 @@
 // Standard input read to its end, and standard output written whole. Where that fails, one line on standard error says why.
 #![tactic(auto)]
-ghost use Rattle.std.specs.Prelude.{◌≤◌, length};
+
+ghost use Rattle.std.specs.Prelude.{◌≤◌, length, IfOk};
 ghost use Rattle.run_streams.specs.code.Streams.{ReadIn};
 
-use libc::{EINTR, STDIN_FILENO, STDOUT_FILENO};
+use std::io;
+use std::io::{Eprint, ErrorKind, Print, Read, Write};
 
 // How often one read or write is tried where signals interrupt it.
 const TRIES: usize = 1000;
@@ -15,69 +17,91 @@ pub enum Input {
     Failed,
 }
 
+// Says on standard error what failed and why. Where that fails too, nothing is left to be told.
+fn complain<R: Eprint>(rt: &R, what: &str, why: io::Error) {
+    let _ = eprintln!(rt; "{what}: {why}");
+}
+
 // One read into the bytes.
-fn read_some(bytes: &mut [u8]) -> Input
-    ensures { ReadIn (length bytes.old) result }
+fn read_some<R: io::Input>(rt: &R, bytes: &mut [u8]) -> io::Result<usize>
+    ensures { IfOk result (λ n. n ≤ length bytes.new) }
 {
+    let mut input = rt.reader();
     let mut tries = TRIES;
-    while 0 < tries {
-        let got = libc::read(STDIN_FILENO, bytes);
-        if 0 <= got {
-            return Input::Read(io::count(got, bytes));
-        }
-        if os::errno() != EINTR {
-            return Input::Failed;
+    while 1 < tries {
+        let got = input.read(bytes);
+        let Err(error) = got else {
+            return got;
+        };
+        if error.kind() != ErrorKind::Interrupted {
+            return got;
         }
         tries -= 1;
     }
-    Input::Failed
+    input.read(bytes)
 }
 
 // Reads standard input to its end, or until the bytes are full.
-pub fn read_all(bytes: &mut [u8]) -> Input
+pub fn read_all<R: io::Input + Eprint>(rt: &R, bytes: &mut [u8]) -> Input
     ensures { ReadIn (length bytes.new) result }
 {
     let mut done = 0;
     while done < bytes.len() {
-        let Input::Read(more) = read_some(&mut bytes[done..]) else {
-            os::fail(b"reading standard input failed");
-            return Input::Failed;
-        };
-        if more == 0 {
-            return Input::Read(done);
+        match read_some(rt, &mut bytes[done..]) {
+            Ok(more) => {
+                if more == 0 {
+                    return Input::Read(done);
+                }
+                done += more;
+            }
+            Err(error) => {
+                complain(rt, "reading standard input failed", error);
+                return Input::Failed;
+            }
         }
-        done += more;
     }
     Input::Read(done)
 }
 
-// One write of the bytes; how many it wrote, none where it failed.
-fn write_some(bytes: &[u8]) -> usize
-    ensures { result ≤ length bytes.now }
+// One write of the bytes; how many it wrote.
+fn write_some<R: Print>(rt: &R, bytes: &[u8]) -> io::Result<usize>
+    ensures { IfOk result (λ n. n ≤ length bytes.now) }
 {
+    let mut output = io::writer(rt);
     let mut tries = TRIES;
-    while 0 < tries {
-        let got = libc::write(STDOUT_FILENO, bytes);
-        if 0 <= got {
-            return io::count(got, bytes);
-        }
-        if os::errno() != EINTR {
-            return 0;
+    while 1 < tries {
+        let put = output.write(bytes);
+        let Err(error) = put else {
+            return put;
+        };
+        if error.kind() != ErrorKind::Interrupted {
+            return put;
         }
         tries -= 1;
     }
-    0
+    output.write(bytes)
 }
 
 // Writes all bytes to standard output.
-pub fn write_all(bytes: &[u8]) {
+pub fn write_all<R: Print + Eprint>(rt: &R, bytes: &[u8]) {
     let mut done = 0;
     while done < bytes.len() {
-        let put = write_some(&bytes[done..]);
-        if put == 0 {
-            os::fail(b"writing standard output failed");
-            return;
+        match write_some(rt, &bytes[done..]) {
+            Ok(put) => {
+                if put == 0 {
+                    complain(
+                        rt,
+                        "writing standard output failed",
+                        ErrorKind::WriteZero.into(),
+                    );
+                    return;
+                }
+                done += put;
+            }
+            Err(error) => {
+                complain(rt, "writing standard output failed", error);
+                return;
+            }
         }
-        done += put;
     }
 }

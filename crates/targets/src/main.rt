@@ -4,6 +4,6 @@
 use run::Program;
 use run_line::Mode;
 
-fn main() {
-    run_console::answer(Program::Lines(Mode::Targets));
+fn main(rt: HostRuntime) {
+    run_console::answer(&rt, Program::Lines(Mode::Targets));
 }

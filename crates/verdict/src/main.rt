@@ -2,6 +2,6 @@
 #![tactic(auto)]
 use run::Program;
 
-fn main() {
-    run_console::answer(Program::Verdict);
+fn main(rt: HostRuntime) {
+    run_console::answer(&rt, Program::Verdict);
 }

@@ -8,21 +8,14 @@ use mir.Val.{SFits}
 use mir.Facts.{to_z_pos}
 use Rattle.number_whole.specs.laws.Split.{split-sub}
 use Rattle.number_whole.specs.laws.Bound.{fits-parts}
-use Rattle.day_cases.proofs.signed.Statement.{statement}
-use Rattle.day_cases.proofs.signed.Tie as tie
+use Rattle.day_cases.proofs.signed.Goals as goal
 
 below-zero : (n : ℕ) → n < 2 ^ 63 → SFits w64 (negsuc 0 -ℤ pos n)
 below-zero n h =
     fits-parts (negsuc 0 -ℤ pos n) 0 (suc n) (omega (arith, split-sub (negsuc 0) (pos n))) (omega arith) (omega arith)
 
-sub-result-2 : tie.Need-overflow-sub-result-2
-sub-result-2 c =
+pub overflow_sub-result-2 : goal.overflow_sub-result-2
+overflow_sub-result-2 c =
     let n = 18446744073709551615 - c.before.args.word in
     let h : n < 2 ^ 63 = omega arith in
     rw (to_z_pos w64 {n = n} h) (below-zero n h)
-
-pub signed-spec : {M : Type 1} → statement M
-signed-spec =
-    tie.close
-    (tie.spec (λ c. search rules) (λ c. search rules) (λ c. search rules) (λ c. search rules) sub-result-2
-    (λ c. search rules))
