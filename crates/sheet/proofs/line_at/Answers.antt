@@ -14,46 +14,37 @@ use borrow.Author.Rules.{rules}
 use Rattle.sheet.proofs.line_at.Goals as goal
 
 pub returns-then-not-short_at : goal.returns-then-not-short_at
-returns-then-not-short_at c key e = sym (key-malformed _ _ _ e (lacks c.before.short_at.ensures (ap not c.if-not-short_at.true)))
+returns-then-not-short_at c key e = sym (key-malformed _ _ _ e (lacks c.short_at.ensures (ap not c.if-not-short_at.true)))
 
 pub overflow_add-at : goal.overflow_add-at
 overflow_add-at c =
-    let found = c.before.before in
-    let head = found.before.before.args.head in
+    let head = c.args.head in
     omega (
       arith,
       lanes-length byte_bits head.len head.word,
-      text-room _ _ (text_of head) (has found.short_at.ensures (ap not c.before.if-not-short_at.false)),
+      text-room _ _ (text_of head) (has c.short_at.ensures (ap not c.if-not-short_at.false)),
     )
 
 pub returns-in_default : goal.returns-in_default
 returns-in_default c key e =
-    let called = c.before.before in
-    let headed = called.before.before in
     sym
-    (no_number _ _ _ e (has headed.before.short_at.ensures (ap not headed.if-not-short_at.false))
-    (sym called.number_at.ensures ∙ c.in_default.is))
+    (no_number _ _ _ e (has c.short_at.ensures (ap not c.if-not-short_at.false))
+    (sym c.number_at.ensures ∙ c.in_default.is))
 
 pub returns-then-not-byte_at : goal.returns-then-not-byte_at
 unfolding bytes_of
 returns-then-not-byte_at c key e =
-    let read = c.before.before.before in
-    let called = read.before.before in
-    let headed = called.before.before in
     sym
-    (feed-malformed _ _ _ e (has headed.before.short_at.ensures (ap not headed.if-not-short_at.false))
-    (sym called.number_at.ensures ∙ read.in-Number.is) (lacks c.before.byte_at.ensures (ap not c.if-not-byte_at.true)))
+    (feed-malformed _ _ _ e (has c.short_at.ensures (ap not c.if-not-short_at.false))
+    (sym c.number_at.ensures ∙ c.in-Number.is) (lacks c.byte_at.ensures (ap not c.if-not-byte_at.true)))
 
 pub overflow_add-result : goal.overflow_add-result
-overflow_add-result c = omega (arith, text-room _ _ _ (has c.before.byte_at.ensures (ap not c.if-not-byte_at.false)))
+overflow_add-result c = omega (arith, text-room _ _ _ (has c.byte_at.ensures (ap not c.if-not-byte_at.false)))
 
 pub returns : goal.returns
 unfolding bytes_of
 returns c key e =
-    let read = c.before.before.before in
-    let called = read.before.before in
-    let headed = called.before.before in
-    rw (held read.in-Number.v-1 c.before.before.known_told-1.given.0.1)
+    rw (held c.in-Number.v c.in-Number.known_told-1-own.given.0.1)
     (sym
-    (line_taken _ _ _ e (has headed.before.short_at.ensures (ap not headed.if-not-short_at.false))
-    (sym called.number_at.ensures ∙ read.in-Number.is) (has c.before.byte_at.ensures (ap not c.if-not-byte_at.false))))
+    (line_taken _ _ _ e (has c.short_at.ensures (ap not c.if-not-short_at.false))
+    (sym c.number_at.ensures ∙ c.in-Number.is) (has c.byte_at.ensures (ap not c.if-not-byte_at.false))))

@@ -16,15 +16,12 @@ most w e = omega (arith, e, count_most w)
 
 pub returns-then-count-lt-BYTES : goal.returns-then-count-lt-BYTES
 returns-then-count-lt-BYTES c =
-    let counted = c in
-    let read = counted in
-    words-few _ _ _ read.word_at-first.ensures (omega arith) counted.digit_count-count.ensures (omega arith)
+    words-few _ _ _ c.word_at-first.ensures (omega arith) c.digit_count-count.ensures (omega arith)
     c.value_of-value.ensures.value
 
 pub value_of-before-requires : goal.value_of-before-requires
 value_of-before-requires c =
-    let counted = c in
-    omega (arith, most c.word_at.result c.digit_count-more.ensures, counted.digit_count-count.ensures)
+    omega (arith, most c.word_at.result c.digit_count-more.ensures, c.digit_count-count.ensures)
 
 pub overflow_add-at-2 : goal.overflow_add-at-2
 overflow_add-at-2 c = omega (arith, most c.word_at.result c.digit_count-more.ensures)
@@ -34,20 +31,14 @@ word_at-requires-2 c = omega (arith, most c.word_at.result c.digit_count-more.en
 
 pub value_of-last-requires : goal.value_of-last-requires
 value_of-last-requires c =
-    let second = c in
-    let first = second in
-    let read = first in
-    last-full _ _ _ read.word_at-first.ensures (omega arith) _ _ (omega (arith, first.digit_count-count.ensures))
-    second.word_at.ensures second.digit_count-more.ensures _ c.word_at-2.ensures
+    last-full _ _ _ c.word_at-first.ensures (omega arith) _ _ (omega (arith, c.digit_count-count.ensures))
+    c.word_at.ensures c.digit_count-more.ensures _ c.word_at-2.ensures
 
 pub overflow_add-result : goal.overflow_add-result
 overflow_add-result c = omega (arith, most c.word_at.result c.digit_count-more.ensures)
 
 pub returns : goal.returns
 returns c =
-    let second = c in
-    let first = second in
-    let read = first in
-    words-all _ _ _ read.word_at-first.ensures (omega arith) _ _ (omega (arith, first.digit_count-count.ensures))
-    second.word_at.ensures second.digit_count-more.ensures _ c.word_at-2.ensures
+    words-all _ _ _ c.word_at-first.ensures (omega arith) _ _ (omega (arith, c.digit_count-count.ensures))
+    c.word_at.ensures c.digit_count-more.ensures _ c.word_at-2.ensures
     c.value_of-before.ensures.value c.value_of-last.ensures.value refl

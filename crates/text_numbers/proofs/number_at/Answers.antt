@@ -15,14 +15,12 @@ returns-then-bytes-at c = sym (number_past _ _ (omega arith))
 
 pub overflow_add-at : goal.overflow_add-at
 overflow_add-at c =
-    let start = c in
-    omega (arith, c.minus_at-minus.ensures, minus-most (get_or start.args.bytes.now start.args.at 0))
+    omega (arith, c.minus_at-minus.ensures, minus-most (get_or c.args.bytes.now c.args.at 0))
 
 pub returns-in_default : goal.returns-in_default
 returns-in_default c =
-    let called = c in
     sym
-    (sign-malformed _ _ (omega arith) called.minus_at-minus.ensures called.unsigned_at.ensures
+    (sign-malformed _ _ (omega arith) c.minus_at-minus.ensures c.unsigned_at.ensures
     c.in_default.is)
 
 pub overflow_cast-result : goal.overflow_cast-result
@@ -30,18 +28,14 @@ overflow_cast-result c = positive-fits _ (unsigned_small _ _ c.unsigned_at.ensur
 
 pub returns-then-minus-eq0 : goal.returns-then-minus-eq0
 returns-then-minus-eq0 c =
-    let read = c in
-    let called = read in
     sym
-    (sign-none _ _ (omega arith) called.minus_at-minus.ensures called.unsigned_at.ensures read.in-Unsigned.is
+    (sign-none _ _ (omega arith) c.minus_at-minus.ensures c.unsigned_at.ensures c.in-Unsigned.is
     c.if-minus-eq0.true)
 
 pub returns-then-value-eq0 : goal.returns-then-value-eq0
 returns-then-value-eq0 c =
-    let read = c in
-    let called = read in
     sym
-    (sign_zero _ _ (omega arith) called.minus_at-minus.ensures called.unsigned_at.ensures read.in-Unsigned.is
+    (sign_zero _ _ (omega arith) c.minus_at-minus.ensures c.unsigned_at.ensures c.in-Unsigned.is
     c.if-minus-eq0.false c.if-value-eq0.true)
 
 pub overflow_cast-result-2 : goal.overflow_cast-result-2
@@ -52,8 +46,6 @@ overflow_sub-result c = minus-fits _ (unsigned_small _ _ c.unsigned_at.ensures c
 
 pub returns : goal.returns
 returns c =
-    let read = c in
-    let called = read in
     sym
-    (sign-minus _ _ (omega arith) called.minus_at-minus.ensures called.unsigned_at.ensures read.in-Unsigned.is
+    (sign-minus _ _ (omega arith) c.minus_at-minus.ensures c.unsigned_at.ensures c.in-Unsigned.is
     c.if-minus-eq0.false c.if-value-eq0.false)
