@@ -90,7 +90,7 @@ log_limit = 430000000000000
 
 log-most : (u : GridUnit) → (grid_of u).log_terms * (grid_of u).unit + (grid_of u).unit ≤ log_limit
 unfolding grid_of
-log-most u = elim u [ Coarse ↦ lit≤ tt | Fine ↦ lit≤ tt ]
+log-most u = elim u as (λ v. (grid_of v).log_terms * (grid_of v).unit + (grid_of v).unit ≤ log_limit) [ Coarse ↦ lit≤ tt | Fine ↦ lit≤ tt ]
 
 module _ (g : Grid) (z : ℕ) (h : z ≤ g.unit) where
   lower-terms : (n : ℕ) → log_terms_lower g z n ≤ n * g.unit

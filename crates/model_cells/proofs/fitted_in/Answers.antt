@@ -23,6 +23,10 @@ use Rattle.model_log_force.specs.laws.YearLaws.{cell-within, year-force}
 use Rattle.model_cells.specs.code.Fitted.{LentIn}
 use Rattle.model_cells.proofs.Fitting.{FittedTo, fitted_none, fitted-more, fitted-out, fitted-all}
 use Rattle.model_cells.proofs.fitted_in.Goals as goal
+use Rattle.model_cells.proofs.fitted_in.Goals.{After-log_force_at-m}
+use Rattle.model_cells.proofs.fitted_in.Tie as tie
+use Rattle.model_cells.proofs.fitted_in.Lts as lts
+use Rattle.model_cells.proofs.fitted_in.Reads as reads
 
 -- the function's start, and a set that lends its runs
 abbrev start : goal.After-age_of_runs → goal.Start
@@ -39,12 +43,12 @@ age c = first_fitted + c.before.before.loop-i.i
 age-read : (c : goal.After-age_of_runs) (o : Lender (start c)) → c.age_of_runs.result ≡ age_of o.set (age c)
 age-read c o = rw (o.level, o.slope, o.alpha, o.beta) at c.age_of_runs.ensures ∙ four-age o.set (age c)
 
-forced : (c : goal.After-log_force_at-m) (o : Lender (start c.before))
+forced : (c : After-log_force_at-m) (o : Lender (start c.before))
     → c.log_force_at-m.result ≡ log_force (grid_by (start c.before).args.fine) o.set (age c.before) (start c.before).args.y.number
 forced c o = rw (age-read c.before o, year-force o.year (age c.before)) at c.log_force_at-m.ensures
 
 -- the code's test, of the definition's log force
-tested : (c : goal.After-in_range) → let a = c.before.before in (o : Lender (start a))
+tested : (c : lts.After-in_range tie.the-claims reads.Pre reads.Post goal.the-invariant-loop-i goal.the-decreases-loop-i) → let a = c.before.before in (o : Lender (start a))
     → c.in_range.result ≡ in_range (grid_by (start a).args.fine) (log_force (grid_by (start a).args.fine) o.set (age a) (start a).args.y.number)
 tested c o = c.in_range.ensures ∙ ap (in_range (grid_by (start c.before.before).args.fine)) (forced c.before o)
 

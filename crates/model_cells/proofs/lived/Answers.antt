@@ -9,10 +9,9 @@ use Rattle.model_cells.proofs.lived.Goals as goal
 
 pub returns-in_default : goal.returns-in_default
 unfolding lived_cell
-returns-in_default c = sym (ap (lived_cell (grid_by c.before.before.args.fine)) c.in_default.is)
+returns-in_default c = sym (ap (lived_cell (grid_by c.args.fine)) c.in_default.is)
 
 pub returns : goal.returns
 unfolding lived_cell
 returns c =
-    let f = c.before.before in
-    ap Of c.exp_between.ensures ∙ sym (ap (lived_cell (grid_by f.before.before.args.fine)) f.in-Of.is)
+    ap Of c.exp_between.ensures ∙ sym (ap (lived_cell (grid_by c.args.fine)) c.in-Of.is)

@@ -1,5 +1,4 @@
 -- `old_force` meets its contract: without the ends of H the cell is out of range, and with them the force is the closure's.
-use mathlib.Core.Bool.{not}
 use mathlib.Core.Path.{ap, ◌∙◌}
 use borrow.Author.Rules.{rules}
 use borrow.Author.Tests.{not-true, not-false}
@@ -11,16 +10,17 @@ use Rattle.model_cells.specs.declared.Cell.TheVariants.{Of}
 use Rattle.model_cells.specs.code.Code.{cell_if}
 use Rattle.model_cells.proofs.Closed.{closed-within}
 use Rattle.model_cells.proofs.old_force.Goals as goal
+use Rattle.model_cells.proofs.old_force.Goals.{Else-not-f}
 
 pub returns-then-not-f : goal.returns-then-not-f
 unfolding cell_if
-returns-then-not-f c = rw (not-true c.before.before.args.f.ok (ap not c.if-not-f.true))
+returns-then-not-f c = rw (not-true c.before.before.args.f.ok c.if-not-f.true)
 
 -- the ends of H are there, within their limit
-in-limit : (c : goal.Else-not-f) → InLimit c.before.before.args.f.ends-1
+in-limit : (c : Else-not-f) → InLimit c.before.before.args.f.ends
 in-limit c =
     let s = c.before.before in
-    s.requires.1 (rw (not-false s.args.f.ok (ap not c.if-not-f.false)) tt)
+    s.requires.1 (rw (not-false s.args.f.ok c.if-not-f.false) tt)
 
 pub closed_sum-requires : goal.closed_sum-requires
 closed_sum-requires c = (c.before.before.before.requires.0, in-limit c.before)
@@ -29,12 +29,12 @@ pub logistic-requires : goal.logistic-requires
 logistic-requires c =
     let e = c.before.before in
     let s = e.before.before in
-    rw c.closed_sum.ensures (closed-within s.args.row s.args.f.ends-1 s.requires.0 (in-limit e))
+    rw c.closed_sum.ensures (closed-within s.args.row s.args.f.ends s.requires.0 (in-limit e))
 
 pub returns : goal.returns
 unfolding cell_if
 returns c =
     let g = c.before in
     let e = g.before.before in
-    rw (not-false e.before.before.args.f.ok (ap not e.if-not-f.false))
+    rw (not-false e.before.before.args.f.ok e.if-not-f.false)
     (ap Of (c.logistic.ensures ∙ ap (logistic (grid_by e.before.before.args.fine)) g.closed_sum.ensures))

@@ -14,13 +14,16 @@ use Rattle.model_force.specs.Force.{negated}
 use Rattle.model_cells.specs.declared.Cell.TheVariants.{Of}
 use Rattle.model_cells.specs.code.Code.{cell_if}
 use Rattle.model_cells.proofs.young_force.Goals as goal
+use Rattle.model_cells.proofs.young_force.Tie as tie
+use Rattle.model_cells.proofs.young_force.Lts as lts
+use Rattle.model_cells.proofs.young_force.Reads as reads
 
 -- the log force of the cell
 abbrev force : goal.Start → SignedEnds
 force s = cell_force (grid_by s.args.fine) s.args.age s.args.y.period s.args.y.kappas
 
 -- the code's test, of the definition's log force
-tested : (c : goal.After-in_range) → c.in_range.result ≡ in_range (grid_by c.before.before.args.fine) (force c.before.before)
+tested : (c : lts.After-in_range tie.the-claims reads.Pre reads.Post) → c.in_range.result ≡ in_range (grid_by c.before.before.args.fine) (force c.before.before)
 tested c = c.in_range.ensures ∙ ap (in_range (grid_by c.before.before.args.fine)) c.before.log_force_at-m.ensures
 
 in-range : (c : goal.Else-not-in_range) → in_range (grid_by c.before.before.before.args.fine) (force c.before.before.before) ≡ true

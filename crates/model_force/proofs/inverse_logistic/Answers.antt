@@ -13,6 +13,7 @@ use Rattle.model_logarithm.specs.Logarithm.{log_lower, log_upper, inverse_logist
 use Rattle.model_force.specs.Force.{negated}
 use Rattle.model_force.proofs.Ends.{log_limit, under-lower, under-upper, exp-small, log-lower-small, log-upper-small, end-sum}
 use Rattle.model_force.proofs.inverse_logistic.Goals as goal
+use Rattle.model_force.proofs.inverse_logistic.Goals.{After-log_between-more}
 
 -- what H is worked from is the force
 forced : (c : goal.After-force_to_90-u) → c.force_to_90-u.result ≡ exp_between (grid_by c.before.args.fine) (negated c.before.args.m)
@@ -22,12 +23,12 @@ pub log_between-more-requires : goal.log_between-more-requires
 log_between-more-requires c = exp-small (unit_by c.before.args.fine) _ (forced c)
 
 -- the logarithm's ends
-lower-small : (c : goal.After-log_between-more) → c.log_between-more.result.lower ≤ log_limit
+lower-small : (c : After-log_between-more) → c.log_between-more.result.lower ≤ log_limit
 lower-small c =
     let u = unit_by c.before.before.args.fine in
     rw c.log_between-more.ensures.0 (log-lower-small u _ (omega (arith, exp-small u _ (forced c.before))))
 
-upper-small : (c : goal.After-log_between-more) → c.log_between-more.result.upper ≤ log_limit
+upper-small : (c : After-log_between-more) → c.log_between-more.result.upper ≤ log_limit
 upper-small c =
     let u = unit_by c.before.before.args.fine in
     rw c.log_between-more.ensures.1 (log-upper-small u _ (omega (arith, exp-small u _ (forced c.before))))
@@ -37,12 +38,12 @@ overflow_cast-result c = omega (arith, lower-small c.before)
 
 pub overflow_add-result : goal.overflow_add-result
 overflow_add-result c =
-    let l = c.before.before.before in
+    let l = c.before.before.before.before in
     let s = l.before.before in
     (end-sum (under-lower (unit_by s.args.fine) s.requires) (lower-small l)).0
 
 pub overflow_cast-result-2 : goal.overflow_cast-result-2
-overflow_cast-result-2 c = omega (arith, upper-small c.before.before.before.before)
+overflow_cast-result-2 c = omega (arith, upper-small c.before.before.before.before.before)
 
 pub overflow_add-result-2 : goal.overflow_add-result-2
 overflow_add-result-2 c =

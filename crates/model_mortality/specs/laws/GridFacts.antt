@@ -1,6 +1,6 @@
 -- The cell's laws on both grids: q holds every order's bracket, and its ends lie at most 100 units of 10^-9 apart to age 90 and 600
 -- above, on the fine grid a thousandth of that.
-use Rattle.std.specs.Prelude.{◌≡◌, ℕ, ◌*◌, ◌≤◌, ◌<◌}
+use Rattle.std.specs.Prelude.{◌≡◌, ℕ, ◌+◌, ◌*◌, ◌≤◌, ◌<◌}
 use Rattle.std.proofs.Common.{le_trans}
 use Rattle.std.proofs.Math.Dec.{lit≤}
 use Rattle.number_whole.specs.Parts.{below}
@@ -41,13 +41,15 @@ halving u =
       order = 6;
       some-order = lit≤ tt;
       counted = lit≤ tt;
-      slack-small = elim u [ Coarse ↦ lit≤ tt | Fine ↦ lit≤ tt ];
-      tested = elim u [ Coarse ↦ lit≤ tt | Fine ↦ lit≤ tt ];
+      slack-small = elim u as (λ v. 2 * slack_upper (grid_of v) ≤ 3 * (grid_of v).unit) [ Coarse ↦ lit≤ tt | Fine ↦ lit≤ tt ];
+      tested = elim u
+          as (λ v. 6 * ((grid_of v).unit * taylor_den (grid_of v).unit 6) + 2 * slack_upper (grid_of v) * taylor_num ((grid_of v).scale * below highest_force) (grid_of v).unit 6
+            ≤ 3 * (grid_of v).unit * taylor_num ((grid_of v).scale * below highest_force) (grid_of v).unit 6) [ Coarse ↦ lit≤ tt | Fine ↦ lit≤ tt ];
     }
 
 pub unit-fit : (u : GridUnit) → Fit (grid_of u)
 unfolding grid_of least_order
-unit-fit u = record { log = log.unit-fine u; terms = elim u [ Coarse ↦ lit≤ tt | Fine ↦ lit≤ tt ]; half = halving u }
+unit-fit u = record { log = log.unit-fine u; terms = elim u as (λ v. (grid_of v).log_terms ≤ least_order) [ Coarse ↦ lit≤ tt | Fine ↦ lit≤ tt ]; half = halving u }
 
 -- q's ends and an order's overlap
 pub q-holds : (u : GridUnit) {p : Params} {x n : ℕ} → Answered p x n → (j : ℕ) → least_order ≤ j
@@ -64,15 +66,15 @@ old_limit = 600
 module _ (u : GridUnit) where
   young-within : young_death_width (grid_of u) ≤ width_times u * young_limit
   unfolding grid_of width_times young_death_width young_width exp_width slack_upper slack_lower slack total
-  young-within = elim u [ Coarse ↦ lit≤ tt | Fine ↦ lit≤ tt ]
+  young-within = elim u as (λ v. young_death_width (grid_of v) ≤ width_times v * young_limit) [ Coarse ↦ lit≤ tt | Fine ↦ lit≤ tt ]
 
   old-within : old_death_width (grid_of u) ≤ width_times u * old_limit
   unfolding grid_of width_times old_death_width young_width fitted_width sum_width old_width log_width exp_width slack_upper slack_lower slack total
-  old-within = elim u [ Coarse ↦ lit≤ tt | Fine ↦ lit≤ tt ]
+  old-within = elim u as (λ v. old_death_width (grid_of v) ≤ width_times v * old_limit) [ Coarse ↦ lit≤ tt | Fine ↦ lit≤ tt ]
 
   sum-small : logistic.Fine (grid_of u) (sum_width (grid_of u))
   unfolding grid_of young_width fitted_width sum_width log_width exp_width slack_upper slack_lower slack total
-  sum-small = closed.unit-fine u (elim u [ Coarse ↦ lit≤ tt | Fine ↦ lit≤ tt ])
+  sum-small = closed.unit-fine u (elim u as (λ v. sum_width (grid_of v) ≤ 25000) [ Coarse ↦ lit≤ tt | Fine ↦ lit≤ tt ])
 
   module _ {p : Params} {x n : ℕ} (a : Answered p x n) where
     pub p-width-young : {part : Ratio} → part ≤/ whole_year → x < first_closed → Narrowed (survival (grid_of u) p x n part) (width_times u * young_limit)

@@ -12,9 +12,12 @@ use Rattle.number_exponential.specs.Outward.{outward_over}
 use Rattle.number_exponential.specs.Units.{grid_of}
 use Rattle.number_exponential.specs.code.Flag.{unit_by, grid_by}
 use Rattle.model_part_year.proofs.exp_over.Goals as goal
+use Rattle.model_part_year.proofs.exp_over.Tie as tie
+use Rattle.model_part_year.proofs.exp_over.Lts as lts
+use Rattle.model_part_year.proofs.exp_over.Reads as reads
 
 -- both products are small
-products : (s : goal.Start) → let f = s.args.f in let d = s.args.days in
+products : (s : lts.Start tie.the-claims reads.Pre reads.Post) → let f = s.args.f in let d = s.args.days in
     (f.lower * d ≤ (grid_by s.args.fine).unit * 366) × (f.upper * d ≤ (grid_by s.args.fine).unit * 366)
 products s = (mul-le-mul s.requires.0 s.requires.2.days, mul-le-mul s.requires.1 s.requires.2.days)
 
