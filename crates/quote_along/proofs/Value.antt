@@ -85,9 +85,8 @@ step_small (Annuity rate) = (lit< tt, lit≤ tt)
 
 pub step_fits : (u : GridUnit) (f : Fold) → (0 < step_of f * (grid_of u).scale) × (step_of f * (grid_of u).scale ≤ 2 ^ 40)
 unfolding grid_of
-step_fits u f =
-    let s = step_small f in
-    elim u [ Coarse ↦ (omega arith, omega arith) | Fine ↦ (omega arith, omega arith) ]
+step_fits Coarse f = let s = step_small f in (omega arith, omega arith)
+step_fits Fine f = let s = step_small f in (omega arith, omega arith)
 
 -- a quote of ends that are e, with their figure
 pub quoted : (s : ℕ) {v u : GridUnit} {r e : Ends} {f : Figure} → v ≡ u → r ≡ e → f ≡ figure_of (s * (grid_of u).scale) r

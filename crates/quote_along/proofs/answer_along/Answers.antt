@@ -1,5 +1,4 @@
 -- `answer_along` meets its contract: a cell out of range is refused, and else the fold over the factors has its ends.
-use mathlib.Core.Bool.{not}
 use mathlib.Core.Path.{◌≡◌, refl, ap, sym, ◌∙◌}
 use mathlib.Core.Bool.{true}
 use Prim.Native.Nat.{ℕ}
@@ -17,21 +16,24 @@ use Rattle.quote_kinds.specs.Kinds.{step_of}
 use Rattle.quote_along.specs.code.Code.{in_range_or, path_answer, count_with}
 use Rattle.quote_along.proofs.Value.{places_count, places-room, places-chances, value-fits, step_fits, quoted}
 use Rattle.quote_along.proofs.answer_along.Goals as goal
+use Rattle.quote_along.proofs.answer_along.Tie as tie
+use Rattle.quote_along.proofs.answer_along.Lts as lts
+use Rattle.quote_along.proofs.answer_along.Reads as reads
 
 pub returns-then-not-worked : goal.returns-then-not-worked
 unfolding in_range_or path_answer
 returns-then-not-worked c part h =
     let f = c.before.before in
-    let e = sym (f.all_factors-worked.ensures part h).ok ∙ not-true _ (ap not c.if-not-worked.true) in
+    let e = sym (f.all_factors-worked.ensures part h).ok ∙ not-true _ c.if-not-worked.true in
     rw e
 
 -- ---- the factors are there
 
-abbrev began : goal.Else-not-worked → goal.Start
+abbrev began : lts.Else1 tie.the-claims reads.Pre reads.Post → goal.Start
 began c = c.before.before.before
 
-worked : (c : goal.Else-not-worked) → c.before.before.all_factors-worked.result.ok ≡ true
-worked c = not-false _ (ap not c.if-not-worked.false)
+worked : (c : lts.Else1 tie.the-claims reads.Pre reads.Post) → c.before.before.all_factors-worked.result.ok ≡ true
+worked c = not-false _ c.if-not-worked.false
 
 -- the fraction that the part is
 abbrev fraction : goal.Start → Ratio
@@ -54,12 +56,12 @@ folded-e-requires c =
     let q = fraction s in
     let i = fraction-is s in
     let f = e.before.before.all_factors-worked.ensures q i in (
-      places-chances (unit_by s.args.fine) s.args.p (all_places s.args.path q) (count-is c q i) (places-room s.requires.0 s.requires.1 i) (f.ends-1 (rw (worked e) tt)),
+      places-chances (unit_by s.args.fine) s.args.p (all_places s.args.path q) (count-is c q i) (places-room s.requires.0 s.requires.1 i) (f.ends (rw (worked e) tt)),
       s.requires.2,
     )
 
 -- the fold's ends are the path's
-ends_read : (c : goal.After-folded-e) → let s = began c.before.before.before in (part : Ratio) → IsPart s.args.part part
+ends_read : (c : lts.After-folded tie.the-claims reads.Pre reads.Post) → let s = began c.before.before.before in (part : Ratio) → IsPart s.args.part part
     → c.folded-e.result ≡ grid_value s.args.fold (grid_by s.args.fine) s.args.p (all_places s.args.path part)
 unfolding grid_value
 ends_read c part h =
@@ -69,8 +71,8 @@ ends_read c part h =
     let s = began e in
     c.folded-e.ensures
     ∙ ap (fold_over s.args.fold (grid_by s.args.fine))
-    (ap (λ (k : ℕ). take k f.all_factors-worked.result.ends-1) (sym (count-is n part h))
-    ∙ (f.all_factors-worked.ensures part h).ends-1 (rw (worked e) tt))
+    (ap (λ (k : ℕ). take k f.all_factors-worked.result.ends) (sym (count-is n part h))
+    ∙ (f.all_factors-worked.ensures part h).ends (rw (worked e) tt))
 
 pub figure_of-figure-requires : goal.figure_of-figure-requires
 figure_of-figure-requires c =

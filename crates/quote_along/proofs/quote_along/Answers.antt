@@ -1,7 +1,5 @@
 -- `quote_along` meets its contract: a coarse quote with an open figure is worked again, and a path in range is so on the fine grid.
-use mathlib.Core.Bool.{not}
 use borrow.Author.Rules.{rules}
-use borrow.Author.Tests.{not-true, not-false}
 use mathlib.Core.Path.{◌≡◌, refl, sym, ap, ◌∙◌}
 use mathlib.Core.Bool.{Bool, true, false, cond, ◌&&◌}
 use mathlib.Core.List.{List}
@@ -21,6 +19,9 @@ use Rattle.quote_along.specs.declared.Answer.{Answer}
 use Rattle.quote_along.specs.code.Code.{left_open, path_answer, path_quote}
 use Rattle.quote_along.specs.laws.Again.{worked-again, worked-once}
 use Rattle.quote_along.proofs.quote_along.Goals as goal
+use Rattle.quote_along.proofs.quote_along.Tie as tie
+use Rattle.quote_along.proofs.quote_along.Lts as lts
+use Rattle.quote_along.proofs.quote_along.Reads as reads
 
 module _ (again : Bool) (p : Params) (fold : Fold) (path : List Place) where
   fine-too : path_in_range billionths p path ≡ true → path_in_range ten_trillionths p path ≡ true
@@ -35,13 +36,13 @@ module _ (again : Bool) (p : Params) (fold : Fold) (path : List Place) where
   path-once = worked-once _ _ again _
 
 -- the answer of a round, on a grid that is known
-answered : (c : goal.After-answer_along-answer) {fine : Bool} → let l = c.before in l.loop-fine.fine ≡ fine → let s = l.before in
+answered : (c : lts.After-answer_along tie.the-claims reads.Pre reads.Post goal.the-invariant-loop-fine goal.the-decreases-loop-fine) {fine : Bool} → let l = c.before in l.loop-fine.fine ≡ fine → let s = l.before in
     (part : Ratio) → IsPart s.args.part part
     → c.answer_along-answer.result ≡ path_answer (unit_by fine) s.args.p s.args.fold (all_places s.args.path part)
 answered c e part h = rw e at (c.answer_along-answer.ensures part h)
 
 -- what was asked of the coarse one
-asked : (c : goal.After-is_left_open) (part : Ratio) → let l = c.before.before.before in let s = l.before in
+asked : (c : lts.After-is_left_open tie.the-claims reads.Pre reads.Post goal.the-invariant-loop-fine goal.the-decreases-loop-fine) (part : Ratio) → let l = c.before.before.before in let s = l.before in
     IsPart s.args.part part
     → c.is_left_open.result ≡ s.args.again && left_open (path_answer Coarse s.args.p s.args.fold (all_places s.args.path part))
 unfolding unit_by
@@ -61,13 +62,13 @@ unfolding unit_by
 returns-then-not-is_left_open c part h =
     let o = c.before in
     let e = o.before in
-    answered e.before e.if-fine.false part h ∙ path-once _ _ _ _ (sym (asked o part h) ∙ not-true _ (ap not c.if-not-is_left_open.true))
+    answered e.before e.if-fine.false part h ∙ path-once _ _ _ _ (sym (asked o part h) ∙ c.if-not-is_left_open.true)
 
 pub loop-fine-preserved : goal.loop-fine-preserved
-loop-fine-preserved c part h t = sym (asked c.before part h) ∙ not-false _ (ap not c.if-not-is_left_open.false)
+loop-fine-preserved c part h t = sym (asked c.before part h) ∙ c.if-not-is_left_open.false
 
 pub loop-fine-init : goal.loop-fine-init
-loop-fine-init c = absurd t
+loop-fine-init c part h t = absurd t
 
 pub loop-fine-smaller : goal.loop-fine-smaller
 loop-fine-smaller c = rw c.before.before.if-fine.false (lit< tt)

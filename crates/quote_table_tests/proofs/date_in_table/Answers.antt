@@ -1,5 +1,4 @@
 -- `date_in_table` meets its contract: only a term that is to be a date is tested.
-use mathlib.Core.Bool.{not}
 use mathlib.Core.Path.{ap}
 use mathlib.Core.Path.{◌∙◌}
 use borrow.Author.Rules.{rules}
@@ -10,11 +9,11 @@ use Rattle.quote_table_tests.proofs.date_in_table.Goals as goal
 
 pub returns-then-not-rule : goal.returns-then-not-rule
 unfolding date_in_table
-returns-then-not-rule c = rw (not-true c.before.before.args.rule.dated (ap not c.if-not-rule.true))
+returns-then-not-rule c = rw (not-true c.before.before.args.rule.dated c.if-not-rule.true)
 
 pub returns : goal.returns
 unfolding date_in_table
 returns c =
     let s = c.before.before.before in
     rw (to_z-of_z s.ranges.term) at c.is_day.ensures
-    ∙ rw (not-false s.args.rule.dated (ap not c.before.if-not-rule.false))
+    ∙ rw (not-false s.args.rule.dated c.before.if-not-rule.false)

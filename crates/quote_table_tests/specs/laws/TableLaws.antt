@@ -46,6 +46,7 @@ dated-day rule term = go rule.dated
   where
     go : (b : Bool) → T (cond b (is_day term) true) → T b → T (is_day term)
     go true t d = t
+    go false t d = elim d [ ]
 
 -- a number between two that are at least 0
 pub within : (a b : ℕ) (z : ℤ) → T (between (pos a) (pos b) z) → (pos (nat_abs z) ≡ z) × (a ≤ nat_abs z) × (nat_abs z ≤ b)

@@ -2,6 +2,8 @@
 use borrow.Author.Rules.{rules}
 use mathlib.Core.Path.{◌≡◌, sym, ap, ◌∙◌}
 use lib.ListN.{take}
+use mathlib.Core.List.{List}
+use Rattle.number_exponential.specs.Grid.{Grid}
 use Rattle.number_exponential.specs.declared.Ends.{Ends}
 use Rattle.number_exponential.specs.Units.{grid_of}
 use Rattle.number_exponential.specs.code.Flag.{unit_by, grid_by}
@@ -9,26 +11,23 @@ use Rattle.quote_couple_kinds.specs.declared.CoupleKind.{CoupleKind}
 use Rattle.quote_two_lives.specs.TwoLives.{couple_over}
 use Rattle.quote_two_lives.proofs.couple_over.Goals as goal
 
--- what a kind takes of the factors
-abbrev over : goal.Start → CoupleKind → Ends
-over s k = couple_over k (grid_by s.args.fine) (take s.args.count s.args.first) (take s.args.count s.args.second)
-
--- that is the kind that the code's enum names
-at : (c : goal.Start) {k : CoupleKind} → c.args.kind ≡ k → over c k ≡ over c c.args.kind
-at c e = ap (over c) (sym e)
+-- the fold of the kind that the code's enum names
+at : (g : Grid) (first second : List Ends) {named kind : CoupleKind} → kind ≡ named
+    → couple_over named g first second ≡ couple_over kind g first second
+at g first second e = ap (λ (kind : CoupleKind). couple_over kind g first second) (sym e)
 
 pub returns-in-JointLife : goal.returns-in-JointLife
 unfolding couple_over
-returns-in-JointLife c = c.status_over.ensures ∙ at c.before.before.before c.before.in-JointLife.is
+returns-in-JointLife c = c.status_over.ensures ∙ at (grid_by c.args.fine) (take c.args.count c.args.first) (take c.args.count c.args.second) c.in-JointLife.is
 
 pub returns-in-LastSurvivor : goal.returns-in-LastSurvivor
 unfolding couple_over
-returns-in-LastSurvivor c = c.status_over-in-LastSurvivor.ensures ∙ at c.before.before.before c.before.in-LastSurvivor.is
+returns-in-LastSurvivor c = c.status_over-in-LastSurvivor.ensures ∙ at (grid_by c.args.fine) (take c.args.count c.args.first) (take c.args.count c.args.second) c.in-LastSurvivor.is
 
 pub returns-in-JointExpectancy : goal.returns-in-JointExpectancy
 unfolding couple_over
-returns-in-JointExpectancy c = c.status_expectancy_over.ensures ∙ at c.before.before.before c.before.in-JointExpectancy.is
+returns-in-JointExpectancy c = c.status_expectancy_over.ensures ∙ at (grid_by c.args.fine) (take c.args.count c.args.first) (take c.args.count c.args.second) c.in-JointExpectancy.is
 
 pub returns-in-LastExpectancy : goal.returns-in-LastExpectancy
 unfolding couple_over
-returns-in-LastExpectancy c = c.status_expectancy_over-in-LastExpectancy.ensures ∙ at c.before.before.before c.before.in-LastExpectancy.is
+returns-in-LastExpectancy c = c.status_expectancy_over-in-LastExpectancy.ensures ∙ at (grid_by c.args.fine) (take c.args.count c.args.first) (take c.args.count c.args.second) c.in-LastExpectancy.is

@@ -14,45 +14,38 @@ use Rattle.quote_two_lives.specs.TwoLives.{status_chance}
 use Rattle.quote_two_lives.specs.laws.Sizes.{death-at-most}
 use Rattle.quote_two_lives.proofs.status_chance.Goals as goal
 
--- the grid of the code's unit
-abbrev grid : goal.Start → Grid
-grid s = grid_by s.args.fine
-
 -- the two death chances
 dead : (g : Grid) (e : Ends) {r : Ends} → r ≡ death_of g e → AtMost g.unit r
 dead g e d = rw d (death-at-most g e)
 
-both-dead : (c : goal.After-death_of-in-LastSurvivor) → let g = grid c.before.before.before.before in
-    AtMost g.unit c.before.death_of.result × AtMost g.unit c.death_of-in-LastSurvivor.result
-both-dead c = (dead _ _ c.before.death_of.ensures, dead _ _ c.death_of-in-LastSurvivor.ensures)
+both-dead : (c : goal.After-death_of-in-LastSurvivor) → let g = grid_by c.args.fine in
+    AtMost g.unit c.death_of.result × AtMost g.unit c.death_of-in-LastSurvivor.result
+both-dead c = (dead _ _ c.death_of.ensures, dead _ _ c.death_of-in-LastSurvivor.ensures)
 
 pub death_of-requires-in-LastSurvivor-2 : goal.death_of-requires-in-LastSurvivor-2
 death_of-requires-in-LastSurvivor-2 c =
     let b = both-dead c.before in
-    let g = grid c.before.before.before.before.before in
+    let g = grid_by c.args.fine in
     let k : AtMost g.unit c.with_factor-in-LastSurvivor.result =
     rw c.with_factor-in-LastSurvivor.ensures (with-factor-at-most g g.positive b.0 b.1) in
     (k.lower, k.upper)
 
 -- the chance of the status that the code's enum names
-at : (c : goal.Start) {status : Status} → c.args.status ≡ status
-    → status_chance status (grid c) c.args.s c.args.t ≡ status_chance c.args.status (grid c) c.args.s c.args.t
-at c e = ap (λ (status : Status). status_chance status (grid c) c.args.s c.args.t) (sym e)
+at : (g : Grid) (s t : Ends) {named status : Status} → status ≡ named → status_chance named g s t ≡ status_chance status g s t
+at g s t e = ap (λ (status : Status). status_chance status g s t) (sym e)
 
 pub returns-in-JointLife : goal.returns-in-JointLife
 unfolding status_chance
-returns-in-JointLife c = c.with_factor.ensures ∙ at c.before.before.before c.before.in-JointLife.is
+returns-in-JointLife c = c.with_factor.ensures ∙ at (grid_by c.args.fine) c.args.s c.args.t c.in-JointLife.is
 
 pub returns-in-LastSurvivor : goal.returns-in-LastSurvivor
 unfolding status_chance
 returns-in-LastSurvivor c =
-    let w = c.before in
-    let d = w.before.before in
-    let s = d.before.before.before in
+    let g = grid_by c.args.fine in
     c.death_of-in-LastSurvivor-2.ensures
-    ∙ ap (death_of (grid s))
-    (w.with_factor-in-LastSurvivor.ensures ∙ ap₂ (with_factor (grid s)) d.death_of.ensures w.before.death_of-in-LastSurvivor.ensures)
-    ∙ at s d.before.in-LastSurvivor.is
+    ∙ ap (death_of g)
+    (c.with_factor-in-LastSurvivor.ensures ∙ ap₂ (with_factor g) c.death_of.ensures c.death_of-in-LastSurvivor.ensures)
+    ∙ at g c.args.s c.args.t c.in-LastSurvivor.is
 
 pub with_factor-requires-in-LastSurvivor : goal.with_factor-requires-in-LastSurvivor
 with_factor-requires-in-LastSurvivor c = both-dead c
