@@ -1,7 +1,8 @@
-// The C interface, for programs in other languages: a sheet read into numbers, numbers written as a sheet, a query of a
+// The calls of the C interface, for programs in other languages, which `kulfizan_c` exports: a sheet read into numbers, numbers written as a sheet, a query of a
 // sheet answered, with a rate, a date or neither, a query of a couple's two sheets, the year a target is reached, the verdict on a
 // published column, and the whole run of an input.
 #![tactic(auto)]
+
 ghost use Rattle.std.specs.Prelude.{◌≡◌, [], length};
 ghost use Rattle.text_tokens.specs.Text.{taken};
 ghost use Rattle.quote_kinds.specs.declared.Kind.TheVariants.{Day};
@@ -17,8 +18,7 @@ use run_line::Mode;
 
 // Reads a sheet into the first 372 numbers: the table, the sex, a, theta, K, k, the start and c, and then A, B, alpha and beta of
 // each age. The refusal's number, or 0; refused, the call leaves every number as it was.
-#[unsafe(no_mangle)]
-pub extern "C" fn kulfizan_read(sheet: &[u8], values: &mut [i64]) -> u8
+pub fn kulfizan_read(sheet: &[u8], values: &mut [i64]) -> u8
     ensures value { result ≡ read_no sheet.now (length values.old) }
     ensures values_after { values.new ≡ numbers_after sheet.now values.old }
 {
@@ -27,8 +27,7 @@ pub extern "C" fn kulfizan_read(sheet: &[u8], values: &mut [i64]) -> u8
 
 // Writes the sheet of a set's 372 numbers into the buffer, and its length. The refusal's number, or 0; refused, the call
 // leaves every byte and the length as they were.
-#[unsafe(no_mangle)]
-pub extern "C" fn kulfizan_write(values: &[i64], buffer: &mut [u8], len: &mut u64) -> u8
+pub fn kulfizan_write(values: &[i64], buffer: &mut [u8], len: &mut u64) -> u8
     ensures value { result ≡ write_no values.now (length buffer.old) }
     ensures buffer_after { buffer.new ≡ buffer_after values.now buffer.old }
     ensures len_after { len.new ≡ length_after values.now (length buffer.old) len.old }
@@ -39,8 +38,7 @@ pub extern "C" fn kulfizan_write(values: &[i64], buffer: &mut [u8], len: &mut u6
 // Answers a query of a sheet, of a kind that takes a span and no rate, in the first five numbers: the two ends, 1 where the figure is
 // printed and 0 where it is open, its steps, and 9 or 13, where the ends are in units of 10^-9 or 10^-13. The refusal's number, or 0;
 // refused, the call leaves every number as it was.
-#[unsafe(no_mangle)]
-pub extern "C" fn kulfizan_quote(
+pub fn kulfizan_quote(
     sheet: &[u8],
     kind: &[u8],
     age: i64,
@@ -58,8 +56,7 @@ pub extern "C" fn kulfizan_quote(
 }
 
 // The same of a kind that takes a rate, in units of 10^-6.
-#[unsafe(no_mangle)]
-pub extern "C" fn kulfizan_annuity(
+pub fn kulfizan_annuity(
     sheet: &[u8],
     kind: &[u8],
     age: i64,
@@ -78,14 +75,7 @@ pub extern "C" fn kulfizan_annuity(
 }
 
 // The same of a survival to a day, its date as YYYYMMDD.
-#[unsafe(no_mangle)]
-pub extern "C" fn kulfizan_day(
-    sheet: &[u8],
-    age: i64,
-    year: i64,
-    date: i64,
-    quote: &mut [u64],
-) -> u8
+pub fn kulfizan_day(sheet: &[u8], age: i64, year: i64, date: i64, quote: &mut [u64]) -> u8
     ensures value { result ≡ quote_no (sheet_answer sheet.now (taken Day []) age year date)
         (length quote.old) }
     ensures quote_after { quote.new ≡ quote_after
@@ -96,8 +86,7 @@ pub extern "C" fn kulfizan_day(
 }
 
 // The same of a couple: two lives, each with its own sheet and age, the year and the span in common.
-#[unsafe(no_mangle)]
-pub extern "C" fn kulfizan_couple(
+pub fn kulfizan_couple(
     first: &[u8],
     second: &[u8],
     kind: &[u8],
@@ -122,14 +111,7 @@ pub extern "C" fn kulfizan_couple(
 // Finds the first quote year whose period expectancy at an age reaches a target, in units of 10^-9: the first number is then 0 where
 // the year is named, 1 where it is open and 2 where there is none, and the second the year, or 0. The refusal's number, or 0;
 // refused, the call leaves both numbers as they were.
-#[unsafe(no_mangle)]
-pub extern "C" fn kulfizan_target(
-    sheet: &[u8],
-    age: i64,
-    target: i64,
-    found: &mut u64,
-    year: &mut i64,
-) -> u8
+pub fn kulfizan_target(sheet: &[u8], age: i64, target: i64, found: &mut u64, year: &mut i64) -> u8
     ensures value { result ≡ target_no (sheet_target sheet.now age target) }
     ensures found_after { found.new
         ≡ found_after (sheet_target sheet.now age target) found.old }
@@ -141,8 +123,7 @@ pub extern "C" fn kulfizan_target(
 
 // Checks a published column of q for one year by a sheet: the number is then 0 for right, 1 for wrong and 2 for open. The refusal's
 // number, or 0; refused, the call leaves the number as it was.
-#[unsafe(no_mangle)]
-pub extern "C" fn kulfizan_verdict(sheet: &[u8], year: i64, column: &[u8], verdict: &mut u64) -> u8
+pub fn kulfizan_verdict(sheet: &[u8], year: i64, column: &[u8], verdict: &mut u64) -> u8
     ensures value { result ≡ verdict_no (sheet_verdict sheet.now year column.now) }
     ensures verdict_after { verdict.new
         ≡ verdict_after (sheet_verdict sheet.now year column.now) verdict.old }
@@ -153,8 +134,7 @@ pub extern "C" fn kulfizan_verdict(sheet: &[u8], year: i64, column: &[u8], verdi
 // Writes the whole run of an input into the buffer, and its length: as the program `quotes` prints it where
 // `ends` is 0, else as `ends` does. 0, or 7 where the buffer has fewer than 5·n + 159 bytes for n bytes of input; refused, the
 // call leaves every byte and the length as they were.
-#[unsafe(no_mangle)]
-pub extern "C" fn kulfizan_run(input: &[u8], ends: u8, out: &mut [u8], len: &mut u64) -> u8
+pub fn kulfizan_run(input: &[u8], ends: u8, out: &mut [u8], len: &mut u64) -> u8
     ensures value { result ≡ run_no input.now (length out.old) }
     ensures out_after { out.new ≡ run_buffer input.now ends out.old }
     ensures len_after { len.new ≡ run_length input.now ends (length out.old) len.old }
