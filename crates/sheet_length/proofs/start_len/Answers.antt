@@ -13,9 +13,6 @@ returns-in-Ag2014 c = sym (ap length (no_start _ _ c.in-Ag2014.is))
 
 pub returns-in-LiLee : goal.returns-in-LiLee
 returns-in-LiLee c =
-    let l = c.before in
-    let t = l.before in
-    let s = t.before.before in
-    let start = l.line_len.ensures.0 ∙ ap (line_length 5) (to_z-of_z s.ranges.start) in
-    let constant = c.line_len-in-LiLee.ensures.0 ∙ ap (line_length 1) (to_z-of_z s.ranges.c) in
-    omega (arith, start, constant, start-length s.args.start s.args.c t.in-LiLee.is)
+    let start = c.line_len.ensures.0 ∙ ap (line_length 5) (to_z-of_z c.ranges.start) in
+    let constant = c.line_len-in-LiLee.ensures.0 ∙ ap (line_length 1) (to_z-of_z c.ranges.c) in
+    omega (arith, start, constant, start-length c.args.start c.args.c c.in-LiLee.is)

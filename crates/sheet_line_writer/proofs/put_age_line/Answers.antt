@@ -15,70 +15,51 @@ use Rattle.sheet_line_writer.specs.code.Value.{value_text}
 use Rattle.sheet_line_writer.proofs.Small.{small-as}
 use Rattle.sheet_line_writer.proofs.put_age_line.Goals as goal
 
-value : (s : goal.Start) → to_z w64 (of_z w64 s.args.v) ≡ s.args.v
-value s = to_z-of_z s.ranges.v
-
-age : (c : goal.After-age_number-number) → to_z w64 (of_z w64 c.age_number-number.result) ≡ pos c.before.before.before.args.x
-age c = to_z-of_z (record { sfits = c.age_number-number.type_inv }) ∙ c.age_number-number.ensures
-
 -- ---- the place before, seen from each text
 
-abbrev start : goal.After-put_text-age → goal.Start
-start c = c.before.before.before.before.before
-
-abbrev first : goal.After-put_number-value → goal.After-put_text-age
-first c = c.before.before.before.before
-
 -- ---- the line's three texts have room, and two of them are written
-
-line : (s : goal.Start)
-    → line_text (s.args.run.now ++ unsigned_text s.args.x) s.args.v
-    ≡ s.args.run.now ++ (unsigned_text s.args.x ++ value_text s.args.v)
-unfolding line_text value_text
-line s = append_assoc s.args.run.now (unsigned_text s.args.x) (value_text s.args.v)
-
-texts : (s : goal.Start)
-    → Three s.args.buffer-1.now s.args.at s.args.run.now (unsigned_text s.args.x) (value_text s.args.v)
-texts s = record { room = room_as (line s) s.requires.2 }
-
-run : (c : goal.After-put_text-age) → let s = (start c).args in
-    Put s.buffer-1.now s.at s.run.now c.put_text-age.new.0 c.put_text-age.result
-run c = put_of c.put_text-age.ensures
-
--- the age's text is that of the number that is written
-age-text : (c : goal.After-age_number-number)
-    → number_text (to_z w64 (of_z w64 c.age_number-number.result)) ≡ unsigned_text c.before.before.before.args.x
-unfolding number_text
-age-text c = ap number_text (age c)
-
-number : (c : goal.After-put_number-value) → let b = (first c).put_text-age in
-    Put b.last.0 b.result (unsigned_text (start (first c)).args.x)
-    c.put_number-value.new.0 c.put_number-value.result
-number c = put_as (age-text (first c).before.before) (put_of c.put_number-value.ensures)
 
 -- ---- the needs
 
 pub put_text-age-requires : goal.put_text-age-requires
-put_text-age-requires c = (three-first (texts c.before.before.before.before)).ranges
+unfolding line_text value_text
+put_text-age-requires c =
+    let line : line_text (c.args.run.now ++ unsigned_text c.args.x) c.args.v ≡ c.args.run.now ++ (unsigned_text c.args.x ++ value_text c.args.v) = append_assoc c.args.run.now (unsigned_text c.args.x) (value_text c.args.v) in
+    let texts : Three c.args.buffer.now c.args.at c.args.run.now (unsigned_text c.args.x) (value_text c.args.v) = record { room = room_as line c.requires.2 } in
+    (three-first texts).fits
 
 pub put_number-value-requires : goal.put_number-value-requires
+unfolding line_text value_text number_text
 put_number-value-requires c =
-    let c₁ = c.before.before.before in
-    let s = start c₁ in
-    let n = c₁.before.before in
-    (small-as (age n) (omega (arith, s.requires.0)), (room_as (sym (age-text n)) (three-second (texts s) (run c₁))).ranges)
+    let age : to_z w64 (of_z w64 c.age_number-number.result) ≡ pos c.args.x = to_z-of_z {w = w64} (record { sfits = c.age_number-number.type_inv }) ∙ c.age_number-number.ensures in
+    let line : line_text (c.args.run.now ++ unsigned_text c.args.x) c.args.v ≡ c.args.run.now ++ (unsigned_text c.args.x ++ value_text c.args.v) = append_assoc c.args.run.now (unsigned_text c.args.x) (value_text c.args.v) in
+    let texts : Three c.args.buffer.now c.args.at c.args.run.now (unsigned_text c.args.x) (value_text c.args.v) = record { room = room_as line c.requires.2 } in
+    let run : let s = c.args in Put s.buffer.now s.at s.run.now c.put_text-age.new.buffer c.put_text-age.result = put_of c.put_text-age.ensures in
+    let age-text : number_text (to_z w64 (of_z w64 c.age_number-number.result)) ≡ unsigned_text c.args.x = ap number_text age in
+    (small-as age (omega (arith, c.requires.0)), (room_as (sym age-text) (three-second texts run)).fits)
 
 pub put_value-requires : goal.put_value-requires
+unfolding line_text value_text number_text
 put_value-requires c =
-    let c₂ = c.before.before.before in
-    let c₁ = first c₂ in
-    let s = start c₁ in
-    let e = value s in
-    (small-as e s.requires.1, room_as (sym (ap value_text e)) (three_third (texts s) (run c₁) (number c₂)))
+    let value : to_z w64 (of_z w64 c.args.v) ≡ c.args.v = to_z-of_z c.ranges.v in
+    let age : to_z w64 (of_z w64 c.age_number-number.result) ≡ pos c.args.x = to_z-of_z {w = w64} (record { sfits = c.age_number-number.type_inv }) ∙ c.age_number-number.ensures in
+    let line : line_text (c.args.run.now ++ unsigned_text c.args.x) c.args.v ≡ c.args.run.now ++ (unsigned_text c.args.x ++ value_text c.args.v) = append_assoc c.args.run.now (unsigned_text c.args.x) (value_text c.args.v) in
+    let texts : Three c.args.buffer.now c.args.at c.args.run.now (unsigned_text c.args.x) (value_text c.args.v) = record { room = room_as line c.requires.2 } in
+    let run : let s = c.args in Put s.buffer.now s.at s.run.now c.put_text-age.new.buffer c.put_text-age.result = put_of c.put_text-age.ensures in
+    let age-text : number_text (to_z w64 (of_z w64 c.age_number-number.result)) ≡ unsigned_text c.args.x = ap number_text age in
+    let number : let b = c.put_text-age in Put b.new.buffer b.result (unsigned_text c.args.x) c.put_number-value.new.buffer c.put_number-value.result = put_as age-text (put_of c.put_number-value.ensures) in
+    let e = value in
+    (small-as e c.requires.1, room_as (sym (ap value_text e)) (three_third texts run number))
 
 pub returns : goal.returns
+unfolding line_text value_text number_text
 returns c =
-    let c₂ = c.before.before.before.before.before.before in
-    let s = start (first c₂) in
-    let last = put_as (ap value_text (value s)) c.before.before.put_value.ensures in
-    put_as (sym (line s)) (three-put (texts s) (run (first c₂)) (number c₂) last)
+    let value : to_z w64 (of_z w64 c.args.v) ≡ c.args.v = to_z-of_z c.ranges.v in
+    let age : to_z w64 (of_z w64 c.age_number-number.result) ≡ pos c.args.x = to_z-of_z {w = w64} (record { sfits = c.age_number-number.type_inv }) ∙ c.age_number-number.ensures in
+    let line : line_text (c.args.run.now ++ unsigned_text c.args.x) c.args.v ≡ c.args.run.now ++ (unsigned_text c.args.x ++ value_text c.args.v) = append_assoc c.args.run.now (unsigned_text c.args.x) (value_text c.args.v) in
+    let texts : Three c.args.buffer.now c.args.at c.args.run.now (unsigned_text c.args.x) (value_text c.args.v) = record { room = room_as line c.requires.2 } in
+    let run : let s = c.args in Put s.buffer.now s.at s.run.now c.put_text-age.new.buffer c.put_text-age.result = put_of c.put_text-age.ensures in
+    let age-text : number_text (to_z w64 (of_z w64 c.age_number-number.result)) ≡ unsigned_text c.args.x = ap number_text age in
+    let number : let b = c.put_text-age in Put b.new.buffer b.result (unsigned_text c.args.x) c.put_number-value.new.buffer c.put_number-value.result = put_as age-text (put_of c.put_number-value.ensures) in
+    let last = put_as (ap value_text value) c.put_value.ensures in
+    put_as (sym line) (three-put texts run number last)

@@ -9,23 +9,19 @@ use Rattle.sheet_line_writer.proofs.put_sex.Goals as goal
 pub put_text-requires : goal.put_text-requires
 unfolding sex_text bytes_of
 put_text-requires c =
-    let t = c.before.before in
-    (room_as (ap sex_text t.in-M.is) t.before.before.before.requires).ranges
+    (room_as (ap sex_text c.in-M.is) c.requires).fits
 
 pub put_text-requires-in-F : goal.put_text-requires-in-F
 unfolding sex_text bytes_of
 put_text-requires-in-F c =
-    let t = c.before.before in
-    (room_as (ap sex_text t.in-F.is) t.before.before.before.requires).ranges
+    (room_as (ap sex_text c.in-F.is) c.requires).fits
 
 pub returns-in-M : goal.returns-in-M
 unfolding sex_text bytes_of
 returns-in-M c =
-    let t = c.before.before.before.before.before in
-    put_as (sym (ap sex_text t.in-M.is)) (put_of c.before.before.put_text.ensures)
+    put_as (sym (ap sex_text c.in-M.is)) (put_of c.put_text.ensures)
 
 pub returns-in-F : goal.returns-in-F
 unfolding sex_text bytes_of
 returns-in-F c =
-    let t = c.before.before.before.before.before in
-    put_as (sym (ap sex_text t.in-F.is)) (put_of c.before.before.put_text-in-F.ensures)
+    put_as (sym (ap sex_text c.in-F.is)) (put_of c.put_text-in-F.ensures)

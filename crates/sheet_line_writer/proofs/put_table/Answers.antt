@@ -9,23 +9,19 @@ use Rattle.sheet_line_writer.proofs.put_table.Goals as goal
 pub put_text-requires : goal.put_text-requires
 unfolding table_text bytes_of
 put_text-requires c =
-    let t = c.before.before in
-    (room_as (ap table_text t.in-Ag2014.is) t.before.before.before.requires).ranges
+    (room_as (ap table_text c.in-Ag2014.is) c.requires).fits
 
 pub put_text-requires-in-LiLee : goal.put_text-requires-in-LiLee
 unfolding table_text bytes_of
 put_text-requires-in-LiLee c =
-    let t = c.before.before in
-    (room_as (ap table_text t.in-LiLee.is) t.before.before.before.requires).ranges
+    (room_as (ap table_text c.in-LiLee.is) c.requires).fits
 
 pub returns-in-Ag2014 : goal.returns-in-Ag2014
 unfolding table_text bytes_of
 returns-in-Ag2014 c =
-    let t = c.before.before.before.before.before in
-    put_as (sym (ap table_text t.in-Ag2014.is)) (put_of c.before.before.put_text.ensures)
+    put_as (sym (ap table_text c.in-Ag2014.is)) (put_of c.put_text.ensures)
 
 pub returns-in-LiLee : goal.returns-in-LiLee
 unfolding table_text bytes_of
 returns-in-LiLee c =
-    let t = c.before.before.before.before.before in
-    put_as (sym (ap table_text t.in-LiLee.is)) (put_of c.before.before.put_text-in-LiLee.ensures)
+    put_as (sym (ap table_text c.in-LiLee.is)) (put_of c.put_text-in-LiLee.ensures)

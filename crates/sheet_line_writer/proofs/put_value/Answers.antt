@@ -12,66 +12,42 @@ use Rattle.sheet_line_writer.specs.code.Value.{value_text}
 use Rattle.sheet_line_writer.proofs.Small.{small-as}
 use Rattle.sheet_line_writer.proofs.put_value.Goals as goal
 
-value : (s : goal.Start) → to_z w64 (of_z w64 s.args.v) ≡ s.args.v
-value s = to_z-of_z s.ranges.v
-
 -- ---- the place before, seen from each text
 
-abbrev start : goal.After-put_text-number → goal.Start
-start c = c.before.before.before.before
-
-abbrev first : goal.After-put_number-end → goal.After-put_text-number
-first c = c.before.before.before.before
-
-abbrev second : goal.After-put_text → goal.After-put_number-end
-second c = c.before.before.before.before.before
-
 -- ---- the three texts have room, and they are written
-
-texts : (s : goal.Start)
-    → Three s.args.buffer-1.now s.args.at (bytes_of "=") (number_text s.args.v) (bytes_of "\n")
-unfolding value_text
-texts s = record { room = s.requires.1 }
-
-sign : (c : goal.After-put_text-number) → let s = (start c).args in
-    Put s.buffer-1.now s.at (bytes_of "=") c.put_text-number.new.0 c.put_text-number.result
-unfolding bytes_of
-sign c = put_of c.put_text-number.ensures
-
-number : (c : goal.After-put_number-end) → let b = (first c).put_text-number in
-    Put b.last.0 b.result (number_text (start (first c)).args.v)
-    c.put_number-end.new.0 c.put_number-end.result
-number c = put_as (ap number_text (value (start (first c)))) (put_of c.put_number-end.ensures)
-
-end : (c : goal.After-put_text) → let b = (second c).put_number-end in
-    Put b.last.0 b.result (bytes_of "\n") c.put_text.new.0 c.put_text.result
-unfolding bytes_of
-end c = put_of c.put_text.ensures
 
 -- ---- the needs
 
 pub put_text-number-requires : goal.put_text-number-requires
-unfolding bytes_of
-put_text-number-requires c = (three-first (texts c.before.before.before)).ranges
+unfolding bytes_of value_text
+put_text-number-requires c =
+    let texts : Three c.args.buffer.now c.args.at (bytes_of "=") (number_text c.args.v) (bytes_of "\n") = record { room = c.requires.1 } in
+    (three-first texts).fits
 
 pub put_number-end-requires : goal.put_number-end-requires
+unfolding value_text bytes_of
 put_number-end-requires c =
-    let c₁ = c.before.before.before in
-    let s = start c₁ in
-    let e = value s in
-    (small-as e s.requires.0, (room_as (sym (ap number_text e)) (three-second (texts s) (sign c₁))).ranges)
+    let value : to_z w64 (of_z w64 c.args.v) ≡ c.args.v = to_z-of_z c.ranges.v in
+    let texts : Three c.args.buffer.now c.args.at (bytes_of "=") (number_text c.args.v) (bytes_of "\n") = record { room = c.requires.1 } in
+    let sign : let s = c.args in Put s.buffer.now s.at (bytes_of "=") c.put_text-number.new.buffer c.put_text-number.result = put_of c.put_text-number.ensures in
+    let e = value in
+    (small-as e c.requires.0, (room_as (sym (ap number_text e)) (three-second texts sign)).fits)
 
 pub put_text-requires : goal.put_text-requires
-unfolding bytes_of
+unfolding bytes_of value_text
 put_text-requires c =
-    let c₂ = c.before.before.before.before in
-    let c₁ = first c₂ in
-    (three_third (texts (start c₁)) (sign c₁) (number c₂)).ranges
+    let value : to_z w64 (of_z w64 c.args.v) ≡ c.args.v = to_z-of_z c.ranges.v in
+    let texts : Three c.args.buffer.now c.args.at (bytes_of "=") (number_text c.args.v) (bytes_of "\n") = record { room = c.requires.1 } in
+    let sign : let s = c.args in Put s.buffer.now s.at (bytes_of "=") c.put_text-number.new.buffer c.put_text-number.result = put_of c.put_text-number.ensures in
+    let number : let b = c.put_text-number in Put b.new.buffer b.result (number_text c.args.v) c.put_number-end.new.buffer c.put_number-end.result = put_as (ap number_text value) (put_of c.put_number-end.ensures) in
+    (three_third texts sign number).fits
 
 pub returns : goal.returns
-unfolding value_text
+unfolding value_text bytes_of
 returns c =
-    let c₃ = c.before.before in
-    let c₂ = second c₃ in
-    let c₁ = first c₂ in
-    three-put (texts (start c₁)) (sign c₁) (number c₂) (end c₃)
+    let value : to_z w64 (of_z w64 c.args.v) ≡ c.args.v = to_z-of_z c.ranges.v in
+    let texts : Three c.args.buffer.now c.args.at (bytes_of "=") (number_text c.args.v) (bytes_of "\n") = record { room = c.requires.1 } in
+    let sign : let s = c.args in Put s.buffer.now s.at (bytes_of "=") c.put_text-number.new.buffer c.put_text-number.result = put_of c.put_text-number.ensures in
+    let number : let b = c.put_text-number in Put b.new.buffer b.result (number_text c.args.v) c.put_number-end.new.buffer c.put_number-end.result = put_as (ap number_text value) (put_of c.put_number-end.ensures) in
+    let end : let b = c.put_number-end in Put b.new.buffer b.result (bytes_of "\n") c.put_text.new.buffer c.put_text.result = put_of c.put_text.ensures in
+    three-put texts sign number end

@@ -14,47 +14,36 @@ use Rattle.sheet_reader.proofs.from_sex.Goals as goal
 
 -- ---- which sex's line was found
 
-abbrev start : goal.After-text_at → goal.Start
-start c = c.before.before.before
-
-is_m : (c : goal.Then-text_at) → let s = (start c.before).args in text_at s.bytes.now s.at (sex_text M) ≡ true
-unfolding sex_text bytes_of
-is_m c = sym c.before.text_at.ensures ∙ c.if-text_at.true
-
-not-m : (c : goal.Else-text_at) → let s = (start c.before).args in text_at s.bytes.now s.at (sex_text M) ≡ false
-unfolding sex_text bytes_of
-not-m c = sym c.before.text_at.ensures ∙ c.if-text_at.false
-
-abbrev start2 : goal.After-text_at-2 → goal.Start
-start2 c = start c.before.before.before
-
-is_f : (c : goal.Then-text_at-2) → let s = (start2 c.before).args in text_at s.bytes.now s.at (sex_text F) ≡ true
-unfolding sex_text bytes_of
-is_f c = sym c.before.text_at-2.ensures ∙ c.if-text_at-2.true
-
-not_f : (c : goal.Else-text_at-2) → let s = (start2 c.before).args in text_at s.bytes.now s.at (sex_text F) ≡ false
-unfolding sex_text bytes_of
-not_f c = sym c.before.text_at-2.ensures ∙ c.if-text_at-2.false
-
 -- ---- the needs
 
 pub overflow_add-at : goal.overflow_add-at
 unfolding sex_text bytes_of
-overflow_add-at c = omega (arith, text-room _ _ _ (is_m c))
+overflow_add-at c =
+    let is_m : let s = c.args in text_at s.bytes.now s.at (sex_text M) ≡ true = sym c.text_at.ensures ∙ c.if-text_at.true in
+    omega (arith, text-room _ _ _ is_m)
 
 pub returns-then-text_at : goal.returns-then-text_at
-returns-then-text_at c = c.set_at.ensures ∙ sym (sex-m _ _ _ (is_m c.before))
+unfolding sex_text bytes_of
+returns-then-text_at c =
+    let is_m : let s = c.args in text_at s.bytes.now s.at (sex_text M) ≡ true = sym c.text_at.ensures ∙ c.if-text_at.true in
+    c.set_at.ensures ∙ sym (sex-m _ _ _ is_m)
 
 pub overflow_add-at-then-text_at-2 : goal.overflow_add-at-then-text_at-2
 unfolding sex_text bytes_of
-overflow_add-at-then-text_at-2 c = omega (arith, text-room _ _ _ (is_f c))
+overflow_add-at-then-text_at-2 c =
+    let is_f : let s = c.args in text_at s.bytes.now s.at (sex_text F) ≡ true = sym c.text_at-2.ensures ∙ c.if-text_at-2.true in
+    omega (arith, text-room _ _ _ is_f)
 
 pub returns-then-text_at-2 : goal.returns-then-text_at-2
+unfolding sex_text bytes_of
 returns-then-text_at-2 c =
-    let f = c.before in
-    c.set_at-then-text_at-2.ensures ∙ sym (sex-f _ _ _ (not-m f.before.before.before) (is_f f))
+    let not-m : let s = c.args in text_at s.bytes.now s.at (sex_text M) ≡ false = sym c.text_at.ensures ∙ c.if-text_at.false in
+    let is_f : let s = c.args in text_at s.bytes.now s.at (sex_text F) ≡ true = sym c.text_at-2.ensures ∙ c.if-text_at-2.true in
+    c.set_at-then-text_at-2.ensures ∙ sym (sex-f _ _ _ not-m is_f)
 
 pub returns : goal.returns
+unfolding sex_text bytes_of
 returns c =
-    let f = c.before in
-    none_read _ c.none.result c.none.ensures (sex-none _ _ _ (not-m f.before.before.before) (not_f f))
+    let not-m : let s = c.args in text_at s.bytes.now s.at (sex_text M) ≡ false = sym c.text_at.ensures ∙ c.if-text_at.false in
+    let not_f : let s = c.args in text_at s.bytes.now s.at (sex_text F) ≡ false = sym c.text_at-2.ensures ∙ c.if-text_at-2.false in
+    none_read _ c.none.result c.none.ensures (sex-none _ _ _ not-m not_f)

@@ -13,25 +13,17 @@ use Rattle.sheet_reader.proofs.front.Goals as goal
 pub returns-then-text_at : goal.returns-then-text_at
 unfolding table_text bytes_of
 returns-then-text_at c =
-    let t = c.before in
-    c.from_sex.ensures ∙ sym (table-ag2014 _ (sym t.before.text_at.ensures ∙ t.if-text_at.true))
-
--- the first line is not AG2014's
-other : (c : goal.Else-text_at) → text_at c.before.before.before.before.args.bytes.now 0 (table_text Ag2014) ≡ false
-unfolding table_text bytes_of
-other c = sym c.before.text_at.ensures ∙ c.if-text_at.false
+    c.from_sex.ensures ∙ sym (table-ag2014 _ (sym c.text_at.ensures ∙ c.if-text_at.true))
 
 pub returns-then-text_at-2 : goal.returns-then-text_at-2
 unfolding table_text bytes_of
 returns-then-text_at-2 c =
-    let t = c.before in
-    let l = t.before in
-    c.from_sex-then-text_at-2.ensures ∙ sym (table-lilee _ (other l.before.before) (sym l.text_at-2.ensures ∙ t.if-text_at-2.true))
+    let other : text_at c.args.bytes.now 0 (table_text Ag2014) ≡ false = sym c.text_at.ensures ∙ c.if-text_at.false in
+    c.from_sex-then-text_at-2.ensures ∙ sym (table-lilee _ other (sym c.text_at-2.ensures ∙ c.if-text_at-2.true))
 
 pub returns : goal.returns
 unfolding table_text bytes_of
 returns c =
-    let t = c.before in
-    let l = t.before in
+    let other : text_at c.args.bytes.now 0 (table_text Ag2014) ≡ false = sym c.text_at.ensures ∙ c.if-text_at.false in
     none_read _ c.none.result c.none.ensures
-    (table_none _ (other l.before.before) (sym l.text_at-2.ensures ∙ t.if-text_at-2.false))
+    (table_none _ other (sym c.text_at-2.ensures ∙ c.if-text_at-2.false))

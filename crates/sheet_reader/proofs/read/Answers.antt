@@ -9,11 +9,10 @@ use Rattle.sheet_reader.specs.laws.SheetLaws.{too_long, whole-reading}
 use Rattle.sheet_reader.proofs.read.Goals as goal
 
 pub returns-then-bytes-gt-MOST_BYTES : goal.returns-then-bytes-gt-MOST_BYTES
-returns-then-bytes-gt-MOST_BYTES c = c.malformed.ensures ∙ sym (too_long _ c.before.if-bytes-gt-MOST_BYTES.true)
+returns-then-bytes-gt-MOST_BYTES c = c.malformed.ensures ∙ sym (too_long _ c.if-bytes-gt-MOST_BYTES.true)
 
 pub returns : goal.returns
 returns c =
-    let f = c.before.before.before in
     c.reading_of.ensures
-    ∙ ap (λ (w : Bool). reading_of (cond w (taken f.front-got.result.set-1 []) malformed)) c.before.at_end.ensures
-    ∙ whole-reading _ f.front-got.result f.front-got.ensures f.before.if-bytes-gt-MOST_BYTES.false
+    ∙ ap (λ (w : Bool). reading_of (cond w (taken c.front-got.result.set []) malformed)) c.at_end.ensures
+    ∙ whole-reading _ c.front-got.result c.front-got.ensures c.if-bytes-gt-MOST_BYTES.false

@@ -25,21 +25,17 @@ returns-in_default c =
 
 pub loop-x-preserved : goal.loop-x-preserved
 loop-x-preserved c =
-    let read = c.before in
-    let called = read.before.before in
-    let head = called.before.before in
-    let vs = read.after-1.given.0.1 in
-    let told = c.known_told-1.given.1 in (
+    let told = c.in-Four.known_told-1-own.given.1 in (
       search rules,
       rw (
-        add-one head.loop-x.x,
-        held vs.0 told.0.1,
-        held vs.1.0 told.1.0.1,
-        held vs.1.1.0 told.1.1.0.1,
-        held vs.1.1.1.0 told.1.1.1.0.1,
+        add-one c.loop-x.x,
+        held c.in-Four.level told.0.1,
+        held c.in-Four.slope told.1.0.1,
+        held c.in-Four.alpha told.1.1.0.1,
+        held c.in-Four.beta told.1.1.1.0.1,
       )
-          (ages-next called.before.loop-x-test.true (four-taken _ called.age_at.ensures read.in-Four.is)
-          head.loop-x.invariant.1),
+          (ages-next c.loop-x-test.true (four-taken _ c.age_at.ensures c.in-Four.is)
+          c.loop-x.invariant.1),
     )
 
 pub returns : goal.returns
