@@ -22,23 +22,26 @@ use Rattle.set_refusal.specs.declared.Refusal.TheVariants.{Accepted}
 use Rattle.set_refusal.specs.laws.RefusalLaws.{accepted}
 use Rattle.quote.proofs.Steps.{table-answer, along-answer, years-under, part_room}
 use Rattle.quote.proofs.answer_within.Goals as goal
+use Rattle.quote.proofs.answer_within.Tie as tie
+use Rattle.quote.proofs.answer_within.Lts as lts
+use Rattle.quote.proofs.answer_within.Reads as reads
 
 -- the function's start and its rule, from after the table's refusal, and past it
-abbrev ruled : goal.After-table_refusal-refusal → goal.After-rule_of-rule
+abbrev ruled : lts.After-table_refusal tie.the-claims reads.Pre reads.Post → lts.After-rule_of tie.the-claims reads.Pre reads.Post
 ruled c = c.before.before
 
-abbrev begun : goal.Else-refusal_number-ne0 → goal.Start
+abbrev begun : lts.Else1 tie.the-claims reads.Pre reads.Post → lts.Start tie.the-claims reads.Pre reads.Post
 begun e = (ruled e.before.before).before
 
 -- the start year, as it is read
-start-read : (s : goal.Start) → bits s.args.p.start ≡ s.args.p.start
+start-read : (s : lts.Start tie.the-claims reads.Pre reads.Post) → bits s.args.p.start ≡ s.args.p.start
 start-read s = let f : SFits w64 s.args.p.start = search rules in to_z-of_z f
 
-start-within : (s : goal.Start) → StartWithin s.args.p.start
+start-within : (s : lts.Start tie.the-claims reads.Pre reads.Post) → StartWithin s.args.p.start
 start-within s = in-limits-start s.args.p s.requires
 
 -- the table's refusal, of the query's numbers
-refusal_is : (c : goal.After-table_refusal-refusal) → let s = (ruled c).before in
+refusal_is : (c : lts.After-table_refusal tie.the-claims reads.Pre reads.Post) → let s = (ruled c).before in
     c.table_refusal-refusal.result
     ≡ first_failed (table_tests s.args.p.start (rule_of s.args.kind) s.args.age s.args.year s.args.term)
 refusal_is c =
@@ -49,28 +52,27 @@ refusal_is c =
     ∙ ap (λ (k : Rule). first_failed (table_tests s.args.p.start k s.args.age s.args.year s.args.term)) r.rule_of-rule.ensures
 
 -- where it is none, the query is in the table
-passed : (e : goal.Else-refusal_number-ne0) → let s = begun e in
+passed : (e : lts.Else1 tie.the-claims reads.Pre reads.Post) → let s = begun e in
     first_failed (table_tests s.args.p.start (rule_of s.args.kind) s.args.age s.args.year s.args.term) ≡ Accepted
 passed e =
     let n = e.before in
     let r = n.before in
     sym (refusal_is r) ∙ accepted r.table_refusal-refusal.result (sym n.refusal_number.ensures ∙ e.if-refusal_number-ne0.false)
 
-table : (e : goal.Else-refusal_number-ne0) → let s = begun e in
+table : (e : lts.Else1 tie.the-claims reads.Pre reads.Post) → let s = begun e in
     InTable s.args.p.start (rule_of s.args.kind) s.args.age s.args.year s.args.term
 table e =
     let s = begun e in
     in_table s.args.p.start (rule_of s.args.kind) s.args.age s.args.year s.args.term (passed e)
 
-numbers : (e : goal.Else-refusal_number-ne0) → let s = begun e in
+numbers : (e : lts.Else1 tie.the-claims reads.Pre reads.Post) → let s = begun e in
     Counted s.args.p.start s.args.kind s.args.age s.args.year s.args.term
 numbers e = counted (begun e).args.kind (table e)
 
 pub table_refusal-refusal-requires : goal.table_refusal-refusal-requires
 table_refusal-refusal-requires c =
-    let r = c.before in
-    let s = r.before in
-    rw (start-read s, r.rule_of-rule.ensures) (start-within s, years-under s.args.kind)
+    let s = c.before.before.before in
+    rw (start-read s, c.rule_of-rule.ensures) (start-within s, years-under s.args.kind)
 
 pub returns-then-refusal_number-ne0 : goal.returns-then-refusal_number-ne0
 returns-then-refusal_number-ne0 c =
@@ -84,11 +86,12 @@ returns-then-refusal_number-ne0 c =
 
 pub path_to-path-requires : goal.path_to-path-requires
 path_to-path-requires c =
-    let s = begun c.before in
+    let e = c.before.before in
+    let s = begun e in
     let f = s.ranges in
-    rw (start-read s, to_z-of_z f.age, to_z-of_z f.year, to_z-of_z f.term) (start-within s, passed c.before)
+    rw (start-read s, to_z-of_z f.age, to_z-of_z f.year, to_z-of_z f.term) (start-within s, passed e)
 
-path-is : (c : goal.After-path_to-path) → let s = begun c.before.before in
+path-is : (c : lts.After-path_to tie.the-claims reads.Pre reads.Post) → let s = begun c.before.before in
     c.path_to-path.result ≡ path_to s.args.p.start s.args.kind s.args.age s.args.year s.args.term
 path-is c =
     let s = begun c.before.before in
@@ -97,11 +100,11 @@ path-is c =
 
 pub part_of-requires : goal.part_of-requires
 part_of-requires c =
-    let e = c.before.before in
+    let e = c.before.before.before in
     let r = ruled e.before.before in
     rw (to_z-of_z r.before.ranges.term, r.rule_of-rule.ensures) (numbers e).date-in
 
-part-is : (c : goal.After-part_of) → let s = begun c.before.before.before in
+part-is : (c : lts.After-part_of tie.the-claims reads.Pre reads.Post) → let s = begun c.before.before.before in
     IsPart c.part_of.result (part_of (rule_of s.args.kind) s.args.term)
 part-is c =
     let r = ruled c.before.before.before.before.before in
@@ -109,14 +112,14 @@ part-is c =
 
 pub quote_along-requires : goal.quote_along-requires
 quote_along-requires c =
-    let d = c.before in
+    let d = c.before.before in
     let e = d.before.before in
     let r = ruled e.before.before in
     let s = r.before in
     let k = numbers e in
     rw (r.rule_of-rule.ensures, path-is d) (
       record { limits = s.requires; age = k.age-in; room = path_room _ k; first = path-first _ k; years = path-in _ k },
-      part_room s.args.kind k (part-is c),
+      part_room s.args.kind k (part-is c.before),
       k.rate-in,
     )
 
