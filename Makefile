@@ -2,13 +2,14 @@
 # the programs of examples/, over it. make install PREFIX=...: programs, library, header and Python package below PREFIX. make
 # dist: all of that packed, into target/dist, for a machine without the kit. make test: the whole gate, with the tests outside
 # the proofs. make bench: times of the library and of the program quotes, beside plain C and Arb.
-.PHONY: all kit lib programs examples install dist test bench clean
+.PHONY: all kit lib programs cases examples install dist test bench clean
 
 LIB := target/lib
 EXAMPLES := target/examples
-SOURCES := crates.txt $(shell find crates -name '*.rt' -o -name '*.antt')
+SOURCES := crates.txt $(shell find crates -name out -prune -o \( -name '*.rt' -o -name '*.antt' \) -print)
 
 PROGRAMS := quotes ends compare couples targets verdict
+CASES := exp_cases day_cases
 VERSION := $(shell sed -n 's/^__version__ = "\(.*\)"$$/\1/p' python/kulfizan/__init__.py)
 SONAME := libkulfizan.so.$(firstword $(subst ., ,$(VERSION)))
 PREFIX := /usr/local
@@ -16,7 +17,7 @@ ROOM := $(DESTDIR)$(PREFIX)
 PACKED := kulfizan-$(VERSION)
 
 all: kit
-	rt check
+	rt all check
 
 kit:
 	@tools/kit
@@ -26,18 +27,23 @@ lib: $(LIB)/libkulfizan.a $(LIB)/libkulfizan.so
 # Proved again only where a source is newer.
 $(LIB)/libkulfizan.a: $(SOURCES) | kit
 	@mkdir -p $(LIB)
-	rt staticlib kulfizan >$(LIB)/log 2>&1 || { cat $(LIB)/log; exit 1; }
-	cp target/staticlib/libkulfizan.a $@
+	cd crates/kulfizan_c && rt lib >../../$(LIB)/log 2>&1 || { cat ../../$(LIB)/log; exit 1; }
+	cp crates/kulfizan_c/out/libkulfizan_c.a $@
 
 $(LIB)/libkulfizan.so: $(LIB)/libkulfizan.a
 	gcc -shared -Wl,-soname,$(SONAME) -o $@ -Wl,--whole-archive $< -Wl,--no-whole-archive
 
-# Built again only where a source is newer.
+# Built again only where a source is newer; `rt run` builds a program and runs it, here on nothing.
 programs: $(PROGRAMS:%=target/bin/%)
 
-$(PROGRAMS:%=target/bin/%) &: $(SOURCES) | kit
-	rt check $(PROGRAMS) >target/programs.log 2>&1 || { cat target/programs.log; exit 1; }
-	touch $(PROGRAMS:%=target/bin/%)
+target/bin/%: $(SOURCES) | kit
+	@mkdir -p target/bin
+	cd crates/$* && rt run </dev/null >../../target/bin/$*.log 2>&1 || { cat ../../target/bin/$*.log; exit 1; }
+	cp crates/$*/out/$* $@
+	rm target/bin/$*.log
+
+# The programs that print what only tests compare.
+cases: $(CASES:%=target/bin/%)
 
 examples: $(patsubst examples/%.c,$(EXAMPLES)/%,$(wildcard examples/*.c))
 
@@ -75,4 +81,4 @@ bench: kit
 	$(MAKE) --no-print-directory -C bench
 
 clean:
-	rm -rf target
+	rm -rf target crates/*/out
