@@ -5,34 +5,30 @@ use Rattle.c_bytes_to_digits.specs.Calls.{kind_in}
 use Rattle.c_bytes_to_digits.specs.laws.CallLaws.{called}
 use Rattle.c_bytes_to_digits.proofs.ask.Goals as goal
 
--- the function's start, seen from where its arguments are known
-abbrev start : goal.After-slice_known-1 → goal.Start
-start c = c.before.before.before
-
 pub returns-in-Quote : goal.returns-in-Quote
 unfolding kind_in
 returns-in-Quote c =
-    let q = c.before.before in
-    let t = q.before.before in
-    let f = (start t.before.before).fits in
+    let q = c in
+    let t = q in
+    let f = t.ranges in
     called _ _ _ _ _ t.in-Quote.is _
     (rw (to_z-of_z f.age, to_z-of_z f.year, to_z-of_z f.term) at q.kulfizan_quote.ensures)
 
 pub returns-in-Annuity : goal.returns-in-Annuity
 unfolding kind_in
 returns-in-Annuity c =
-    let q = c.before.before in
-    let t = q.before.before in
-    let f = (start t.before.before.before).fits in
-    called _ _ _ _ _ t.before.in-Annuity.is _
+    let q = c in
+    let t = q in
+    let f = t.ranges in
+    called _ _ _ _ _ t.in-Annuity.is _
     (rw (to_z-of_z f.age, to_z-of_z f.year, to_z-of_z f.term, to_z-of_z (record { sfits = t.known_told-1.given.0.1 })) at
     q.kulfizan_annuity.ensures)
 
 pub returns-in-Day : goal.returns-in-Day
 unfolding kind_in
 returns-in-Day c =
-    let q = c.before.before in
-    let t = q.before.before in
-    let f = (start t.before.before).fits in
+    let q = c in
+    let t = q in
+    let f = t.ranges in
     called _ _ _ _ _ t.in-Day.is _
     (rw (to_z-of_z f.age, to_z-of_z f.year, to_z-of_z f.term) at q.kulfizan_day.ensures)

@@ -8,18 +8,18 @@ use Rattle.c_couple_quote.proofs.couple_into.Goals as goal
 
 pub returns-in_default : goal.returns-in_default
 returns-in_default c =
-    let t = c.before in
-    let k = t.before.before in
+    let t = c in
+    let k = t in
     put-malformed _ _ _ _ _ _ _ (sym k.couple_kind_of.ensures ∙ ap (couple_kind_read _) t.in_default.is)
     c.refusal_number.ensures
 
 pub returns : goal.returns
 returns c =
-    let p = c.before.before in
-    let a = p.before in
-    let k = a.before.before.before in
-    let w = k.before.before in
-    let f = w.before.before.before.before.before.ranges in
+    let p = c in
+    let a = p in
+    let k = a in
+    let w = k in
+    let f = w.ranges in
     put-taken _ _ _ _ _ _ _ (sym w.couple_kind_of.ensures ∙ ap (couple_kind_read _) k.in-Of.is)
     (rw (to_z-of_z f.age, to_z-of_z f.other, to_z-of_z f.year, to_z-of_z f.span) at a.sheets_answer.ensures)
     p.put_answer.ensures

@@ -12,28 +12,16 @@ use Rattle.run_couple_query.specs.code.Code.{couple_kind_read}
 use Rattle.c_couple_quote.specs.SheetsCouple.{couple_kind_of}
 use Rattle.c_couple_quote.proofs.couple_kind_of.Goals as goal
 
-abbrev called : goal.In-Of → goal.After-couple_kind_at
-called c = c.before.before.before
-
--- the place after the word
-abbrev after : goal.In-Of → ℕ
-after c = c.before.in-Of.end
-
--- the word's kind, and what follows it
-word-taken : (c : goal.In-Of) → let w = (called c).before.before.args.word.now in
-    read_word couple_word couples_on_offer w ≡ taken c.before.in-Of.kind-1 (drop (after c) w)
-word-taken c = sym (called c).couple_kind_at.ensures ∙ ap (couple_kind_read _) c.before.in-Of.is
-
 pub returns-in_default : goal.returns-in_default
 unfolding couple_kind_of
 returns-in_default c =
-    let k = c.before.before in
+    let k = c in
     sym (no_word _ _ _ (sym k.couple_kind_at.ensures ∙ ap (couple_kind_read _) c.in_default.is))
 
 pub returns-then-end-word : goal.returns-then-end-word
 unfolding couple_kind_of
-returns-then-end-word c = let k = c.before in sym (word-goes-on _ _ _ (after k) (word-taken k) (omega (arith, c.if-end-word.true)))
+returns-then-end-word c = sym (word-goes-on _ _ _ c.in-Of.end (sym c.couple_kind_at.ensures ∙ ap (couple_kind_read _) c.in-Of.is) (omega (arith, c.if-end-word.true)))
 
 pub returns : goal.returns
 unfolding couple_kind_of
-returns c = let k = c.before in sym (word-ends _ _ _ (after k) (word-taken k) (omega (arith, c.if-end-word.false)))
+returns c = sym (word-ends _ _ _ c.in-Of.end (sym c.couple_kind_at.ensures ∙ ap (couple_kind_read _) c.in-Of.is) (omega (arith, c.if-end-word.false)))

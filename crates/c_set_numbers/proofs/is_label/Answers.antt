@@ -4,7 +4,7 @@ use Rattle.c_set_numbers.specs.laws.AnswerLaws.{label-zero, label-other}
 use Rattle.c_set_numbers.proofs.is_label.Goals as goal
 
 pub returns-then-v-eq0 : goal.returns-then-v-eq0
-returns-then-v-eq0 c = sym (label-zero _ c.before.ranges.v c.if-v-eq0.true)
+returns-then-v-eq0 c = sym (label-zero _ c.ranges.v c.if-v-eq0.true)
 
 pub returns : goal.returns
-returns c = label-other _ c.before.ranges.v c.if-v-eq0.false
+returns c = label-other _ c.ranges.v c.if-v-eq0.false

@@ -6,23 +6,23 @@ use Rattle.c_set_numbers.proofs.read_into.Goals as goal
 
 pub returns-then-number-ne0 : goal.returns-then-number-ne0
 returns-then-number-ne0 c =
-    let n = c.before in
-    let r = n.before.before in
+    let n = c in
+    let r = n in
     read-refused _ _ r.read-got.ensures n.refusal_number-number.ensures (λ e. omega (arith, e, c.if-number-ne0.true))
 
 pub returns-then-values-lt-SET_LENGTH : goal.returns-then-values-lt-SET_LENGTH
 returns-then-values-lt-SET_LENGTH c =
-    let t = c.before in
-    let n = t.before.before in
-    let r = n.before.before in
-    read_short _ _ r.read-got.ensures n.refusal_number-number.ensures (omega (arith, t.before.if-number-ne0.false))
+    let t = c in
+    let n = t in
+    let r = n in
+    read_short _ _ r.read-got.ensures n.refusal_number-number.ensures (omega (arith, t.if-number-ne0.false))
     (omega (arith, t.if-values-lt-SET_LENGTH.true)) c.refusal_number.ensures
 
 pub returns : goal.returns
 returns c =
-    let p = c.before in
-    let t = p.before.before in
-    let n = t.before.before in
-    let r = n.before.before in
-    read-accepted _ _ r.read-got.ensures n.refusal_number-number.ensures (omega (arith, t.before.if-number-ne0.false))
+    let p = c in
+    let t = p in
+    let n = t in
+    let r = n in
+    read-accepted _ _ r.read-got.ensures n.refusal_number-number.ensures (omega (arith, t.if-number-ne0.false))
     (omega (arith, t.if-values-lt-SET_LENGTH.false)) p.put_set.ensures

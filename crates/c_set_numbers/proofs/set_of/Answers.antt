@@ -12,18 +12,18 @@ use Rattle.c_set_numbers.proofs.set_of.Goals as goal
 
 pub returns : goal.returns
 returns c =
-    let r₄ = c.before.before.before.before.before.before in
-    let r₃ = r₄.before in
-    let r₂ = r₃.before in
-    let r₁ = r₂.before in
-    let s = r₁.before in
-    let t = s.before.before in
-    let ns = t.before.before.args.values.now in
-    let start = c.before.before.before.before.before.result-1.given in
-    let a = c.before.before.before.before.result-2-1.given in
-    let theta = c.before.before.before.result-3-1.given in
-    let constant = c.before.before.result-4-1.given in
-    let period = c.before.result-5-1.given in
+    let r₄ = c in
+    let r₃ = r₄ in
+    let r₂ = r₃ in
+    let r₁ = r₂ in
+    let s = r₁ in
+    let t = s in
+    let ns = t.args.values.now in
+    let start = c.result-1.given in
+    let a = c.result-2-1.given in
+    let theta = c.result-3-1.given in
+    let constant = c.result-4-1.given in
+    let period = c.result-5-1.given in
     let f : SFits w64 (get_or ns 0 (pos 0)) = search rules in
     let g : SFits w64 (get_or ns 1 (pos 0)) = search rules in
     sym

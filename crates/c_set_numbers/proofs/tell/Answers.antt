@@ -5,7 +5,7 @@ use Rattle.c_set_numbers.specs.laws.AnswerLaws.{told-accepted, told-refused}
 use Rattle.c_set_numbers.proofs.tell.Goals as goal
 
 pub returns-then-number-eq0 : goal.returns-then-number-eq0
-returns-then-number-eq0 c = told-accepted _ _ c.before.refusal_number-number.ensures (omega (arith, c.if-number-eq0.true))
+returns-then-number-eq0 c = told-accepted _ _ c.refusal_number-number.ensures (omega (arith, c.if-number-eq0.true))
 
 pub returns-else-number-eq0 : goal.returns-else-number-eq0
-returns-else-number-eq0 c = told-refused _ _ c.before.refusal_number-number.ensures (λ e. omega (arith, e, c.if-number-eq0.false))
+returns-else-number-eq0 c = told-refused _ _ c.refusal_number-number.ensures (λ e. omega (arith, e, c.if-number-eq0.false))

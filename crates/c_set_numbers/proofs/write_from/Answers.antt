@@ -9,21 +9,15 @@ use Rattle.c_set_numbers.specs.laws.AnswerLaws.{as_many, write-malformed, write-
 use borrow.Author.Rules.{rules}
 use Rattle.c_set_numbers.proofs.write_from.Goals as goal
 
--- past the first test
-a-set : (c : goal.Else-not-are_set) → are_set c.before.before.before.args.values.now ≡ true
-a-set c = let t = c.before.are_set in sym t.ensures ∙ not-false t.result (ap not c.if-not-are_set.false)
-
 pub returns-then-not-are_set : goal.returns-then-not-are_set
 returns-then-not-are_set c =
-    let t = c.before in
-    let a = t.before.are_set in
+    let t = c in
+    let a = t.are_set in
     write-malformed _ _ _ (sym a.ensures ∙ not-true a.result (ap not t.if-not-are_set.true)) c.refusal_number.ensures
 
 pub set_of-requires : goal.set_of-requires
-set_of-requires c = as_many _ (a-set c)
+set_of-requires c = as_many _ (sym c.are_set.ensures ∙ not-false c.are_set.result (ap not c.if-not-are_set.false))
 
 pub returns : goal.returns
 returns c =
-    let w = c.before.before.before.before in
-    let s = w.before.before in
-    write-told _ _ _ (a-set s.before) s.set_of.ensures w.write.ensures c.tell.ensures
+    write-told _ _ _ (sym c.are_set.ensures ∙ not-false c.are_set.result (ap not c.if-not-are_set.false)) c.set_of.ensures c.write.ensures c.tell.ensures

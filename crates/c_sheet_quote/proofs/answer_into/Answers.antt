@@ -9,14 +9,14 @@ use Rattle.c_sheet_quote.proofs.answer_into.Goals as goal
 
 pub returns-in_default : goal.returns-in_default
 returns-in_default c =
-    put-malformed _ _ _ _ _ (ap (kind_read []) c.before.in_default.is) c.refusal_number.ensures
+    put-malformed _ _ _ _ _ (ap (kind_read []) c.in_default.is) c.refusal_number.ensures
 
 pub returns : goal.returns
 returns c =
-    let p = c.before.before in
-    let a = p.before in
-    let k = a.before.before.before in
-    let f = k.before.before.before.before.ranges in
+    let p = c in
+    let a = p in
+    let k = a in
+    let f = k.ranges in
     put-taken _ _ _ _ _ (ap (kind_read []) k.in-Of.is)
     (rw (to_z-of_z f.age, to_z-of_z f.year, to_z-of_z f.term) at a.sheet_answer.ensures)
     p.put_answer.ensures

@@ -7,9 +7,9 @@ use Rattle.c_sheet_quote.proofs.day_into.Goals as goal
 
 pub returns : goal.returns
 returns c =
-    let p = c.before.before in
-    let a = p.before in
-    let f = a.before.before.before.before.ranges in
+    let p = c in
+    let a = p in
+    let f = a.ranges in
     put-taken _ _ _ _ _ refl
     (rw (to_z-of_z f.age, to_z-of_z f.year, to_z-of_z f.date) at a.sheet_answer.ensures)
     p.put_answer.ensures

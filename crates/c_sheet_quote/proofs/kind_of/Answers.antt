@@ -8,30 +8,30 @@ use Rattle.c_sheet_quote.proofs.kind_of.Goals as goal
 
 pub returns-in_default : goal.returns-in_default
 returns-in_default c =
-    let k = c.before.before in
+    let k = c in
     sym (kind-malformed _ (steps.kind-malformed _ k.word_kind.ensures c.in_default.is))
 
 pub returns-then-takes_rate : goal.returns-then-takes_rate
 returns-then-takes_rate c =
-    let t = c.before in
-    let k = t.before.before in
-    let word = steps.kind-taken _ k.before.before.word_kind.ensures k.in-Of.is in
+    let t = c in
+    let k = t in
+    let word = steps.kind-taken _ k.word_kind.ensures k.in-Of.is in
     sym (rate-wanting _ word (sym t.takes_rate.ensures ∙ c.if-takes_rate.true))
 
 pub returns-then-rule : goal.returns-then-rule
 returns-then-rule c =
-    let r = c.before in
-    let t = r.before.before in
-    let k = t.before.before in
-    let word = steps.kind-taken _ k.before.before.word_kind.ensures k.in-Of.is in
+    let r = c in
+    let t = r in
+    let k = t in
+    let word = steps.kind-taken _ k.word_kind.ensures k.in-Of.is in
     let dated = ap (λ (q : Rule). q.dated) (sym r.rule_of-rule.ensures) in
-    sym (date-wanting _ word (sym t.takes_rate.ensures ∙ r.before.if-takes_rate.false) (dated ∙ c.if-rule.true))
+    sym (date-wanting _ word (sym t.takes_rate.ensures ∙ r.if-takes_rate.false) (dated ∙ c.if-rule.true))
 
 pub returns : goal.returns
 returns c =
-    let r = c.before in
-    let t = r.before.before in
-    let k = t.before.before in
-    let word = steps.kind-taken _ k.before.before.word_kind.ensures k.in-Of.is in
+    let r = c in
+    let t = r in
+    let k = t in
+    let word = steps.kind-taken _ k.word_kind.ensures k.in-Of.is in
     let dated = ap (λ (q : Rule). q.dated) (sym r.rule_of-rule.ensures) in
-    sym (span-given _ word (sym t.takes_rate.ensures ∙ r.before.if-takes_rate.false) (dated ∙ c.if-rule.false))
+    sym (span-given _ word (sym t.takes_rate.ensures ∙ r.if-takes_rate.false) (dated ∙ c.if-rule.false))

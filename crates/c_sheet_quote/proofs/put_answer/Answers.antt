@@ -5,8 +5,8 @@ use Rattle.c_sheet_quote.proofs.put_answer.Goals as goal
 
 pub returns-in-Quoted : goal.returns-in-Quoted
 returns-in-Quoted c =
-    let p = c.before.before in
-    put-quoted _ p.before.before.before.in-Quoted.is p.put_quote.ensures
+    let p = c in
+    put-quoted _ p.in-Quoted.is p.put_quote.ensures
 
 pub returns-in-Refused : goal.returns-in-Refused
-returns-in-Refused c = put_refused _ c.before.before.in-Refused.is c.refusal_number.ensures
+returns-in-Refused c = put_refused _ c.in-Refused.is c.refusal_number.ensures

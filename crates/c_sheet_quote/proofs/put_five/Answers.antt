@@ -19,6 +19,6 @@ bounds-numbers-4 c = simp length-set (omega arith)
 
 pub returns : goal.returns
 returns c =
-    let s = c.before in
-    let p = s.before in
-    five-put _ _ p.printed_number.ensures s.steps_number.ensures c.unit_number.ensures (omega (arith, p.before.before.requires))
+    let s = c in
+    let p = s in
+    five-put _ _ p.printed_number.ensures s.steps_number.ensures c.unit_number.ensures (omega (arith, p.requires))

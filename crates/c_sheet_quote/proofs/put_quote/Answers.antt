@@ -5,9 +5,9 @@ use Rattle.c_sheet_quote.specs.laws.AnswerLaws.{put-short, put_whole}
 use Rattle.c_sheet_quote.proofs.put_quote.Goals as goal
 
 pub returns-then-numbers-lt-QUOTE_LENGTH : goal.returns-then-numbers-lt-QUOTE_LENGTH
-returns-then-numbers-lt-QUOTE_LENGTH c = put-short _ _ (omega (arith, c.before.if-numbers-lt-QUOTE_LENGTH.true)) c.refusal_number.ensures
+returns-then-numbers-lt-QUOTE_LENGTH c = put-short _ _ (omega (arith, c.if-numbers-lt-QUOTE_LENGTH.true)) c.refusal_number.ensures
 
 pub returns : goal.returns
 returns c =
-    let p = c.before.before.before in
-    put_whole _ _ (omega (arith, p.before.before.if-numbers-lt-QUOTE_LENGTH.false)) c.refusal_number-2.ensures p.put_five.ensures
+    let p = c in
+    put_whole _ _ (omega (arith, p.if-numbers-lt-QUOTE_LENGTH.false)) c.refusal_number-2.ensures p.put_five.ensures

@@ -6,9 +6,9 @@ use Rattle.c_sheet_quote.proofs.quote_into.Goals as goal
 
 pub returns : goal.returns
 returns c =
-    let a = c.before.before in
-    let k = a.before.before in
-    let start = k.before.before.before.before in
+    let a = c in
+    let k = a in
+    let start = k in
     let f = start.ranges in
-    put-read _ _ _ _ _ k.kind_of.result k.kind_of.ensures start.args.numbers-1.now
+    put-read _ _ _ _ _ k.kind_of.result k.kind_of.ensures start.args.numbers.now
     (rw (to_z-of_z f.age, to_z-of_z f.year, to_z-of_z f.span) at a.answer_into.ensures)

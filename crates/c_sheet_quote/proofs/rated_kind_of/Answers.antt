@@ -14,23 +14,23 @@ use Rattle.c_sheet_quote.proofs.rated_kind_of.Goals as goal
 
 pub returns-in_default : goal.returns-in_default
 returns-in_default c =
-    let k = c.before.before in
+    let k = c in
     sym (rated-kind-malformed _ _ (steps.kind-malformed _ k.word_kind.ensures c.in_default.is))
 
 pub returns-then-not-takes_rate : goal.returns-then-not-takes_rate
 returns-then-not-takes_rate c =
-    let t = c.before in
-    let k = t.before.before in
-    let word = steps.kind-taken _ k.before.before.word_kind.ensures k.in-Of.is in
+    let t = c in
+    let k = t in
+    let word = steps.kind-taken _ k.word_kind.ensures k.in-Of.is in
     sym (rate-unasked _ word _ (lacks t.takes_rate.ensures (ap not c.if-not-takes_rate.true)))
 
 pub returns : goal.returns
 returns c =
-    let t = c.before.before in
-    let k = t.before.before in
-    let w = k.before.before in
-    let s = w.before.before in
-    let g = k.kind-1.given.0 in
+    let t = c in
+    let k = t in
+    let w = k in
+    let s = w in
+    let g = k.kind.given.0 in
     ap (λ (r : Kind). taken r (drop g.1.0 s.args.word.now))
     (c.with_rate.ensures ∙ ap (with_rate g.0) (to_z-of_z s.ranges.rate))
-    ∙ sym (rate-given _ (steps.kind-taken _ w.word_kind.ensures k.in-Of.is) _ (has t.takes_rate.ensures (ap not c.before.if-not-takes_rate.false)))
+    ∙ sym (rate-given _ (steps.kind-taken _ w.word_kind.ensures k.in-Of.is) _ (has t.takes_rate.ensures (ap not c.if-not-takes_rate.false)))

@@ -10,28 +10,16 @@ use Rattle.run_query.proofs.QuerySteps.{no_word, word-goes-on, word-ends, kind-m
 use Rattle.c_sheet_quote.specs.SheetQuote.{word_kind}
 use Rattle.c_sheet_quote.proofs.word_kind.Goals as goal
 
-abbrev called : goal.In-Of → goal.After-kind_at
-called c = c.before.before.before
-
--- the place after the word
-abbrev after : goal.In-Of → ℕ
-after c = c.before.in-Of.end
-
--- the word's kind, and what follows it
-word-taken : (c : goal.In-Of) → let w = (called c).before.before.args.word.now in
-    read_word word_of on_offer w ≡ taken c.before.in-Of.kind-1 (drop (after c) w)
-word-taken c = kind-taken _ (called c).kind_at.ensures c.before.in-Of.is
-
 pub returns-in_default : goal.returns-in_default
 unfolding word_kind
 returns-in_default c =
-    let k = c.before.before in
+    let k = c in
     sym (no_word _ _ _ (kind-malformed _ k.kind_at.ensures c.in_default.is))
 
 pub returns-then-end-word : goal.returns-then-end-word
 unfolding word_kind
-returns-then-end-word c = let k = c.before in sym (word-goes-on _ _ _ (after k) (word-taken k) (omega (arith, c.if-end-word.true)))
+returns-then-end-word c = sym (word-goes-on _ _ _ c.in-Of.end (kind-taken _ c.kind_at.ensures c.in-Of.is) (omega (arith, c.if-end-word.true)))
 
 pub returns : goal.returns
 unfolding word_kind
-returns c = let k = c.before in sym (word-ends _ _ _ (after k) (word-taken k) (omega (arith, c.if-end-word.false)))
+returns c = sym (word-ends _ _ _ c.in-Of.end (kind-taken _ c.kind_at.ensures c.in-Of.is) (omega (arith, c.if-end-word.false)))

@@ -9,18 +9,18 @@ use Rattle.c_target_year.proofs.put_target.Goals as goal
 pub returns-in-Reached : goal.returns-in-Reached
 unfolding target_no found_after year_after
 returns-in-Reached c =
-    let k = c.before in
-    put_same _ _ (sym k.before.in-Reached.is)
+    let k = c in
+    put_same _ _ (sym k.in-Reached.is)
     (c.refusal_number.ensures, (refl, to_z-of_z (record { sfits = k.known_told-1.given.0.1 })))
 
 pub returns-in-Open : goal.returns-in-Open
 unfolding target_no found_after year_after
-returns-in-Open c = put_same _ _ (sym c.before.in-Open.is) (c.refusal_number-in-Open.ensures, (refl, refl))
+returns-in-Open c = put_same _ _ (sym c.in-Open.is) (c.refusal_number-in-Open.ensures, (refl, refl))
 
 pub returns-in-Never : goal.returns-in-Never
 unfolding target_no found_after year_after
-returns-in-Never c = put_same _ _ (sym c.before.in-Never.is) (c.refusal_number-in-Never.ensures, (refl, refl))
+returns-in-Never c = put_same _ _ (sym c.in-Never.is) (c.refusal_number-in-Never.ensures, (refl, refl))
 
 pub returns-in-Refused : goal.returns-in-Refused
 unfolding target_no found_after year_after
-returns-in-Refused c = put_same _ _ (sym c.before.before.in-Refused.is) (c.refusal_number-in-Refused.ensures, (refl, refl))
+returns-in-Refused c = put_same _ _ (sym c.in-Refused.is) (c.refusal_number-in-Refused.ensures, (refl, refl))

@@ -6,6 +6,6 @@ use Rattle.c_target_year.proofs.target_into.Goals as goal
 
 pub returns : goal.returns
 returns c =
-    let a = c.before in
-    let f = a.before.before.before.before.ranges in
+    let a = c in
+    let f = a.ranges in
     put_same _ _ (rw (to_z-of_z f.age, to_z-of_z f.target) at a.sheet_target.ensures) c.put_target.ensures

@@ -5,6 +5,6 @@ use Rattle.kulfizan.proofs.kulfizan_quote.Goals as goal
 
 pub returns : goal.returns
 returns c =
-    let q = c.before.before in
-    let f = q.before.before.before.before.before.ranges in
+    let q = c in
+    let f = q.ranges in
     rw (to_z-of_z f.age, to_z-of_z f.year, to_z-of_z f.span) at q.quote_into.ensures

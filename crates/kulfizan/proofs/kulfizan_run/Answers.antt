@@ -7,4 +7,4 @@ use Rattle.kulfizan.proofs.kulfizan_run.Goals as goal
 
 pub returns : goal.returns
 unfolding program_of
-returns c = let r = c.before.before.before.before in run-told _ _ _ _ refl r.run.ensures c.tell.ensures
+returns c = let r = c in run-told _ _ _ _ refl r.run.ensures c.tell.ensures

@@ -5,5 +5,5 @@ use Rattle.kulfizan.proofs.kulfizan_target.Goals as goal
 
 pub returns : goal.returns
 returns c =
-    let f = c.before.before.before.before.ranges in
+    let f = c.ranges in
     rw (to_z-of_z f.age, to_z-of_z f.target) at c.target_into.ensures

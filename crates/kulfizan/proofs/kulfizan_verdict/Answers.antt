@@ -4,4 +4,4 @@ use mir.Facts.{to_z-of_z}
 use Rattle.kulfizan.proofs.kulfizan_verdict.Goals as goal
 
 pub returns : goal.returns
-returns c = rw (to_z-of_z c.before.before.before.before.ranges.year) at c.verdict_into.ensures
+returns c = rw (to_z-of_z c.ranges.year) at c.verdict_into.ensures

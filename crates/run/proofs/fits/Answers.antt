@@ -16,10 +16,10 @@ same input room longest h = elim (dec_lt room (5 * input + longest)) [
 
 pub returns-then-room-longest : goal.returns-then-room-longest
 returns-then-room-longest c =
-    let s = c.before.args in
+    let s = c.args in
     sym (lt-leb (5 * s.input + s.longest) s.room (omega arith))
 
 pub returns : goal.returns
 returns c =
-    let s = c.before.args in
+    let s = c.args in
     same s.input s.room s.longest (omega arith)

@@ -10,14 +10,14 @@ use Rattle.run.proofs.has_room.Goals as goal
 pub returns-in-Lines : goal.returns-in-Lines
 unfolding run_room
 returns-in-Lines c =
-    let l = c.before in
-    let p = l.before.before in
-    let s = p.before.before.args in
+    let l = c in
+    let p = l in
+    let s = p.args in
     c.fits2.ensures ∙ ap (λ (n : ℕ). leb (5 * s.input + n) s.room) l.longest_line.ensures
     ∙ sym (ap (λ (q : Program). leb (run_room q s.input) s.room) p.in-Lines.is)
 
 pub returns-in-Verdict : goal.returns-in-Verdict
 unfolding run_room
 returns-in-Verdict c =
-    let s = c.before.before.args in
+    let s = c.args in
     sym (ap (λ (q : Program). leb (run_room q s.input) s.room) c.in-Verdict.is)

@@ -15,44 +15,27 @@ use Rattle.run.specs.Run.{sheets_by}
 use Rattle.run.specs.laws.RunLaws.{lines-refused, lines-answered}
 use Rattle.run.proofs.put_lines.Goals as goal
 
-abbrev start : goal.After-read_front-front → goal.Start
-start c = c.before.before.before.before
-
-abbrev input : goal.After-read_front-front → List ℕ
-input c = (start c).args.input.now
-
-front : (c : goal.After-read_front-front) → c.read_front-front.result ≡ front_of (sheets_by (start c).args.mode) (input c)
-front c = c.read_front-front.ensures ∙ ap (λ (s : Sheets). front_of s (input c)) c.before.sheets_by-sheets.ensures
-
-usable : (c : goal.After-read_front-front) → Usable (input c) c.read_front-front.result
-usable c = subst (Usable (input c)) (sym (front c)) (front-usable (sheets_by (start c).args.mode) (input c))
-
--- past the test nothing is refused
-accepted : (c : goal.Else-refusal_number-ne0) → refusal_number c.before.before.read_front-front.result.refusal ≡ 0
-accepted c = sym c.before.refusal_number.ensures ∙ c.if-refusal_number-ne0.false
+usable : (sheets : Sheets) (input : List ℕ) {front : Front} → front ≡ front_of sheets input → Usable input front
+usable sheets input e = subst (Usable input) (sym e) (front-usable sheets input)
 
 -- ---- the needs
 
 pub put_refused-requires : goal.put_refused-requires
 put_refused-requires c =
-    let w = c.before.before.before in
-    ((usable w).named, omega (arith, (start w).requires, longest-between (start w).args.mode))
+    let u = usable (sheets_by c.args.mode) c.args.input.now (c.read_front-front.ensures ∙ ap (λ (m : Sheets). front_of m c.args.input.now) c.sheets_by-sheets.ensures) in
+    (u.named, omega (arith, c.requires, longest-between c.args.mode))
 
 pub returns-then-refusal_number-ne0 : goal.returns-then-refusal_number-ne0
 returns-then-refusal_number-ne0 c =
-    let t = c.before.before.before.before in
-    let w = t.before.before in
-    put_as (sym (lines-refused _ _ (front w) (λ q. t.if-refusal_number-ne0.true (t.before.refusal_number.ensures ∙ q))))
-    c.before.before.put_refused.ensures
+    put_as (sym (lines-refused _ _ (c.read_front-front.ensures ∙ ap (λ (m : Sheets). front_of m c.args.input.now) c.sheets_by-sheets.ensures) (λ q. c.if-refusal_number-ne0.true (c.refusal_number.ensures ∙ q))))
+    c.put_refused.ensures
 
 pub put_answers-requires : goal.put_answers-requires
 put_answers-requires c =
-    let t = c.before.before.before in
-    let w = t.before.before in
-    let u = usable w in
-    (u.first-1 (accepted t), u.second-1 (accepted t), omega (arith, u.within), (start w).requires)
+    let u = usable (sheets_by c.args.mode) c.args.input.now (c.read_front-front.ensures ∙ ap (λ (m : Sheets). front_of m c.args.input.now) c.sheets_by-sheets.ensures) in
+    let accepted = sym c.refusal_number.ensures ∙ c.if-refusal_number-ne0.false in
+    (u.first accepted, u.second accepted, omega (arith, u.within), c.requires)
 
 pub returns : goal.returns
 returns c =
-    let t = c.before.before.before.before.before.before in
-    put_as (sym (lines-answered _ _ (front t.before.before) (accepted t))) c.before.before.put_answers.ensures
+    put_as (sym (lines-answered _ _ (c.read_front-front.ensures ∙ ap (λ (m : Sheets). front_of m c.args.input.now) c.sheets_by-sheets.ensures) (sym c.refusal_number.ensures ∙ c.if-refusal_number-ne0.false))) c.put_answers.ensures

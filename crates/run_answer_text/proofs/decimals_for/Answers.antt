@@ -6,4 +6,4 @@ use Rattle.quote_kinds.specs.Kinds.{decimals_of}
 use Rattle.run_answer_text.proofs.decimals_for.Goals as goal
 
 pub returns : goal.returns
-returns c = c.decimals_of.ensures ∙ ap (λ (r : Rule). decimals_of r.fold) c.before.rule_of-rule.ensures
+returns c = c.decimals_of.ensures ∙ ap (λ (r : Rule). decimals_of r.fold) c.rule_of-rule.ensures

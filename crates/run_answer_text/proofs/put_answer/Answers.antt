@@ -7,31 +7,32 @@ use Rattle.quote_along.specs.declared.Answer.{Answer}
 use Rattle.run_answer_text.specs.AnswerText.{answer_text}
 use Rattle.run_answer_text.specs.code.Sizes.{SizedAnswer}
 use Rattle.run_answer_text.proofs.put_answer.Goals as goal
+use Rattle.run_answer_text.proofs.put_answer.Goals.{Start}
 
 -- what is required, of the answer that was matched
-required : (s : goal.Start) {a : Answer} → s.args.answer-1 ≡ a
-    → SizedAnswer a × Room s.args.buffer-1.now s.args.at (answer_text s.args.ends s.args.decimals a)
+required : (s : Start) {a : Answer} → s.args.answer ≡ a
+    → SizedAnswer a × Room s.args.buffer.now s.args.at (answer_text s.args.ends s.args.decimals a)
 required s e =
     (subst SizedAnswer e s.requires.0, room_as (ap (answer_text s.args.ends s.args.decimals) e) s.requires.1)
 
 pub put_quote-requires : goal.put_quote-requires
 unfolding SizedAnswer answer_text
-put_quote-requires c = required c.before.before.before.before.before c.before.before.in-Quoted.is
+put_quote-requires c = required c.before.before.before c.in-Quoted.is
 
 pub put_refused-requires : goal.put_refused-requires
 unfolding answer_text
-put_refused-requires c = (required c.before.before.before.before.before c.before.before.in-Refused.is).1
+put_refused-requires c = (required c.before.before.before c.in-Refused.is).1
 
 pub returns-in-Quoted : goal.returns-in-Quoted
 unfolding answer_text
 returns-in-Quoted c =
-    let s = c.before.before.before.before.before.before.before.before.args in
-    put_as (sym (ap (answer_text s.ends s.decimals) c.before.before.before.before.before.in-Quoted.is))
-    c.before.before.put_quote.ensures
+    let s = c.args in
+    put_as (sym (ap (answer_text s.ends s.decimals) c.in-Quoted.is))
+    c.put_quote.ensures
 
 pub returns-in-Refused : goal.returns-in-Refused
 unfolding answer_text
 returns-in-Refused c =
-    let s = c.before.before.before.before.before.before.before.before.args in
-    put_as (sym (ap (answer_text s.ends s.decimals) c.before.before.before.before.before.in-Refused.is))
-    c.before.before.put_refused.ensures
+    let s = c.args in
+    put_as (sym (ap (answer_text s.ends s.decimals) c.in-Refused.is))
+    c.put_refused.ensures

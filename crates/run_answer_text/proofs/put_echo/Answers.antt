@@ -8,11 +8,11 @@ use Rattle.run_answer_text.proofs.put_echo.Goals as goal
 
 pub slice_bounds-put_text-end : goal.slice_bounds-put_text-end
 slice_bounds-put_text-end c =
-    let l = c.before.before.before.before.args.line.now in
+    let l = c.args.line.now in
     sym (length-take-le _ l (omega arith))
 
 pub put_text-requires : goal.put_text-requires
-put_text-requires c = c.before.before.before.before.requires.1.ranges
+put_text-requires c = c.requires.1.fits
 
 pub returns : goal.returns
-returns c = put_of c.before.before.put_text.ensures
+returns c = put_of c.put_text.ensures

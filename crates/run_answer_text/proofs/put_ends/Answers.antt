@@ -12,6 +12,7 @@ use Rattle.text_printing.specs.laws.PutLaws.{put-none, put_as, room_as, Three, t
 use Rattle.number_exponential.specs.declared.GridUnit.{GridUnit}
 use Rattle.run_answer_text.specs.AnswerText.{end_text, unit_text, ends_text}
 use Rattle.run_answer_text.proofs.put_ends.Goals as goal
+use Rattle.run_answer_text.proofs.put_ends.Goals.{After-put_units-arg-3-1, After-put_units-place, After-put_units-end}
 
 -- ---- the text, where the ends are not asked for and where they are
 
@@ -32,25 +33,25 @@ module _ (b : Bool) (u : GridUnit) (lower upper : ℕ) where
 
 -- ---- where they are
 
-texts : (c : goal.Else-not-ends) → let s = c.before.before.args in
-    Three s.buffer-1.now s.at (low s.lower) (high s.upper) (unit_text s.unit)
+texts : (c : After-put_units-arg-3-1) → let s = c.args in
+    Three s.buffer.now s.at (low s.lower) (high s.upper) (unit_text s.unit)
 texts c =
-    let s = c.before.before in
+    let s = c in
     record { room = room_as (both s.args.ends s.args.unit s.args.lower s.args.upper (ap not c.if-not-ends.false)) s.requires.2 }
 
-abbrev asked : goal.After-put_units-place → goal.Else-not-ends
-asked c = c.before.before.before
+abbrev asked : After-put_units-place → After-put_units-arg-3-1
+asked c = c.before
 
-first : (c : goal.After-put_units-place) → let s = (asked c).before.before.args in
-    Put s.buffer-1.now s.at (low s.lower) c.put_units-place.new.0 c.put_units-place.result
+first : (c : After-put_units-place) → let s = (asked c).args in
+    Put s.buffer.now s.at (low s.lower) c.put_units-place.new.buffer c.put_units-place.result
 unfolding bytes_of
 first c = c.put_units-place.ensures
 
-abbrev one : goal.After-put_units-end → goal.After-put_units-place
-one c = c.before.before.before.before.before
+abbrev one : After-put_units-end → After-put_units-place
+one c = c.before.before.before.before.before.before
 
-second : (c : goal.After-put_units-end) → let p = (one c).put_units-place in let s = (asked (one c)).before.before.args in
-    Put p.last.0 p.result (high s.upper) c.put_units-end.new.0 c.put_units-end.result
+second : (c : After-put_units-end) → let p = (one c).put_units-place in let s = (asked (one c)).args in
+    Put p.new.buffer p.result (high s.upper) c.put_units-end.new.buffer c.put_units-end.result
 unfolding bytes_of
 second c = c.put_units-end.ensures
 
@@ -58,19 +59,19 @@ second c = c.put_units-end.ensures
 
 pub returns-then-not-ends : goal.returns-then-not-ends
 returns-then-not-ends c =
-    let s = c.before.before.args in
-    put_as (sym (none s.ends s.unit s.lower s.upper (ap not c.if-not-ends.true))) (put-none s.buffer-1.now s.at)
+    let s = c.args in
+    put_as (sym (none s.ends s.unit s.lower s.upper (ap not c.if-not-ends.true))) (put-none s.buffer.now s.at)
 
 pub put_units-place-requires : goal.put_units-place-requires
 unfolding bytes_of
-put_units-place-requires c = let t = c.before.before in (t.before.before.requires.0, three-first (texts t))
+put_units-place-requires c = let t = c in (t.requires.0, three-first (texts t))
 
 pub put_units-end-requires : goal.put_units-end-requires
 unfolding bytes_of
 put_units-end-requires c =
     let c₁ = c.before.before.before.before in
-    let t = asked c₁ in
-    (t.before.before.requires.1, three-second (texts t) (first c₁))
+    let t = asked c₁.before in
+    (t.requires.1, three-second (texts t) (first c₁.before))
 
 pub put_unit-requires : goal.put_unit-requires
 put_unit-requires c =
@@ -80,7 +81,7 @@ put_unit-requires c =
 pub returns : goal.returns
 returns c =
     let c₂ = c.before.before.before.before.before.before in
-    let t = asked (one c₂) in
-    let s = t.before.before.args in
+    let t = asked (one c₂.before) in
+    let s = t.args in
     put_as (sym (both s.ends s.unit s.lower s.upper (ap not t.if-not-ends.false)))
-    (three-put (texts t) (first (one c₂)) (second c₂) c.before.before.put_unit.ensures)
+    (three-put (texts t) (first (one c₂.before)) (second c₂) c.put_unit.ensures)

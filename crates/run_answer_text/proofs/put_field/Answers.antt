@@ -15,13 +15,13 @@ as-signed n h = held (pos n) (omega arith)
 
 pub put_signed-requires : goal.put_signed-requires
 unfolding number_text
-put_signed-requires c = let s = c.before.before.before in rw (as-signed s.args.n s.requires.0) s.requires
+put_signed-requires c = let s = c in rw (as-signed s.args.n s.requires.0) s.requires
 
 pub returns : goal.returns
 unfolding number_text
 returns c =
-    let s = c.before.before.before.before.before.before in
-    rw (as-signed s.args.n s.requires.0) at c.before.before.put_signed.ensures
+    let s = c in
+    rw (as-signed s.args.n s.requires.0) at c.put_signed.ensures
 
 pub overflow_cast-n : goal.overflow_cast-n
-overflow_cast-n c = omega (arith, c.before.before.before.requires.0)
+overflow_cast-n c = omega (arith, c.requires.0)

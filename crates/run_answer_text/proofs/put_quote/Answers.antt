@@ -7,25 +7,26 @@ use Rattle.run_figure_text.specs.FigureText.{shown_text}
 use Rattle.run_figure_text.specs.laws.FigureTextLaws.{short-printable}
 use Rattle.run_answer_text.specs.AnswerText.{ends_text, quote_text}
 use Rattle.run_answer_text.proofs.put_quote.Goals as goal
+use Rattle.run_answer_text.proofs.put_quote.Goals.{After-put_ends-place, Start, After-put_shown-end}
 
 -- ---- the place before, seen from each text
 
-abbrev start : goal.After-put_ends-place → goal.Start
+abbrev start : After-put_ends-place → Start
 start c = c.before.before.before
 
-abbrev first : goal.After-put_shown-end → goal.After-put_ends-place
+abbrev first : After-put_shown-end → After-put_ends-place
 first c = c.before.before.before.before
 
 -- ---- the three texts have room, and the first is written
 
-texts : (s : goal.Start) → let a = s.args in
-    Three a.buffer-1.now a.at (ends_text a.ends a.quote.unit a.quote.lower a.quote.upper)
+texts : (s : Start) → let a = s.args in
+    Three a.buffer.now a.at (ends_text a.ends a.quote.unit a.quote.lower a.quote.upper)
     (shown_text a.decimals a.quote.figure) (bytes_of "\n")
 unfolding quote_text
 texts s = record { room = s.requires.1 }
 
-ends : (c : goal.After-put_ends-place) → let s = (start c).args in
-    Put s.buffer-1.now s.at (ends_text s.ends s.quote.unit s.quote.lower s.quote.upper) c.put_ends-place.new.0
+ends : (c : After-put_ends-place) → let s = (start c).args in
+    Put s.buffer.now s.at (ends_text s.ends s.quote.unit s.quote.lower s.quote.upper) c.put_ends-place.new.buffer
     c.put_ends-place.result
 ends c = c.put_ends-place.ensures
 
@@ -43,13 +44,13 @@ pub put_text-requires : goal.put_text-requires
 unfolding bytes_of
 put_text-requires c =
     let c₂ = c.before.before.before.before in
-    let c₁ = first c₂ in
-    (three_third (texts (start c₁)) (ends c₁) c₂.put_shown-end.ensures).ranges
+    let c₁ = first c₂.before in
+    (three_third (texts (start c₁)) (ends c₁) c₂.put_shown-end.ensures).fits
 
 pub returns : goal.returns
 unfolding quote_text bytes_of
 returns c =
     let c₂ = c.before.before.before.before.before.before.before in
-    let c₁ = first c₂ in
-    let last = put_of c.before.before.put_text.ensures in
+    let c₁ = first c₂.before.before in
+    let last = put_of c.put_text.ensures in
     three-put (texts (start c₁)) (ends c₁) c₂.put_shown-end.ensures last

@@ -8,9 +8,10 @@ use Rattle.text_printing.specs.laws.PutLaws.{put_of, put_as, room_as}
 use Rattle.number_exponential.specs.declared.GridUnit.{GridUnit}
 use Rattle.run_answer_text.specs.AnswerText.{unit_text}
 use Rattle.run_answer_text.proofs.put_unit.Goals as goal
+use Rattle.run_answer_text.proofs.put_unit.Goals.{Start}
 
 -- the room, of the unit that was matched
-required : (s : goal.Start) {u : GridUnit} → s.args.unit ≡ u → Room s.args.buffer-1.now s.args.at (unit_text u)
+required : (s : Start) {u : GridUnit} → s.args.unit ≡ u → Room s.args.buffer.now s.args.at (unit_text u)
 required s e = room_as (ap unit_text e) s.requires
 
 pub put_text-requires : goal.put_text-requires
@@ -28,11 +29,11 @@ put_text-requires-in-Fine c =
 pub returns-in-Coarse : goal.returns-in-Coarse
 unfolding unit_text bytes_of
 returns-in-Coarse c =
-    let p = c.before.before in
-    put_as (sym (ap unit_text p.before.before.before.in-Coarse.is)) (put_of p.put_text.ensures)
+    let p = c in
+    put_as (sym (ap unit_text p.in-Coarse.is)) (put_of p.put_text.ensures)
 
 pub returns-in-Fine : goal.returns-in-Fine
 unfolding unit_text bytes_of
 returns-in-Fine c =
-    let p = c.before.before in
-    put_as (sym (ap unit_text p.before.before.before.in-Fine.is)) (put_of p.put_text-in-Fine.ensures)
+    let p = c in
+    put_as (sym (ap unit_text p.in-Fine.is)) (put_of p.put_text-in-Fine.ensures)

@@ -5,8 +5,8 @@ use Rattle.run_column_verdict.proofs.put_judged.Goals as goal
 
 pub returns-in-Of : goal.returns-in-Of
 returns-in-Of c =
-    let n = c.before in
-    put-verdict _ n.before.before.in-Of.is c.refusal_number.ensures n.verdict_number.ensures
+    let n = c in
+    put-verdict _ n.in-Of.is c.refusal_number.ensures n.verdict_number.ensures
 
 pub returns-in-Refused : goal.returns-in-Refused
-returns-in-Refused c = put_refused _ c.before.before.in-Refused.is c.refusal_number-in-Refused.ensures
+returns-in-Refused c = put_refused _ c.in-Refused.is c.refusal_number-in-Refused.ensures

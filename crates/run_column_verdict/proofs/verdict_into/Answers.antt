@@ -6,6 +6,6 @@ use Rattle.run_column_verdict.proofs.verdict_into.Goals as goal
 
 pub returns : goal.returns
 returns c =
-    let a = c.before in
-    let f = a.before.before.before.before.ranges in
+    let a = c in
+    let f = a.ranges in
     put_same _ (rw (to_z-of_z f.year) at a.sheet_verdict.ensures) c.put_judged.ensures

@@ -18,18 +18,10 @@ unfolding column_read
 same_read true steps = refl
 same_read false steps = refl
 
--- the answer is the definition's
-answered : (c : goal.After-judge) → let s = c.before.before.before.before in
-    c.judge.result ≡ column_verdict s.args.p s.args.year s.args.bytes.now
-unfolding column_verdict
-answered c =
-    let r = c.before.before in
-    let s = r.before.before in
-    let e = same_read r.column_of-read.result.ok r.column_of-read.result.steps-1 ∙ r.column_of-read.ensures in
-    (rw (to_z-of_z s.ranges.year) at c.judge.ensures.0) ∙ ap (judged s.args.p s.args.year) e
-
 pub returns : goal.returns
+unfolding column_verdict
 returns c =
-    let s = c.before.before.before.before.args in
-    let e = answered c in
+    let s = c.args in
+    let read = same_read c.column_of-read.result.ok c.column_of-read.result.steps ∙ c.column_of-read.ensures in
+    let e = (rw (to_z-of_z c.ranges.year) at c.judge.ensures.0) ∙ ap (judged s.p s.year) read in
     (e, subst (HonestOn s.p s.year s.bytes.now) (sym e) (honest-on s.p s.year s.bytes.now))

@@ -7,30 +7,31 @@ use Rattle.quote_compare.specs.declared.Comparison.{Comparison}
 use Rattle.run_compare_text.specs.CompareText.{comparison_text}
 use Rattle.run_compare_text.specs.code.Sizes.{SizedComparison}
 use Rattle.run_compare_text.proofs.put_comparison.Goals as goal
+use Rattle.run_compare_text.proofs.put_comparison.Goals.{Start}
 
 -- what is required, of the comparison that was matched
-required : (s : goal.Start) {k : Comparison} → s.args.comparison-1 ≡ k
-    → SizedComparison k × Room s.args.buffer-1.now s.args.at (comparison_text s.args.decimals k)
+required : (s : Start) {k : Comparison} → s.args.comparison ≡ k
+    → SizedComparison k × Room s.args.buffer.now s.args.at (comparison_text s.args.decimals k)
 required s e = (subst SizedComparison e s.requires.0, room_as (ap (comparison_text s.args.decimals) e) s.requires.1)
 
 pub put_pair-requires : goal.put_pair-requires
 unfolding SizedComparison comparison_text
-put_pair-requires c = required c.before.before.before.before.before c.before.before.in-Compared.is
+put_pair-requires c = required c.before.before.before c.in-Compared.is
 
 pub put_refused-requires : goal.put_refused-requires
 unfolding comparison_text
-put_refused-requires c = (required c.before.before.before.before.before c.before.before.in-NotCompared.is).1
+put_refused-requires c = (required c.before.before.before c.in-NotCompared.is).1
 
 pub returns-in-Compared : goal.returns-in-Compared
 unfolding comparison_text
 returns-in-Compared c =
-    let s = c.before.before.before.before.before.before.before.before.args in
-    put_as (sym (ap (comparison_text s.decimals) c.before.before.before.before.before.in-Compared.is))
-    c.before.before.put_pair.ensures
+    let s = c.args in
+    put_as (sym (ap (comparison_text s.decimals) c.in-Compared.is))
+    c.put_pair.ensures
 
 pub returns-in-NotCompared : goal.returns-in-NotCompared
 unfolding comparison_text
 returns-in-NotCompared c =
-    let s = c.before.before.before.before.before.before.before.before.args in
-    put_as (sym (ap (comparison_text s.decimals) c.before.before.before.before.before.in-NotCompared.is))
-    c.before.before.put_refused.ensures
+    let s = c.args in
+    put_as (sym (ap (comparison_text s.decimals) c.in-NotCompared.is))
+    c.put_refused.ensures

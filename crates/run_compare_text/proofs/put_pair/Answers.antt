@@ -9,37 +9,38 @@ use Rattle.run_figure_text.specs.laws.FigureTextLaws.{short-printable}
 use Rattle.run_answer_text.specs.AnswerText.{unit_text}
 use Rattle.run_compare_text.specs.CompareText.{values_text, pair_text}
 use Rattle.run_compare_text.proofs.put_pair.Goals as goal
+use Rattle.run_compare_text.proofs.put_pair.Goals.{After-put_shown-place, Start, After-put_shown-told, After-put_values-valued, After-put_unit-end}
 
 -- ---- the place before, seen from each text
 
-abbrev start : goal.After-put_shown-place → goal.Start
+abbrev start : After-put_shown-place → Start
 start c = c.before.before.before
 
-abbrev one : goal.After-put_shown-told → goal.After-put_shown-place
+abbrev one : After-put_shown-told → After-put_shown-place
 one c = c.before.before.before.before
 
-abbrev two : goal.After-put_values-valued → goal.After-put_shown-told
+abbrev two : After-put_values-valued → After-put_shown-told
 two c = c.before.before.before.before
 
-abbrev three : goal.After-put_unit-end → goal.After-put_values-valued
+abbrev three : After-put_unit-end → After-put_values-valued
 three c = c.before.before.before.before
 
 -- ---- the texts have room
 
-abbrev values : goal.Start → List ℕ
+abbrev values : Start → List ℕ
 values s = values_text s.args.pair.values
 
-abbrev unit : goal.Start → List ℕ
+abbrev unit : Start → List ℕ
 unit s = unit_text s.args.pair.unit
 
-texts : (s : goal.Start) → let a = s.args in
-    Three a.buffer-1.now a.at (shown_text a.decimals a.pair.first) (shown_text a.decimals a.pair.second)
+texts : (s : Start) → let a = s.args in
+    Three a.buffer.now a.at (shown_text a.decimals a.pair.first) (shown_text a.decimals a.pair.second)
     (values s ++ (unit s ++ bytes_of "\n"))
 unfolding pair_text
 texts s = record { room = s.requires.1 }
 
-ended : (c : goal.After-put_shown-told) → let s = start (one c) in
-    Three c.put_shown-told.new.0 c.put_shown-told.result (values s) (unit s) (bytes_of "\n")
+ended : (c : After-put_shown-told) → let s = start (one c) in
+    Three c.put_shown-told.new.buffer c.put_shown-told.result (values s) (unit s) (bytes_of "\n")
 ended c = record { room = three_third (texts (start (one c))) (one c).put_shown-place.ensures c.put_shown-told.ensures }
 
 -- ---- the needs
@@ -66,14 +67,14 @@ pub put_text-requires : goal.put_text-requires
 unfolding bytes_of
 put_text-requires c =
     let c₄ = c.before.before.before.before in
-    let c₃ = three c₄ in
-    (three_third (ended (two c₃)) c₃.put_values-valued.ensures c₄.put_unit-end.ensures).ranges
+    let c₃ = three c₄.before in
+    (three_third (ended (two c₃)) c₃.put_values-valued.ensures c₄.put_unit-end.ensures).fits
 
 pub returns : goal.returns
 unfolding pair_text bytes_of
 returns c =
     let c₄ = c.before.before.before.before.before.before.before in
-    let c₃ = three c₄ in
+    let c₃ = three c₄.before.before in
     let c₂ = two c₃ in
-    let last = three-put (ended c₂) c₃.put_values-valued.ensures c₄.put_unit-end.ensures (put_of c.before.before.put_text.ensures) in
+    let last = three-put (ended c₂) c₃.put_values-valued.ensures c₄.put_unit-end.ensures (put_of c.put_text.ensures) in
     three-put (texts (start (one c₂))) (one c₂).put_shown-place.ensures c₂.put_shown-told.ensures last

@@ -7,8 +7,8 @@ use Rattle.run_couple_line.proofs.couple_to.Goals as goal
 pub returns : goal.returns
 unfolding query_couple
 returns c =
-    let d = c.before.before.before.before.struct_told-1.given in
-    let q = c.before.before.before.before.before.args.query in
+    let d = c.struct_told-1.given in
+    let q = c.args.query in
     rw (
       held q.age d.1.0.1,
       held q.other d.1.1.0.1,

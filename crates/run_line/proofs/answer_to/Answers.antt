@@ -9,7 +9,7 @@ use Rattle.run_line.proofs.answer_to.Goals as goal
 pub returns : goal.returns
 unfolding query_answer
 returns c =
-    let d = c.before.before.before.struct_told-1.given in
-    let q = c.before.before.before.before.args.query in
+    let d = c.struct_told-1.given in
+    let q = c.args.query in
     rw (held q.age d.1.0.1, held q.year d.1.1.0.1, held q.term d.1.1.1.0.1)
     at c.answer_within.ensures ∙ for-again _ _ _ _ _

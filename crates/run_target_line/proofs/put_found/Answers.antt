@@ -9,10 +9,11 @@ use Rattle.quote_target.specs.declared.TargetYear.{TargetYear}
 use Rattle.run_target_line.specs.TargetLine.{found_text}
 use Rattle.run_target_line.specs.code.Code.{SizedFound}
 use Rattle.run_target_line.proofs.put_found.Goals as goal
+use Rattle.run_target_line.proofs.put_found.Goals.{Start}
 
 -- what is required, of the case that was matched
-required : (s : goal.Start) {r : TargetYear} → s.args.found-1 ≡ r
-    → SizedFound r × Room s.args.buffer-1.now s.args.at (found_text r)
+required : (s : Start) {r : TargetYear} → s.args.found ≡ r
+    → SizedFound r × Room s.args.buffer.now s.args.at (found_text r)
 required s e = (subst SizedFound e s.requires.0, room_as (ap found_text e) s.requires.1)
 
 pub put_year-requires : goal.put_year-requires
@@ -25,40 +26,40 @@ put_year-requires c =
 pub put_text-requires : goal.put_text-requires
 unfolding found_text bytes_of
 put_text-requires c =
-    let w = c.before.before in (required w.before.before.before w.in-Open.is).1.ranges
+    let w = c.before.before in (required w.before.before.before w.in-Open.is).1.fits
 
 pub put_text-requires-in-Never : goal.put_text-requires-in-Never
 unfolding found_text bytes_of
 put_text-requires-in-Never c =
-    let w = c.before.before in (required w.before.before.before w.in-Never.is).1.ranges
+    let w = c.before.before in (required w.before.before.before w.in-Never.is).1.fits
 
 pub put_refused-requires : goal.put_refused-requires
 unfolding found_text
 put_refused-requires c =
-    let f = c.before.before in (required f.before.before.before f.in-Refused.is).1
+    let f = c.before.before in (required f.before f.in-Refused.is).1
 
 pub returns-in-Reached : goal.returns-in-Reached
 unfolding found_text
 returns-in-Reached c =
-    let k = c.before.before.before.before in
-    let f = k.before in
+    let k = c in
+    let f = k in
     put_as (sym (ap found_text f.in-Reached.is))
-    (rw (held f.in-Reached.year k.known_told-1.given.0.1) at c.before.before.put_year.ensures)
+    (rw (held f.in-Reached.year k.known_told-1.given.0.1) at c.put_year.ensures)
 
 pub returns-in-Open : goal.returns-in-Open
 unfolding found_text bytes_of
 returns-in-Open c =
-    put_as (sym (ap found_text c.before.before.before.before.before.in-Open.is))
-    (put_of c.before.before.put_text.ensures)
+    put_as (sym (ap found_text c.in-Open.is))
+    (put_of c.put_text.ensures)
 
 pub returns-in-Never : goal.returns-in-Never
 unfolding found_text bytes_of
 returns-in-Never c =
-    put_as (sym (ap found_text c.before.before.before.before.before.in-Never.is))
-    (put_of c.before.before.put_text-in-Never.ensures)
+    put_as (sym (ap found_text c.in-Never.is))
+    (put_of c.put_text-in-Never.ensures)
 
 pub returns-in-Refused : goal.returns-in-Refused
 unfolding found_text
 returns-in-Refused c =
-    put_as (sym (ap found_text c.before.before.before.before.before.in-Refused.is))
-    c.before.before.put_refused.ensures
+    put_as (sym (ap found_text c.in-Refused.is))
+    c.put_refused.ensures

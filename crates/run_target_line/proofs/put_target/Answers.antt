@@ -10,49 +10,30 @@ use Rattle.run_target_line.specs.TargetLine.{target_reply}
 use Rattle.run_target_line.specs.laws.TargetLineLaws.{target-lengths, target-bounded}
 use Rattle.run_answer_text.proofs.LineSteps.{Answering, answering, refusal-room, refusal-put, echo-room, reply-room, reply-put}
 use Rattle.run_target_line.proofs.put_target.Goals as goal
+use Rattle.run_target_line.proofs.put_target.Goals.{Start}
 
-abbrev start : goal.After-target_query_of → goal.Start
-start c = c.before.before.before
-
-abbrev line : goal.Start → List ℕ
+abbrev line : Start → List ℕ
 line s = s.args.line.now
 
-step : (s : goal.Start) → Answering read_target (target_reply s.args.p) s.args.buffer-1.now s.args.at (line s)
+step : (s : Start) → Answering read_target (target_reply s.args.p) s.args.buffer.now s.args.at (line s)
 step s = answering target-lengths (target-bounded s.args.p) (line s) s.requires.1
 
--- what the line reads as
-
-torn : (c : goal.In_default) → read_target (line (start c.before.before)) ≡ malformed
-torn c = sym c.before.before.target_query_of.ensures ∙ ap target_read c.in_default.is
-
-abbrev known : goal.In-Of → goal.After-target_query_of
-known c = c.before.before.before
-
-read : (c : goal.In-Of) → read_target (line (start (known c))) ≡ taken c.before.in-Of.query-1 []
-read c = sym (known c).target_query_of.ensures ∙ ap target_read c.before.in-Of.is
-
--- ---- the needs
+-- ---- the needs, by what the line reads as
 
 pub put_refusal-requires : goal.put_refusal-requires
-put_refusal-requires c = let w = c.before in refusal-room (step (start w.before.before)) (torn w)
+put_refusal-requires c = refusal-room (step c.before.before.before.before.before.before) (sym c.target_query_of.ensures ∙ ap target_read c.in_default.is)
 
 pub returns-in_default : goal.returns-in_default
 returns-in_default c =
-    let w = c.before.before.before.before in
-    refusal-put (step (start w.before.before)) (torn w) c.before.before.put_refusal.ensures
+    refusal-put (step c.before.before.before.before.before.before.before.before.before) (sym c.target_query_of.ensures ∙ ap target_read c.in_default.is) c.put_refusal.ensures
 
 pub put_echo-place-requires : goal.put_echo-place-requires
-put_echo-place-requires c = let k = c.before in echo-room (step (start (known k))) (read k)
+put_echo-place-requires c = echo-room (step c.before.before.before.before.before.before) (sym c.target_query_of.ensures ∙ ap target_read c.in-Of.is)
 
 pub put_reply-requires : goal.put_reply-requires
 put_reply-requires c =
-    let p = c.before.before.before in
-    let k = p.before.before in
-    let s = start (known k) in
-    (s.requires.0, reply-room (step s) (read k) p.put_echo-place.ensures)
+    (c.requires.0, reply-room (step c.before.before.before.before.before.before.before.before.before.before) (sym c.target_query_of.ensures ∙ ap target_read c.in-Of.is) c.put_echo-place.ensures)
 
 pub returns : goal.returns
 returns c =
-    let p = c.before.before.before.before.before.before in
-    let k = p.before.before in
-    reply-put (step (start (known k))) (read k) p.put_echo-place.ensures c.before.before.put_reply.ensures
+    reply-put (step c.before.before.before.before.before.before.before.before.before.before.before.before.before) (sym c.target_query_of.ensures ∙ ap target_read c.in-Of.is) c.put_echo-place.ensures c.put_reply.ensures

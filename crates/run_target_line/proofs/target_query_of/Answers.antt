@@ -32,53 +32,29 @@ age-taken : (line : List ℕ) {age : ℤ} {rest : List ℕ} → read_field (byte
 unfolding read_target
 age-taken line e = goes _ e
 
--- ---- the places where a part is read, seen from the next
-
-abbrev start : goal.After-field_at → goal.Start
-start c = c.before.before.before
-
-abbrev line : goal.In-Number → List ℕ
-line c = (start c.before.before.before).args.line.now
-
-abbrev told : goal.In-Number-field_at → goal.In-Number
-told c = c.before.before.before.before.before
-
--- ---- what each part leaves to be read
-
-after-age : (c : goal.In-Number) → let g = c.before.age-1.given.0 in
-    read_target (line c) ≡ from_target g.0 (drop g.1.0 (line c))
-unfolding bytes_of
-after-age c = age-taken _ (read_taken _ c.before.before.before.field_at.ensures c.before.in-Number.is)
-
-after-target : (c : goal.In-Number-field_at) → let l = line (told c) in let g = c.before.target-1.given.0 in
-    read_target l ≡ ended (record { age = (told c).before.in-Number.age-1; target = g.0 }) (drop g.1.0 l)
-unfolding bytes_of
-after-target c =
-    after-age (told c)
-    ∙ goes _ (read_taken _ c.before.before.before.field_at-2.ensures c.before.in-Number-field_at.is)
-
 -- ---- the needs
 
 pub returns-in_default : goal.returns-in_default
 unfolding bytes_of
-returns-in_default c = sym (age-malformed _ (read-malformed _ c.before.before.field_at.ensures c.in_default.is))
+returns-in_default.before.before c = sym (age-malformed _ (read-malformed _ c.field_at.ensures c.in_default.is))
 
 pub returns-in_default-field_at : goal.returns-in_default-field_at
 unfolding bytes_of
 returns-in_default-field_at c =
-    let f = c.before.before in
-    sym (after-age f.before.before ∙ stops _ (read-malformed _ f.field_at-2.ensures c.in_default-field_at.is))
+    sym (age-taken _ (read_taken _ c.field_at.ensures c.in-Number.is) ∙ stops _ (read-malformed _ c.field_at-2.ensures c.in_default-field_at.is))
 
 pub returns-then-not-ends_at : goal.returns-then-not-ends_at
+unfolding bytes_of
 returns-then-not-ends_at c =
-    sym (after-target c.before.before ∙ line-goes-on _ _ (lacks c.before.ends_at.ensures (ap not c.if-not-ends_at.true)))
+    sym (age-taken _ (read_taken _ c.field_at.ensures c.in-Number.is) ∙ goes _ (read_taken _ c.field_at-2.ensures c.in-Number-field_at.is)
+    ∙ line-goes-on _ _ (lacks c.ends_at.ensures (ap not c.if-not-ends_at.true)))
 
 pub returns : goal.returns
+unfolding bytes_of
 returns c =
-    let c₂ = c.before.before in
-    let c₁ = told c₂ in
     rw (
-      held c₁.before.in-Number.age-1 c₁.known_told-1.given.0.1,
-      held c₂.before.in-Number-field_at.target-1 c₂.known_told-in-Number-field_at-2-1.given.0.1,
+      held c.in-Number.age c.known_told-1.given.0.1,
+      held c.in-Number-field_at.target c.known_told-in-Number-field_at-2-1.given.0.1,
     )
-    (sym (after-target c₂ ∙ line-ended _ _ (has c.before.ends_at.ensures (ap not c.if-not-ends_at.false))))
+    (sym (age-taken _ (read_taken _ c.field_at.ensures c.in-Number.is) ∙ goes _ (read_taken _ c.field_at-2.ensures c.in-Number-field_at.is)
+    ∙ line-ended _ _ (has c.ends_at.ensures (ap not c.if-not-ends_at.false))))

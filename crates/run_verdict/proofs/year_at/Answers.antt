@@ -13,46 +13,31 @@ use Rattle.run_verdict.specs.VerdictRun.{read_year}
 use Rattle.run_verdict.specs.laws.YearLaws.{with_feed, year-steps}
 use Rattle.run_verdict.proofs.year_at.Goals as goal
 
--- the year that was read, seen from the line feed
-abbrev named : goal.After-text_at → goal.In-Number-2
-named c = c.before.before.before
-
-abbrev start : goal.In-Number-2 → goal.Start
-start c = c.before.before.before.before.before
-
--- what is left to be read after the year
-after-year : (c : goal.After-text_at) → let s = (start (named c)).args in let g = (named c).year-1.given.0 in
-    read_year (drop s.at s.bytes.now) ≡ with_feed g.0 (drop g.1.0 s.bytes.now)
-unfolding bytes_of
-after-year c =
-    let y = named c in
-    year-steps _ ∙ goes _ (read_taken _ y.before.before.field_at.ensures y.in-Number.is)
-
 -- ---- the needs
 
 pub returns-in_default : goal.returns-in_default
 unfolding bytes_of
 returns-in_default c =
-    let f = c.before.before in
+    let f = c in
     (sym (year-steps _ ∙ stops _ (read-malformed _ f.field_at.ensures c.in_default.is)), tt)
 
 pub returns-then-not-text_at : goal.returns-then-not-text_at
 unfolding bytes_of
 returns-then-not-text_at c =
-    let t = c.before in
-    (sym (after-year t ∙ stops _ (text-missing _ _ (bytes_of "\n") (lacks t.text_at.ensures (ap not c.if-not-text_at.true)))), tt)
+    let t = c in
+    (sym (year-steps _ ∙ goes _ (read_taken _ c.field_at.ensures c.in-Number.is) ∙ stops _ (text-missing _ _ (bytes_of "\n") (lacks t.text_at.ensures (ap not c.if-not-text_at.true)))), tt)
 
 pub overflow_add-result : goal.overflow_add-result
 overflow_add-result c =
-    let t = c.before in
-    omega (arith, (start (named t)).ranges, text-room _ _ _ (has t.text_at.ensures (ap not c.if-not-text_at.false)))
+    let t = c in
+    omega (arith, t.ranges, text-room _ _ _ (has t.text_at.ensures (ap not c.if-not-text_at.false)))
 
 pub returns : goal.returns
 unfolding bytes_of
 returns c =
-    let t = c.before in
+    let t = c in
     let h = has t.text_at.ensures (ap not c.if-not-text_at.false) in (
-      rw (held (named t).in-Number.year-1 t.before.before.known_told-1.given.0.1)
-          (sym (after-year t ∙ goes _ (text-found _ _ (bytes_of "\n") h))),
+      rw (held t.in-Number.year t.known_told-1.given.0.1)
+          (sym (year-steps _ ∙ goes _ (read_taken _ c.field_at.ensures c.in-Number.is) ∙ goes _ (text-found _ _ (bytes_of "\n") h))),
       omega (arith, text-room _ _ (bytes_of "\n") h),
     )

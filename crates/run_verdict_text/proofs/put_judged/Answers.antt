@@ -8,21 +8,21 @@ use Rattle.run_verdict_text.proofs.put_judged.Goals as goal
 pub put_word-requires : goal.put_word-requires
 unfolding judged_text
 put_word-requires c =
-    room_as (ap judged_text c.before.before.in-Of.is) c.before.before.before.before.before.requires
+    room_as (ap judged_text c.in-Of.is) c.requires
 
 pub put_refused-requires : goal.put_refused-requires
 unfolding judged_text
 put_refused-requires c =
-    room_as (ap judged_text c.before.before.in-Refused.is) c.before.before.before.before.before.requires
+    room_as (ap judged_text c.in-Refused.is) c.requires
 
 pub returns-in-Of : goal.returns-in-Of
 unfolding judged_text
 returns-in-Of c =
-    put_as (sym (ap judged_text c.before.before.before.before.before.in-Of.is))
-    c.before.before.put_word.ensures
+    put_as (sym (ap judged_text c.in-Of.is))
+    c.put_word.ensures
 
 pub returns-in-Refused : goal.returns-in-Refused
 unfolding judged_text
 returns-in-Refused c =
-    put_as (sym (ap judged_text c.before.before.before.before.before.in-Refused.is))
-    c.before.before.put_refused.ensures
+    put_as (sym (ap judged_text c.in-Refused.is))
+    c.put_refused.ensures
