@@ -18,108 +18,91 @@ use Rattle.run_figure_text.proofs.put_figure.Goals as goal
 
 -- ---- the place before, seen from each text
 
-abbrev start : goal.In-Printed → goal.Start
-start c = c.before.before.before.before
-
-abbrev first : goal.After-put_number-point → goal.After-without_last-whole
-first c = c.before.before
-
-abbrev second : goal.After-put_text-first → goal.After-put_number-point
-second c = c.before.before.before.before.before
-
 -- ---- an open figure
-
-open-text : (c : goal.In_default) → let s = c.before.before.before.args in
-    figure_text s.decimals s.figure-1 ≡ bytes_of "open"
-unfolding figure_text
-open-text c = let s = c.before.before.before.args in ap (figure_text s.decimals) c.in_default.is
 
 -- ---- a printed figure: its steps, and their whole part
 
-abbrev steps : goal.In-Printed → ℕ
-steps c = c.before.in-Printed.steps
-
-small : (c : goal.In-Printed) → steps c < 10 ^ most_digits
-unfolding Printable
-small c = subst Printable c.before.in-Printed.is (start c).requires.0
-
-abbrev decimals : goal.In-Printed → ℕ
-decimals c = (start c).args.decimals
-
-whole-small : (c : goal.After-without_last-whole) → c.without_last-whole.result < 10 ^ most_digits
-whole-small c =
-    omega (arith, c.without_last-whole.ensures, small c.before, div-le_self (steps c.before) (10 ^ decimals c.before))
-
-whole : (c : goal.After-without_last-whole) → to_z w64 c.without_last-whole.result ≡ pos (steps c.before / 10 ^ decimals c.before)
-whole c = to_z_pos w64 (omega (arith, whole-small c)) ∙ ap pos c.without_last-whole.ensures
-
-whole-text : (c : goal.After-without_last-whole)
-    → number_text (to_z w64 c.without_last-whole.result) ≡ unsigned_text (steps c.before / 10 ^ decimals c.before)
-unfolding number_text
-whole-text c = ap number_text (whole c)
-
 -- ---- its three texts have room, and two of them are written
-
-steps-text : (c : goal.In-Printed) → figure_text (decimals c) (start c).args.figure-1 ≡ steps_text (decimals c) (steps c)
-unfolding figure_text
-steps-text c = ap (figure_text (decimals c)) c.before.in-Printed.is
-
-texts : (c : goal.In-Printed)
-    → Three (start c).args.buffer-1.now (start c).args.at (unsigned_text (steps c / 10 ^ decimals c)) (bytes_of ".")
-    (last_digits (decimals c) (steps c))
-unfolding steps_text
-texts c = record { room = room_as (steps-text c) (start c).requires.1 }
-
-number : (c : goal.After-put_number-point) → let k = (first c).before in
-    Put (start k).args.buffer-1.now (start k).args.at (unsigned_text (steps k / 10 ^ decimals k))
-    c.put_number-point.new.0 c.put_number-point.result
-number c = put_as (whole-text (first c)) (put_of c.put_number-point.ensures)
-
-point : (c : goal.After-put_text-first) → let b = (second c).put_number-point in
-    Put b.last.0 b.result (bytes_of ".") c.put_text-first.new.0 c.put_text-first.result
-unfolding bytes_of
-point c = put_of c.put_text-first.ensures
 
 -- ---- the needs
 
 pub put_text-requires : goal.put_text-requires
-unfolding bytes_of
+unfolding bytes_of figure_text
 put_text-requires c =
-    let t = c.before.before in
-    (room_as (open-text t) t.before.before.before.requires.1).ranges
+    let open-text : let s = c.args in figure_text s.decimals s.figure ≡ bytes_of "open" = let s = c.args in ap (figure_text s.decimals) c.in_default.is in
+    (room_as open-text c.requires.1).fits
 
 pub returns-in_default : goal.returns-in_default
-unfolding bytes_of
+unfolding bytes_of figure_text
 returns-in_default c =
-    let p = c.before.before in
-    put_as (sym (open-text p.before.before.before)) (put_of p.put_text.ensures)
+    let open-text : let s = c.args in figure_text s.decimals s.figure ≡ bytes_of "open" = let s = c.args in ap (figure_text s.decimals) c.in_default.is in
+    put_as (sym open-text) (put_of c.put_text.ensures)
 
 pub overflow_cast-whole : goal.overflow_cast-whole
-overflow_cast-whole c = omega (arith, whole-small c)
+unfolding Printable
+overflow_cast-whole c =
+    let steps : ℕ = c.in-Printed.steps in
+    let small : steps < 10 ^ most_digits = subst Printable c.in-Printed.is c.requires.0 in
+    let decimals : ℕ = c.args.decimals in
+    let whole-small : c.without_last-whole.result < 10 ^ most_digits = omega (arith, c.without_last-whole.ensures, small, div-le_self steps (10 ^ decimals)) in
+    omega (arith, whole-small)
 
 pub put_number-point-requires : goal.put_number-point-requires
+unfolding Printable number_text figure_text steps_text
 put_number-point-requires c =
-    let w = c.before in (
-      rw (whole w) (omega (arith, whole-small w, w.without_last-whole.ensures)),
-      (room_as (sym (whole-text w)) (three-first (texts w.before))).ranges,
+    let steps : ℕ = c.in-Printed.steps in
+    let small : steps < 10 ^ most_digits = subst Printable c.in-Printed.is c.requires.0 in
+    let decimals : ℕ = c.args.decimals in
+    let whole-small : c.without_last-whole.result < 10 ^ most_digits = omega (arith, c.without_last-whole.ensures, small, div-le_self steps (10 ^ decimals)) in
+    let whole : to_z w64 c.without_last-whole.result ≡ pos (steps / 10 ^ decimals) = to_z_pos w64 (omega (arith, whole-small)) ∙ ap pos c.without_last-whole.ensures in
+    let whole-text : number_text (to_z w64 c.without_last-whole.result) ≡ unsigned_text (steps / 10 ^ decimals) = ap number_text whole in
+    let steps-text : figure_text decimals c.args.figure ≡ steps_text decimals steps = ap (figure_text decimals) c.in-Printed.is in
+    let texts : Three c.args.buffer.now c.args.at (unsigned_text (steps / 10 ^ decimals)) (bytes_of ".") (last_digits decimals steps) = record { room = room_as steps-text c.requires.1 } in
+    (
+      rw whole (omega (arith, whole-small, c.without_last-whole.ensures)),
+      (room_as (sym whole-text) (three-first texts)).fits,
     )
 
 pub put_text-first-requires : goal.put_text-first-requires
-unfolding bytes_of
+unfolding bytes_of Printable number_text figure_text steps_text
 put_text-first-requires c =
-    let n = c.before.before.before.before in
-    (three-second (texts (first n).before) (number n)).ranges
+    let steps : ℕ = c.in-Printed.steps in
+    let small : steps < 10 ^ most_digits = subst Printable c.in-Printed.is c.requires.0 in
+    let decimals : ℕ = c.args.decimals in
+    let whole-small : c.without_last-whole.result < 10 ^ most_digits = omega (arith, c.without_last-whole.ensures, small, div-le_self steps (10 ^ decimals)) in
+    let whole : to_z w64 c.without_last-whole.result ≡ pos (steps / 10 ^ decimals) = to_z_pos w64 (omega (arith, whole-small)) ∙ ap pos c.without_last-whole.ensures in
+    let whole-text : number_text (to_z w64 c.without_last-whole.result) ≡ unsigned_text (steps / 10 ^ decimals) = ap number_text whole in
+    let steps-text : figure_text decimals c.args.figure ≡ steps_text decimals steps = ap (figure_text decimals) c.in-Printed.is in
+    let texts : Three c.args.buffer.now c.args.at (unsigned_text (steps / 10 ^ decimals)) (bytes_of ".") (last_digits decimals steps) = record { room = room_as steps-text c.requires.1 } in
+    let number : Put c.args.buffer.now c.args.at (unsigned_text (steps / 10 ^ decimals)) c.put_number-point.new.buffer c.put_number-point.result = put_as whole-text (put_of c.put_number-point.ensures) in
+    (three-second texts number).fits
 
 pub put_last_digits-requires : goal.put_last_digits-requires
+unfolding Printable number_text figure_text steps_text bytes_of
 put_last_digits-requires c =
-    let p = c.before.before.before in
-    let n = second p in
-    three_third (texts (first n).before) (number n) (point p)
+    let steps : ℕ = c.in-Printed.steps in
+    let small : steps < 10 ^ most_digits = subst Printable c.in-Printed.is c.requires.0 in
+    let decimals : ℕ = c.args.decimals in
+    let whole-small : c.without_last-whole.result < 10 ^ most_digits = omega (arith, c.without_last-whole.ensures, small, div-le_self steps (10 ^ decimals)) in
+    let whole : to_z w64 c.without_last-whole.result ≡ pos (steps / 10 ^ decimals) = to_z_pos w64 (omega (arith, whole-small)) ∙ ap pos c.without_last-whole.ensures in
+    let whole-text : number_text (to_z w64 c.without_last-whole.result) ≡ unsigned_text (steps / 10 ^ decimals) = ap number_text whole in
+    let steps-text : figure_text decimals c.args.figure ≡ steps_text decimals steps = ap (figure_text decimals) c.in-Printed.is in
+    let texts : Three c.args.buffer.now c.args.at (unsigned_text (steps / 10 ^ decimals)) (bytes_of ".") (last_digits decimals steps) = record { room = room_as steps-text c.requires.1 } in
+    let number : Put c.args.buffer.now c.args.at (unsigned_text (steps / 10 ^ decimals)) c.put_number-point.new.buffer c.put_number-point.result = put_as whole-text (put_of c.put_number-point.ensures) in
+    let point : let b = c.put_number-point in Put b.new.buffer b.result (bytes_of ".") c.put_text-first.new.buffer c.put_text-first.result = put_of c.put_text-first.ensures in
+    three_third texts number point
 
 pub returns : goal.returns
-unfolding steps_text
+unfolding steps_text Printable number_text figure_text bytes_of
 returns c =
-    let p = c.before.before.before.before.before.before in
-    let n = second p in
-    let k = (first n).before in
-    put_as (sym (steps-text k)) (three-put (texts k) (number n) (point p) c.before.before.put_last_digits.ensures)
+    let steps : ℕ = c.in-Printed.steps in
+    let small : steps < 10 ^ most_digits = subst Printable c.in-Printed.is c.requires.0 in
+    let decimals : ℕ = c.args.decimals in
+    let whole-small : c.without_last-whole.result < 10 ^ most_digits = omega (arith, c.without_last-whole.ensures, small, div-le_self steps (10 ^ decimals)) in
+    let whole : to_z w64 c.without_last-whole.result ≡ pos (steps / 10 ^ decimals) = to_z_pos w64 (omega (arith, whole-small)) ∙ ap pos c.without_last-whole.ensures in
+    let whole-text : number_text (to_z w64 c.without_last-whole.result) ≡ unsigned_text (steps / 10 ^ decimals) = ap number_text whole in
+    let steps-text : figure_text decimals c.args.figure ≡ steps_text decimals steps = ap (figure_text decimals) c.in-Printed.is in
+    let texts : Three c.args.buffer.now c.args.at (unsigned_text (steps / 10 ^ decimals)) (bytes_of ".") (last_digits decimals steps) = record { room = room_as steps-text c.requires.1 } in
+    let number : Put c.args.buffer.now c.args.at (unsigned_text (steps / 10 ^ decimals)) c.put_number-point.new.buffer c.put_number-point.result = put_as whole-text (put_of c.put_number-point.ensures) in
+    let point : let b = c.put_number-point in Put b.new.buffer b.result (bytes_of ".") c.put_text-first.new.buffer c.put_text-first.result = put_of c.put_text-first.ensures in
+    put_as (sym steps-text) (three-put texts number point c.put_last_digits.ensures)

@@ -7,30 +7,22 @@ use Rattle.text_printing.specs.laws.PutLaws.{put_of, room-first, room-rest, put-
 use Rattle.run_figure_text.specs.FigureText.{figure_text, shown_text}
 use Rattle.run_figure_text.proofs.put_shown.Goals as goal
 
-abbrev start : goal.After-put_text-place → goal.Start
-start c = c.before.before.before.before
-
-room : (s : goal.Start) → let a = s.args in
-    Room a.buffer-1.now a.at (bytes_of " fig=" ++ figure_text a.decimals a.figure)
-unfolding shown_text
-room s = s.requires.1
-
-name : (c : goal.After-put_text-place) → let s = (start c).args in
-    Put s.buffer-1.now s.at (bytes_of " fig=") c.put_text-place.new.0 c.put_text-place.result
-unfolding bytes_of
-name c = put_of c.put_text-place.ensures
-
 pub put_text-place-requires : goal.put_text-place-requires
-unfolding bytes_of
-put_text-place-requires c = (room-first {t = bytes_of " fig="} _ (room c.before.before.before)).ranges
+unfolding bytes_of shown_text
+put_text-place-requires c =
+    let room : let a = c.args in Room a.buffer.now a.at (bytes_of " fig=" ++ figure_text a.decimals a.figure) = c.requires.1 in
+    (room-first {t = bytes_of " fig="} _ room).fits
 
 pub put_figure-requires : goal.put_figure-requires
+unfolding shown_text bytes_of
 put_figure-requires c =
-    let c₁ = c.before.before.before in
-    ((start c₁).requires.0, room-rest (name c₁) (room (start c₁)))
+    let room : let a = c.args in Room a.buffer.now a.at (bytes_of " fig=" ++ figure_text a.decimals a.figure) = c.requires.1 in
+    let name : let s = c.args in Put s.buffer.now s.at (bytes_of " fig=") c.put_text-place.new.buffer c.put_text-place.result = put_of c.put_text-place.ensures in
+    (c.requires.0, room-rest name room)
 
 pub returns : goal.returns
-unfolding shown_text
+unfolding shown_text bytes_of
 returns c =
-    let c₁ = c.before.before.before.before.before.before in
-    put-join (name c₁) c.before.before.put_figure.ensures (room (start c₁))
+    let room : let a = c.args in Room a.buffer.now a.at (bytes_of " fig=" ++ figure_text a.decimals a.figure) = c.requires.1 in
+    let name : let s = c.args in Put s.buffer.now s.at (bytes_of " fig=") c.put_text-place.new.buffer c.put_text-place.result = put_of c.put_text-place.ensures in
+    put-join name c.put_figure.ensures room

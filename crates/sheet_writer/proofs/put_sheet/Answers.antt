@@ -16,80 +16,60 @@ use Rattle.sheet_writer.proofs.put_sheet.Goals as goal
 
 -- ---- the place before, seen from each part
 
-abbrev start : goal.After-put_table-second → goal.Start
-start c = c.before.before.before
-
-abbrev first : goal.After-put_sex-series → goal.After-put_table-second
-first c = c.before.before.before.before
-
-abbrev second : goal.After-put_series-start → goal.After-put_sex-series
-second c = c.before.before.before.before
-
-abbrev third : goal.After-put_start-first → goal.After-put_series-start
-third c = c.before.before.before.before.before.before
-
 -- ---- what is left to write has room after each part
-
-room : (s : goal.Start) → let p = s.args.p in
-    Room s.args.buffer-1.now 0 (table_text p.table ++ (sex_text p.sex ++ lines_of p))
-room s = room_as (sheet-parts s.args.p) s.requires.1
-
-room₁ : (c : goal.After-put_table-second) → let p = (start c).args.p in
-    Room c.put_table-second.new.0 c.put_table-second.result (sex_text p.sex ++ lines_of p)
-room₁ c = room-rest c.put_table-second.ensures (room (start c))
-
-room₂ : (c : goal.After-put_sex-series) → Room c.put_sex-series.new.0 c.put_sex-series.result (lines_of (start (first c)).args.p)
-room₂ c = room-rest c.put_sex-series.ensures (room₁ (first c))
-
-room₃ : (c : goal.After-put_series-start) → let p = (start (first (second c))).args.p in
-    Room c.put_series-start.new.0 c.put_series-start.result (start_text p.table p.start p.c ++ ages_text p ages)
-room₃ c = room-rest c.put_series-start.ensures (room₂ (second c))
-
--- the start and c as the code holds them
-values : (s : goal.Start) → SeriesHeld s.args.p
-values s = series-held s.args.p s.requires.0
-
-text : (s : goal.Start) → let p = s.args.p in
-    start_text p.table (to_z w64 (of_z w64 p.start)) (to_z w64 (of_z w64 p.c)) ≡ start_text p.table p.start p.c
-text s = ap₂ (λ (z w : ℤ). start_text s.args.p.table z w) (values s).start.is (values s).c.is
-
-start-put : (c : goal.After-put_start-first) → let b = (third c).put_series-start in let p = (start (first (second (third c)))).args.p in
-    Put b.last.0 b.result (start_text p.table p.start p.c) c.put_start-first.new.0 c.put_start-first.result
-start-put c = put_as (text (start (first (second (third c))))) c.put_start-first.ensures
 
 -- ---- the needs
 
 pub put_table-second-requires : goal.put_table-second-requires
-put_table-second-requires c = room-first _ (room c.before.before)
+put_table-second-requires c =
+    let room : let p = c.args.p in Room c.args.buffer.now 0 (table_text p.table ++ (sex_text p.sex ++ lines_of p)) = room_as (sheet-parts c.args.p) c.requires.1 in
+    room-first _ room
 
 pub put_sex-series-requires : goal.put_sex-series-requires
-put_sex-series-requires c = room-first _ (room₁ c.before.before.before)
+put_sex-series-requires c =
+    let room : let p = c.args.p in Room c.args.buffer.now 0 (table_text p.table ++ (sex_text p.sex ++ lines_of p)) = room_as (sheet-parts c.args.p) c.requires.1 in
+    let room₁ : let p = c.args.p in Room c.put_table-second.new.buffer c.put_table-second.result (sex_text p.sex ++ lines_of p) = room-rest c.put_table-second.ensures room in
+    room-first _ room₁
 
 pub put_series-start-requires : goal.put_series-start-requires
 put_series-start-requires c =
-    let b = c.before.before.before in
-    ((start (first b)).requires.0, room-first _ (room₂ b))
+    let room : let p = c.args.p in Room c.args.buffer.now 0 (table_text p.table ++ (sex_text p.sex ++ lines_of p)) = room_as (sheet-parts c.args.p) c.requires.1 in
+    let room₁ : let p = c.args.p in Room c.put_table-second.new.buffer c.put_table-second.result (sex_text p.sex ++ lines_of p) = room-rest c.put_table-second.ensures room in
+    let room₂ : Room c.put_sex-series.new.buffer c.put_sex-series.result (lines_of c.args.p) = room-rest c.put_sex-series.ensures room₁ in
+    (c.requires.0, room-first _ room₂)
 
 pub put_start-first-requires : goal.put_start-first-requires
 put_start-first-requires c =
-    let b = c.before.before.before.before.before in
-    let s = start (first (second b)) in
-    ((values s).start.small, (values s).c.small, room_as (sym (text s)) (room-first _ (room₃ b)))
+    let room : let p = c.args.p in Room c.args.buffer.now 0 (table_text p.table ++ (sex_text p.sex ++ lines_of p)) = room_as (sheet-parts c.args.p) c.requires.1 in
+    let room₁ : let p = c.args.p in Room c.put_table-second.new.buffer c.put_table-second.result (sex_text p.sex ++ lines_of p) = room-rest c.put_table-second.ensures room in
+    let room₂ : Room c.put_sex-series.new.buffer c.put_sex-series.result (lines_of c.args.p) = room-rest c.put_sex-series.ensures room₁ in
+    let room₃ : let p = c.args.p in Room c.put_series-start.new.buffer c.put_series-start.result (start_text p.table p.start p.c ++ ages_text p ages) = room-rest c.put_series-start.ensures room₂ in
+    let values : SeriesHeld c.args.p = series-held c.args.p c.requires.0 in
+    let text : let p = c.args.p in start_text p.table (to_z w64 (of_z w64 p.start)) (to_z w64 (of_z w64 p.c)) ≡ start_text p.table p.start p.c = ap₂ (λ (z w : ℤ). start_text c.args.p.table z w) values.start.is values.c.is in
+    (values.start.small, values.c.small, room_as (sym text) (room-first _ room₃))
 
 pub put_ages-requires : goal.put_ages-requires
 put_ages-requires c =
-    let b = c.before.before.before in
-    ((start (first (second (third b)))).requires.0, room-rest (start-put b) (room₃ (third b)))
+    let room : let p = c.args.p in Room c.args.buffer.now 0 (table_text p.table ++ (sex_text p.sex ++ lines_of p)) = room_as (sheet-parts c.args.p) c.requires.1 in
+    let room₁ : let p = c.args.p in Room c.put_table-second.new.buffer c.put_table-second.result (sex_text p.sex ++ lines_of p) = room-rest c.put_table-second.ensures room in
+    let room₂ : Room c.put_sex-series.new.buffer c.put_sex-series.result (lines_of c.args.p) = room-rest c.put_sex-series.ensures room₁ in
+    let room₃ : let p = c.args.p in Room c.put_series-start.new.buffer c.put_series-start.result (start_text p.table p.start p.c ++ ages_text p ages) = room-rest c.put_series-start.ensures room₂ in
+    let values : SeriesHeld c.args.p = series-held c.args.p c.requires.0 in
+    let text : let p = c.args.p in start_text p.table (to_z w64 (of_z w64 p.start)) (to_z w64 (of_z w64 p.c)) ≡ start_text p.table p.start p.c = ap₂ (λ (z w : ℤ). start_text c.args.p.table z w) values.start.is values.c.is in
+    let start-put : let b = c.put_series-start in let p = c.args.p in Put b.new.buffer b.result (start_text p.table p.start p.c) c.put_start-first.new.buffer c.put_start-first.result = put_as text c.put_start-first.ensures in
+    (c.requires.0, room-rest start-put room₃)
 
 pub returns : goal.returns
 returns c =
-    let c₄ = c.before.before.before.before.before.before in
-    let c₃ = third c₄ in
-    let c₂ = second c₃ in
-    let c₁ = first c₂ in
-    let s = start c₁ in
-    put_as (sym (sheet-parts s.args.p))
-    (put-join c₁.put_table-second.ensures
-    (put-join c₂.put_sex-series.ensures
-    (put-join c₃.put_series-start.ensures
-    (put-join (start-put c₄) c.before.before.put_ages.ensures (room₃ c₃)) (room₂ c₂)) (room₁ c₁)) (room s))
+    let room : let p = c.args.p in Room c.args.buffer.now 0 (table_text p.table ++ (sex_text p.sex ++ lines_of p)) = room_as (sheet-parts c.args.p) c.requires.1 in
+    let room₁ : let p = c.args.p in Room c.put_table-second.new.buffer c.put_table-second.result (sex_text p.sex ++ lines_of p) = room-rest c.put_table-second.ensures room in
+    let room₂ : Room c.put_sex-series.new.buffer c.put_sex-series.result (lines_of c.args.p) = room-rest c.put_sex-series.ensures room₁ in
+    let room₃ : let p = c.args.p in Room c.put_series-start.new.buffer c.put_series-start.result (start_text p.table p.start p.c ++ ages_text p ages) = room-rest c.put_series-start.ensures room₂ in
+    let values : SeriesHeld c.args.p = series-held c.args.p c.requires.0 in
+    let text : let p = c.args.p in start_text p.table (to_z w64 (of_z w64 p.start)) (to_z w64 (of_z w64 p.c)) ≡ start_text p.table p.start p.c = ap₂ (λ (z w : ℤ). start_text c.args.p.table z w) values.start.is values.c.is in
+    let start-put : let b = c.put_series-start in let p = c.args.p in Put b.new.buffer b.result (start_text p.table p.start p.c) c.put_start-first.new.buffer c.put_start-first.result = put_as text c.put_start-first.ensures in
+    put_as (sym (sheet-parts c.args.p))
+    (put-join c.put_table-second.ensures
+    (put-join c.put_sex-series.ensures
+    (put-join c.put_series-start.ensures
+    (put-join start-put c.put_ages.ensures room₃) room₂) room₁) room)
