@@ -10,14 +10,8 @@ use lib.ListN.{length, take, set, replicate, length-set, replicate-append-replic
 use lib.Seq.{take-suc-set}
 use Rattle.number_exponential.specs.declared.Ends.{Ends}
 use Rattle.number_folds.specs.code.Code.{most_factors}
+use Rattle.quote_factors.proofs.repeated.Invariants.{Going}
 use Rattle.quote_factors.proofs.repeated.Goals as goal
-
--- the first i of the array es are the first `done` of ds, and then e
-record Going (ds : List Ends) (done count : ℕ) (e : Ends) (es : List Ends) (i : ℕ) : Type 0 where
-  from : done ≤ i
-  to : i ≤ count
-  size : length es ≡ most_factors
-  ends : take i es ≡ take done ds ++ replicate (i - done) e
 
 -- and once more
 going_on : {ds : List Ends} {done count : ℕ} {e : Ends} {es : List Ends} {i : ℕ} → Going ds done count e es i
@@ -48,17 +42,16 @@ bounds-ends-done c = omega (arith, c.requires.some, c.requires.rest, c.requires.
 
 pub loop-i-init : goal.loop-i-init
 loop-i-init c =
-    let s = c.before in
     record {
-      from = le_refl s.args.done;
-      to = s.requires.rest;
-      size = s.requires.size;
-      ends = rw (sub_self s.args.done) (sym (append-nil (take s.args.done s.args.ends)));
+      from = le_refl c.args.done;
+      to = c.requires.rest;
+      size = c.requires.size;
+      ends = rw (sub_self c.args.done) (sym (append-nil (take c.args.done c.args.ends)));
     }
 
 -- a turn of the loop is at a factor for which there is room
-turn : (c : goal.In-loop-i) → c.before.loop-i.i < most_factors
-turn c = let p = c.before.before.before.requires in omega (arith, c.loop-i-test.true, p.rest, p.room)
+turn : (c : goal.In-loop-i) → c.loop-i.i < most_factors
+turn c = let p = c.requires in omega (arith, c.loop-i-test.true, p.rest, p.room)
 
 pub offset_bounds-all-i : goal.offset_bounds-all-i
 offset_bounds-all-i c = omega (arith, turn c)
@@ -71,14 +64,14 @@ loop-i-smaller c = omega (arith, c.loop-i-test.true)
 
 pub loop-i-preserved : goal.loop-i-preserved
 loop-i-preserved c =
-    let p = c.before.before.before.requires in
-    going_on c.before.loop-i.invariant (omega (arith, c.loop-i-test.true, p.rest)) (turn c)
+    let p = c.requires in
+    going_on c.loop-i.invariant (omega (arith, c.loop-i-test.true, p.rest)) (turn c)
 
 pub returns : goal.returns
 returns c =
-    let l = c.before in
-    let e : l.loop-i.i ≡ l.before.before.args.count = omega (arith, c.loop-i-test.false, l.loop-i.invariant.to) in
-    record { ends = rw e at l.loop-i.invariant.ends; size = l.loop-i.invariant.size }
+    let v = c.loop-i.invariant in
+    let e : c.loop-i.i ≡ c.args.count = omega (arith, c.loop-i-test.false, v.to) in
+    record { ends = rw e at v.ends; size = v.size }
 
 pub bounds-all-i : goal.bounds-all-i
 bounds-all-i c = turn c

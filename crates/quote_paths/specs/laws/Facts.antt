@@ -51,7 +51,7 @@ unit-facts u =
       sound = unit-sound u;
       narrow = unit-narrow u;
       fit = unit-fit u;
-      some = elim u [ Coarse ↦ lit< tt | Fine ↦ lit< tt ];
+      some = elim u as (λ v. 0 < width_times v) [ Coarse ↦ lit< tt | Fine ↦ lit< tt ];
       young = p-width-young u;
       old = p-width-old u;
     }
