@@ -1,5 +1,4 @@
 -- `answer_on` meets its contract: a cell out of range is refused, and else the couple's value has its ends.
-use mathlib.Core.Bool.{not}
 use borrow.Author.Rules.{rules}
 use borrow.Author.Tests.{not-true, not-false}
 use mathlib.Core.Path.{◌≡◌, ap, ap₂, sym, ◌∙◌}
@@ -24,48 +23,51 @@ use Rattle.quote_two_lives.specs.laws.Sizes.{couple-at-most}
 use Rattle.quote_couple.specs.Couple.{couple_step}
 use Rattle.quote_couple.specs.code.Code.{paths_ends, paths_answer}
 use Rattle.quote_couple.proofs.answer_on.Goals as goal
+use Rattle.quote_couple.proofs.answer_on.Tie as tie
+use Rattle.quote_couple.proofs.answer_on.Lts as lts
+use Rattle.quote_couple.proofs.answer_on.Reads as reads
 
 -- ---- the start, seen from past each test, and whether each path is in range
 
-abbrev began₁ : goal.Else-not-one → goal.Start
+abbrev began₁ : lts.Else1 tie.the-claims reads.Pre reads.Post → lts.Start tie.the-claims reads.Pre reads.Post
 began₁ e = e.before.before.before
 
-abbrev began : goal.Else-not-two → goal.Start
+abbrev began : lts.Else2 tie.the-claims reads.Pre reads.Post → lts.Start tie.the-claims reads.Pre reads.Post
 began e = began₁ e.before.before.before
 
-first-worked : (e : goal.Else-not-one) → e.before.before.factors_of-one.result.ok ≡ true
-first-worked e = not-false _ (ap not e.if-not-one.false)
+first-worked : (e : lts.Else1 tie.the-claims reads.Pre reads.Post) → e.before.before.factors_of-one.result.ok ≡ true
+first-worked e = not-false _ e.if-not-one.false
 
-second-worked : (e : goal.Else-not-two) → e.before.before.factors_of-two.result.ok ≡ true
-second-worked e = not-false _ (ap not e.if-not-two.false)
+second-worked : (e : lts.Else2 tie.the-claims reads.Pre reads.Post) → e.before.before.factors_of-two.result.ok ≡ true
+second-worked e = not-false _ e.if-not-two.false
 
-first-in : (e : goal.Else-not-one) → let s = began₁ e in path_in_range (grid_by s.args.fine) s.args.first (path_is s.args.path) ≡ true
+first-in : (e : lts.Else1 tie.the-claims reads.Pre reads.Post) → let s = began₁ e in path_in_range (grid_by s.args.fine) s.args.first (path_is s.args.path) ≡ true
 first-in e = sym e.before.before.factors_of-one.ensures.ok ∙ first-worked e
 
-second-in : (e : goal.Else-not-two) → let s = began e in path_in_range (grid_by s.args.fine) s.args.second (path_is s.args.other) ≡ true
+second-in : (e : lts.Else2 tie.the-claims reads.Pre reads.Post) → let s = began e in path_in_range (grid_by s.args.fine) s.args.second (path_is s.args.other) ≡ true
 second-in e = sym e.before.before.factors_of-two.ensures.ok ∙ second-worked e
 
 pub returns-then-not-one : goal.returns-then-not-one
 unfolding in_range_or paths_answer
-returns-then-not-one c = let e = sym c.before.before.factors_of-one.ensures.ok ∙ not-true _ (ap not c.if-not-one.true) in rw e
+returns-then-not-one c = let e = sym c.before.before.factors_of-one.ensures.ok ∙ not-true _ c.if-not-one.true in rw e
 
 pub returns-then-not-two : goal.returns-then-not-two
 unfolding in_range_or paths_answer
 returns-then-not-two c =
-    let e = sym c.before.before.factors_of-two.ensures.ok ∙ not-true _ (ap not c.if-not-two.true) in
+    let e = sym c.before.before.factors_of-two.ensures.ok ∙ not-true _ c.if-not-two.true in
     rw (first-in c.before.before.before, e)
 
 -- ---- the factors of both
 
-first-factors : (e : goal.Else-not-two) → let s = began e in
-    take s.args.path.count e.before.before.before.before.before.factors_of-one.result.ends-1
+first-factors : (e : lts.Else2 tie.the-claims reads.Pre reads.Post) → let s = began e in
+    take s.args.path.count e.before.before.before.before.before.factors_of-one.result.ends
     ≡ factors (grid_by s.args.fine) s.args.first (path_is s.args.path)
-first-factors e = let o = e.before.before.before in o.before.before.factors_of-one.ensures.ends-1 (rw (first-worked o) tt)
+first-factors e = let o = e.before.before.before in o.before.before.factors_of-one.ensures.ends (rw (first-worked o) tt)
 
-second-factors : (e : goal.Else-not-two) → let s = began e in
-    take s.args.other.count e.before.before.factors_of-two.result.ends-1
+second-factors : (e : lts.Else2 tie.the-claims reads.Pre reads.Post) → let s = began e in
+    take s.args.other.count e.before.before.factors_of-two.result.ends
     ≡ factors (grid_by s.args.fine) s.args.second (path_is s.args.other)
-second-factors e = e.before.before.factors_of-two.ensures.ends-1 (rw (second-worked e) tt)
+second-factors e = e.before.before.factors_of-two.ensures.ends (rw (second-worked e) tt)
 
 pub couple_over-e-requires : goal.couple_over-e-requires
 couple_over-e-requires c =
@@ -75,26 +77,26 @@ couple_over-e-requires c =
     (path-chances u s.requires.0 (first-factors e), rw s.requires.2 (path-chances u s.requires.1 (second-factors e)))
 
 -- the ends are those of the two paths
-ends_read : (c : goal.After-couple_over-e) → let s = began c.before.before.before in
+ends_read : (c : lts.After-couple_over tie.the-claims reads.Pre reads.Post) → let s = began c.before.before.before in
     c.couple_over-e.result
     ≡ paths_ends s.args.first s.args.second s.args.kind (path_is s.args.path) (path_is s.args.other) (unit_by s.args.fine)
 ends_read c =
     let e = c.before.before.before in
     let s = began e in
-    let second = ap (λ (n : ℕ). take n e.before.before.factors_of-two.result.ends-1) s.requires.2 ∙ second-factors e in
+    let second = ap (λ (n : ℕ). take n e.before.before.factors_of-two.result.ends) s.requires.2 ∙ second-factors e in
     c.couple_over-e.ensures ∙ ap₂ (couple_over s.args.kind (grid_by s.args.fine)) (first-factors e) second
 
 -- ---- the figure
 
-step_is : (c : goal.After-step_on) → let s = began c.before.before.before.before.before.before in
+step_is : (c : lts.After-step_on tie.the-claims reads.Pre reads.Post) → let s = began c.before.before.before.before.before.before in
     c.step_on.result ≡ couple_step s.args.kind * (grid_by s.args.fine).scale
 step_is c =
     let r = c.before in
     let s = began r.before.before.before.before.before in
     c.step_on.ensures
-    ∙ ap (λ (r : Rule). step_of r.fold * (grid_by s.args.fine).scale) (r.rule_of-rule.ensures ∙ ap rule_of r.before.Single-of.ensures)
+    ∙ ap (λ (r : Rule). step_of r.fold * (grid_by s.args.fine).scale) (r.rule_of-rule.ensures ∙ ap rule_of r.before.single_of.ensures)
 
-small : (c : goal.After-couple_over-e) → AtMost (172 * (grid_by (began c.before.before.before).args.fine).unit) c.couple_over-e.result
+small : (c : lts.After-couple_over tie.the-claims reads.Pre reads.Post) → AtMost (172 * (grid_by (began c.before.before.before).args.fine).unit) c.couple_over-e.result
 small c =
     let s = began c.before.before.before in
     let u = unit_by s.args.fine in

@@ -1,7 +1,5 @@
 -- `couple_along` meets its contract: a coarse quote with an open figure is worked again, and two paths in range are so on the fine grid.
-use mathlib.Core.Bool.{not}
 use borrow.Author.Rules.{rules}
-use borrow.Author.Tests.{not-true, not-false}
 use mathlib.Core.Path.{◌≡◌, ap, sym, ◌∙◌}
 use mathlib.Core.Bool.{Bool, true, false, cond}
 use mathlib.Core.List.{List}
@@ -20,6 +18,9 @@ use Rattle.quote_along.specs.code.Code.{left_open, quote_for}
 use Rattle.quote_along.specs.laws.Again.{worked-again, worked-once}
 use Rattle.quote_couple.specs.code.Code.{paths_in_range, paths_answer, paths_quote}
 use Rattle.quote_couple.proofs.couple_along.Goals as goal
+use Rattle.quote_couple.proofs.couple_along.Tie as tie
+use Rattle.quote_couple.proofs.couple_along.Lts as lts
+use Rattle.quote_couple.proofs.couple_along.Reads as reads
 
 module _ (p p' : Params) (k : CoupleKind) (path path' : List Place) where
   fine-too : paths_in_range billionths p p' path path' ≡ true → paths_in_range ten_trillionths p p' path path' ≡ true
@@ -38,12 +39,12 @@ module _ (p p' : Params) (k : CoupleKind) (path path' : List Place) where
   paths-once = worked-once _ _ true _
 
 -- the answer of a round, on a grid that is known
-answered : (c : goal.After-answer_on-answer) {fine : Bool} → let l = c.before in l.loop-fine.fine ≡ fine → let a = l.before.args in
+answered : (c : lts.After-answer_on tie.the-claims reads.Pre reads.Post goal.the-invariant-loop-fine goal.the-decreases-loop-fine) {fine : Bool} → let l = c.before in l.loop-fine.fine ≡ fine → let a = l.before.args in
     c.answer_on-answer.result ≡ paths_answer (unit_by fine) a.first a.second a.kind (path_is a.path) (path_is a.other)
 answered c e = rw e at c.answer_on-answer.ensures
 
 -- what was asked of the coarse one
-asked : (c : goal.After-is_left_open) → let a = c.before.before.before.before.args in
+asked : (c : lts.After-is_left_open tie.the-claims reads.Pre reads.Post goal.the-invariant-loop-fine goal.the-decreases-loop-fine) → let a = c.before.before.before.before.args in
     c.is_left_open.result ≡ left_open (paths_answer Coarse a.first a.second a.kind (path_is a.path) (path_is a.other))
 unfolding unit_by
 asked c = c.is_left_open.ensures ∙ ap left_open (answered c.before.before c.before.if-fine.false)
@@ -59,13 +60,13 @@ unfolding unit_by
 returns-then-not-is_left_open c =
     let o = c.before in
     let e = o.before in
-    answered e.before e.if-fine.false ∙ paths-once _ _ _ _ _ (sym (asked o) ∙ not-true _ (ap not c.if-not-is_left_open.true))
+    answered e.before e.if-fine.false ∙ paths-once _ _ _ _ _ (sym (asked o) ∙ c.if-not-is_left_open.true)
 
 pub loop-fine-preserved : goal.loop-fine-preserved
-loop-fine-preserved c t = sym (asked c.before) ∙ not-false _ (ap not c.if-not-is_left_open.false)
+loop-fine-preserved c t = sym (asked c.before) ∙ c.if-not-is_left_open.false
 
 pub loop-fine-init : goal.loop-fine-init
-loop-fine-init c = absurd t
+loop-fine-init c t = absurd t
 
 pub loop-fine-smaller : goal.loop-fine-smaller
 loop-fine-smaller c = rw c.before.before.if-fine.false (lit< tt)

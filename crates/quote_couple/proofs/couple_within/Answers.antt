@@ -23,35 +23,38 @@ use Rattle.quote_couple.specs.code.Code.{paths_quote}
 use Rattle.quote_couple.specs.laws.CoupleTests.{CoupleIn, couple-in, life-in, single-plain}
 use Rattle.quote_couple.proofs.Steps.{whole-path, path-within, starts-differ, table-refuses, along-answer}
 use Rattle.quote_couple.proofs.couple_within.Goals as goal
+use Rattle.quote_couple.proofs.couple_within.Tie as tie
+use Rattle.quote_couple.proofs.couple_within.Lts as lts
+use Rattle.quote_couple.proofs.couple_within.Reads as reads
 
 -- ---- the start, seen from each place
 
-abbrev begun₁ : goal.Else-first-second → goal.Start
+abbrev begun₁ : lts.Else1 tie.the-claims reads.Pre reads.Post → lts.Start tie.the-claims reads.Pre reads.Post
 begun₁ e = e.before.before.before.before.before
 
-abbrev ruled : goal.After-table_refusal-refusal → goal.After-rule_of-rule
+abbrev ruled : lts.After-table_refusal tie.the-claims reads.Pre reads.Post → lts.After-rule_of tie.the-claims reads.Pre reads.Post
 ruled c = c.before.before
 
-abbrev else₁ : goal.After-table_refusal-refusal → goal.Else-first-second
+abbrev else₁ : lts.After-table_refusal tie.the-claims reads.Pre reads.Post → lts.Else1 tie.the-claims reads.Pre reads.Post
 else₁ c = (ruled c).before.before
 
-abbrev tested : goal.Else-refusal_number-ne0 → goal.After-table_refusal-refusal
+abbrev tested : lts.Else2 tie.the-claims reads.Pre reads.Post → lts.After-table_refusal tie.the-claims reads.Pre reads.Post
 tested e = e.before.before
 
-abbrev begun : goal.Else-refusal_number-ne0 → goal.Start
+abbrev begun : lts.Else2 tie.the-claims reads.Pre reads.Post → lts.Start tie.the-claims reads.Pre reads.Post
 begun e = begun₁ (else₁ (tested e))
 
 -- the start years, as they are read
-first_read : (s : goal.Start) → bits s.args.first.start ≡ s.args.first.start
+first_read : (s : lts.Start tie.the-claims reads.Pre reads.Post) → bits s.args.first.start ≡ s.args.first.start
 first_read s = let f : SFits w64 s.args.first.start = search rules in to_z-of_z f
 
-second-read : (s : goal.Start) → bits s.args.second.start ≡ s.args.second.start
+second-read : (s : lts.Start tie.the-claims reads.Pre reads.Post) → bits s.args.second.start ≡ s.args.second.start
 second-read s = let f : SFits w64 s.args.second.start = search rules in to_z-of_z f
 
-first-within : (s : goal.Start) → StartWithin s.args.first.start
+first-within : (s : lts.Start tie.the-claims reads.Pre reads.Post) → StartWithin s.args.first.start
 first-within s = in-limits-start s.args.first s.requires.0
 
-second-within : (s : goal.Start) → StartWithin s.args.second.start
+second-within : (s : lts.Start tie.the-claims reads.Pre reads.Post) → StartWithin s.args.second.start
 second-within s = in-limits-start s.args.second s.requires.1
 
 pub returns-then-first-second : goal.returns-then-first-second
@@ -63,20 +66,20 @@ returns-then-first-second c =
 -- ---- the table
 
 -- the starts are the same
-same : (e : goal.Else-first-second) → let s = begun₁ e in s.args.first.start ≡ s.args.second.start
+same : (e : lts.Else1 tie.the-claims reads.Pre reads.Post) → let s = begun₁ e in s.args.first.start ≡ s.args.second.start
 same e = let s = begun₁ e in sym (first_read s) ∙ ap (to_z w64) e.if-first-second.false ∙ second-read s
 
-rule-is : (c : goal.After-rule_of-rule) → let s = begun₁ c.before.before in c.rule_of-rule.result ≡ rule_of (single_of s.args.kind)
-rule-is c = c.rule_of-rule.ensures ∙ ap rule_of c.before.Single-of.ensures
+rule-is : (c : lts.After-rule_of tie.the-claims reads.Pre reads.Post) → let s = begun₁ c.before.before in c.rule_of-rule.result ≡ rule_of (single_of s.args.kind)
+rule-is c = c.rule_of-rule.ensures ∙ ap rule_of c.before.single_of-single.ensures
 
 pub table_refusal-refusal-requires : goal.table_refusal-refusal-requires
 table_refusal-refusal-requires c =
-    let r = c.before in
+    let r = c.before.before in
     let s = begun₁ r.before.before in
     let k = single_of s.args.kind in
     rw (first_read s, rule-is r) (first-within s, years-under k, single-plain s.args.kind)
 
-refusal_is : (c : goal.After-table_refusal-refusal) → let s = begun₁ (else₁ c) in
+refusal_is : (c : lts.After-table_refusal tie.the-claims reads.Pre reads.Post) → let s = begun₁ (else₁ c) in
     c.table_refusal-refusal.result
     ≡ first_failed (couple_table s.args.first.start (rule_of (single_of s.args.kind)) s.args.age s.args.other s.args.year s.args.span)
 refusal_is c =
@@ -95,14 +98,14 @@ returns-then-refusal_number-ne0 c =
     s.requires.0 s.requires.1 (same (else₁ t)) (refusal_is t) (λ e. c.if-refusal_number-ne0.true (n.refusal_number.ensures ∙ e))
 
 -- where it refuses nothing, the query is in the table
-in_table : (e : goal.Else-refusal_number-ne0) → let s = begun e in
+in_table : (e : lts.Else2 tie.the-claims reads.Pre reads.Post) → let s = begun e in
     CoupleIn s.args.first.start (rule_of (single_of s.args.kind)) s.args.age s.args.other s.args.year s.args.span
 in_table e =
     let n = e.before in
     let t = tested e in
     couple-in _ _ _ _ _ _ (sym (refusal_is t) ∙ accepted t.table_refusal-refusal.result (sym n.refusal_number.ensures ∙ e.if-refusal_number-ne0.false))
 
-first-in : (e : goal.Else-refusal_number-ne0) → let s = begun e in
+first-in : (e : lts.Else2 tie.the-claims reads.Pre reads.Post) → let s = begun e in
     first_failed (table_tests s.args.first.start (rule_of (single_of s.args.kind)) s.args.age s.args.year s.args.span) ≡ Accepted
 first-in e =
     let h = in_table e in
@@ -112,7 +115,7 @@ by-start : (rule : Rule) (x year span : ℤ) {a b : ℤ} → a ≡ b → first_f
     → first_failed (table_tests b rule x year span) ≡ Accepted
 by-start rule x year span e h = rw (← e) h
 
-second-in : (e : goal.Else-refusal_number-ne0) → let s = begun e in
+second-in : (e : lts.Else2 tie.the-claims reads.Pre reads.Post) → let s = begun e in
     first_failed (table_tests s.args.second.start (rule_of (single_of s.args.kind)) s.args.other s.args.year s.args.span) ≡ Accepted
 second-in e =
     let h = in_table e in
@@ -121,38 +124,38 @@ second-in e =
 
 -- ---- the paths
 
-abbrev single : goal.Else-refusal_number-ne0 → goal.After-single_of-single
+abbrev single : lts.Else2 tie.the-claims reads.Pre reads.Post → lts.After-single_of tie.the-claims reads.Pre reads.Post
 single e = (ruled (tested e)).before
 
 pub path_to-path-requires : goal.path_to-path-requires
 path_to-path-requires c =
-    let e = c.before in
+    let e = c.before.before in
     let s = begun e in
     let f = s.ranges in
-    rw ((single e).Single-of.ensures, first_read s, to_z-of_z f.age, to_z-of_z f.year, to_z-of_z f.span) (first-within s, first-in e)
+    rw ((single e).single_of-single.ensures, first_read s, to_z-of_z f.age, to_z-of_z f.year, to_z-of_z f.span) (first-within s, first-in e)
 
-first-path : (c : goal.After-path_to-path) → let s = begun c.before.before in
+first-path : (c : lts.After-path_to tie.the-claims reads.Pre reads.Post) → let s = begun c.before.before in
     c.path_to-path.result ≡ path_to s.args.first.start (single_of s.args.kind) s.args.age s.args.year s.args.span
 first-path c =
     let e = c.before.before in
     let s = begun e in
     let f = s.ranges in
-    rw ((single e).Single-of.ensures, first_read s, to_z-of_z f.age, to_z-of_z f.year, to_z-of_z f.span) at c.path_to-path.ensures
+    rw ((single e).single_of-single.ensures, first_read s, to_z-of_z f.age, to_z-of_z f.year, to_z-of_z f.span) at c.path_to-path.ensures
 
 pub path_to-apart-requires : goal.path_to-apart-requires
 path_to-apart-requires c =
-    let e = c.before.before.before in
+    let e = c.before.before.before.before in
     let s = begun e in
     let f = s.ranges in
-    rw ((single e).Single-of.ensures, second-read s, to_z-of_z f.other, to_z-of_z f.year, to_z-of_z f.span) (second-within s, second-in e)
+    rw ((single e).single_of-single.ensures, second-read s, to_z-of_z f.other, to_z-of_z f.year, to_z-of_z f.span) (second-within s, second-in e)
 
-second-path : (c : goal.After-path_to-apart) → let s = begun c.before.before.before.before in
+second-path : (c : lts.After-path_to2 tie.the-claims reads.Pre reads.Post) → let s = begun c.before.before.before.before in
     c.path_to-apart.result ≡ path_to s.args.second.start (single_of s.args.kind) s.args.other s.args.year s.args.span
 second-path c =
     let e = c.before.before.before.before in
     let s = begun e in
     let f = s.ranges in
-    rw ((single e).Single-of.ensures, second-read s, to_z-of_z f.other, to_z-of_z f.year, to_z-of_z f.span) at c.path_to-apart.ensures
+    rw ((single e).single_of-single.ensures, second-read s, to_z-of_z f.other, to_z-of_z f.year, to_z-of_z f.span) at c.path_to-apart.ensures
 
 -- ---- the answer
 
@@ -162,10 +165,11 @@ counts k x y z span e = rw e
 
 pub couple_along-requires : goal.couple_along-requires
 couple_along-requires c =
-    let d = c.before.before in
+    let b = c.before in
+    let d = b.before.before in
     let e = d.before.before in
     let s = begun e in
-    rw (first-path d, second-path c) (
+    rw (first-path d, second-path b) (
       path-within s.args.first s.args.kind s.args.age s.args.year s.args.span s.requires.0 (first-in e),
       path-within s.args.second s.args.kind s.args.other s.args.year s.args.span s.requires.1 (second-in e),
       counts (single_of s.args.kind) s.args.age s.args.other s.args.year s.args.span (same (else₁ (tested e))),

@@ -1,8 +1,6 @@
 -- `target_of` meets its contract: a set out of its limits is refused, any other is answered.
-use mathlib.Core.Bool.{not}
 use mathlib.Core.Path.{ap}
 use borrow.Author.Rules.{rules}
-use borrow.Author.Tests.{not-true, not-false}
 use mathlib.Core.Path.{◌≡◌, sym, ◌∙◌}
 use lib.IntN.{ℤ}
 use mir.Facts.{to_z-of_z}
@@ -21,13 +19,15 @@ met {p} {age} {target} e = (e, rw e (honest p age target))
 
 pub returns-then-not-in_limits : goal.returns-then-not-in_limits
 returns-then-not-in_limits c =
-    let s = c.before.before in
-    met (out-of-limits s.args.p s.args.age s.args.target (sym c.before.in_limits.ensures ∙ not-true _ (ap not c.if-not-in_limits.true)))
+    let a = c.args in
+    let r = out-of-limits a.p a.age a.target (sym c.in_limits.ensures ∙ c.if-not-in_limits.true) in
+    record { answered = r; honest = (met r).1 }
 
 pub target_within-requires : goal.target_within-requires
-target_within-requires c = rw (sym c.before.in_limits.ensures ∙ not-false _ (ap not c.if-not-in_limits.false)) tt
+target_within-requires c = rw (sym c.before.in_limits.ensures ∙ c.if-not-in_limits.false) tt
 
 pub returns : goal.returns
 returns c =
-    let f = c.before.before.before.ranges in
-    met (rw (to_z-of_z f.age, to_z-of_z f.target) at c.target_within.ensures)
+    let f = c.ranges in
+    let r = rw (to_z-of_z f.age, to_z-of_z f.target) at c.target_within.ensures in
+    record { answered = r; honest = (met r).1 }

@@ -1,12 +1,10 @@
 -- `target_within` meets its contract. The loop's invariant: what is found is what the years after n tell, and their cells are in
 -- range; the measure is n.
-use mathlib.Core.Bool.{not}
 use mathlib.Core.Path.{◌≡◌, refl, ap, sym, ◌∙◌}
 use mathlib.Core.Bool.{Bool, true, false}
 use Prim.Native.Nat.{ℕ, suc, ◌-◌, ◌≤◌}
 use native.Mathlib.Omega.{arith}
 use borrow.Author.Rules.{rules}
-use borrow.Author.Tests.{not-true, not-false}
 use lib.Dec.{T}
 use mir.Syntax.{w64}
 use mir.Val.{to_z}
@@ -32,21 +30,24 @@ use Rattle.set_params.specs.declared.Params.{Params}
 use Rattle.quote_target.specs.laws.PeriodLaws.{start_under, period_quote, period-answer}
 use Rattle.quote_target.specs.laws.SoughtLaws.{sought-back, range_back, range-out, no-such-age, out_of_range, all-in-range}
 use Rattle.quote_target.proofs.target_within.Goals as goal
+use Rattle.quote_target.proofs.target_within.Tie as tie
+use Rattle.quote_target.proofs.target_within.Lts as lts
+use Rattle.quote_target.proofs.target_within.Reads as reads
 
 -- ---- the start of the loop, and the function's, seen from the places in the loop
 
 -- the age is the table's
-age-test : (c : goal.After-between) → c.between.result ≡ age_in_table c.before.args.age
+age-test : (c : lts.After-between tie.the-claims reads.Pre reads.Post goal.the-invariant-loop-n goal.the-decreases-loop-n) → c.between.result ≡ age_in_table c.before.args.age
 unfolding age_in_table
 age-test c = rw (to_z-of_z c.before.ranges.age) at c.between.ensures
 
 pub returns-then-not-between : goal.returns-then-not-between
 returns-then-not-between c =
     let s = c.before.before in
-    no-such-age s.args.p s.args.age s.args.target s.requires (sym (age-test c.before) ∙ not-true _ (ap not c.if-not-between.true))
+    no-such-age s.args.p s.args.age s.args.target s.requires (sym (age-test c.before) ∙ c.if-not-between.true)
 
 age-in : (c : goal.Else-not-between) → T (age_in_table c.before.before.args.age)
-age-in c = rw (sym (age-test c.before) ∙ not-false _ (ap not c.if-not-between.false)) tt
+age-in c = rw (sym (age-test c.before) ∙ c.if-not-between.false) tt
 
 pub loop-n-init : goal.loop-n-init
 unfolding sought_from in_range_from
@@ -70,11 +71,11 @@ pub overflow_cast-year : goal.overflow_cast-year
 overflow_cast-year c = let l = c.before in number_fits l.loop-n.n l.loop-n.invariant.2
 
 pub overflow_add-year : goal.overflow_add-year
-overflow_add-year c = let l = c.before.before.before in (year-read l.before.before.before l.loop-n.n l.loop-n.invariant.2).0
+overflow_add-year c = let l = c.before.before.before.before in (year-read l.before.before.before l.loop-n.n l.loop-n.invariant.2).0
 
 -- ---- the year's answer
 
-module _ (w : goal.After-answer_within-answer) where
+module _ (w : lts.After-answer_within tie.the-claims reads.Pre reads.Post goal.the-invariant-loop-n goal.the-decreases-loop-n) where
   answer-is : let l = w.before.before.before.before in let s = l.before.before.before in
       w.answer_within-answer.result ≡ answer_for false s.args.p PeriodExpectancy s.args.age (s.args.p.start +ℤ pos l.loop-n.n) (pos 0)
   answer-is =
@@ -102,7 +103,7 @@ quoted-when false q e = clash cc
 
 pub returns-in_default : goal.returns-in_default
 returns-in_default c =
-    let w = c.before.before in
+    let w = c.before in
     let l = w.before.before.before.before in
     let s = l.before.before.before in
     let o = refused-when _ _ (sym (decided w) ∙ c.in_default.is) in
@@ -120,7 +121,7 @@ quote-ends p age n e = rw (← e)
 
 pub loop-n-preserved : goal.loop-n-preserved
 loop-n-preserved c =
-    let w = c.before.before.before.before in
+    let w = c.before.before.before in
     let l = w.before.before.before.before in
     let s = l.before.before.before in
     let n = l.loop-n.n in
@@ -129,7 +130,7 @@ loop-n-preserved c =
     let h : first_years ≤ n = omega arith in
     let a = to_z-of_z s.ranges.age in
     let k = quoted-when (period_in_range p age n) (period_quote p age n)
-    (sym (decided w) ∙ c.before.before.in-Quoted.is) in (
+    (sym (decided w) ∙ c.in-Quoted.is) in (
       told-by refl (quote-ends p age n k.1 ∙ ap (λ (x : ℤ). period_ends p x n) (sym a)) (year-read s n l.loop-n.invariant.2).1 l.loop-n.invariant.0
           c.year_tells-found.ensures
           ∙ sym (sought-back p (bits age) (bits s.args.target) n h l.loop-n.invariant.2),

@@ -33,8 +33,8 @@ use Rattle.quote_target.proofs.target_within.Given as goal
 
 abbrev pub invariant-loop-n : goal.invariant-loop-n
 invariant-loop-n l =
-    (l.found ≡ sought_from l.p (to_z w64 l.age) (to_z w64 l.target) (suc l.n) (quote_years - l.n))
-    × (in_range_from l.p (to_z w64 l.age) (suc l.n) (quote_years - l.n) ≡ true) × (l.n ≤ quote_years)
+    (l.found ≡ sought_from l.p l.age l.target (suc l.n) (quote_years - l.n))
+    × (in_range_from l.p l.age (suc l.n) (quote_years - l.n) ≡ true) × (l.n ≤ quote_years)
 
 abbrev pub decreases-loop-n : goal.decreases-loop-n
 decreases-loop-n l = l.n

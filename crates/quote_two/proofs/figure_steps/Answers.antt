@@ -8,7 +8,7 @@ use Rattle.quote_two.proofs.figure_steps.Goals as goal
 
 pub returns-in-Printed : goal.returns-in-Printed
 unfolding steps_shown shown_of
-returns-in-Printed c = sym (ap (λ (f : Figure). steps_shown (shown_of f)) c.before.in-Printed.is)
+returns-in-Printed c = sym (ap (λ (f : Figure). steps_shown (shown_of f)) c.in-Printed.is)
 
 pub returns-in-Open : goal.returns-in-Open
 unfolding steps_shown shown_of

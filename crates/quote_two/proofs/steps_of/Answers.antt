@@ -14,4 +14,4 @@ pub returns : goal.returns
 unfolding figure_shown
 returns c =
     c.figure_steps.ensures
-    ∙ sym (ap (λ (a : Answer). steps_shown (figure_shown a)) c.before.before.in-Quoted.is)
+    ∙ sym (ap (λ (a : Answer). steps_shown (figure_shown a)) c.in-Quoted.is)
