@@ -84,4 +84,4 @@ returns c =
     let t = asked (one c₂.before) in
     let s = t.args in
     put_as (sym (both s.ends s.unit s.lower s.upper (ap not t.if-not-ends.false)))
-    (three-put (texts t) (first (one c₂.before)) (second c₂) c.put_unit.ensures)
+    (three-put (texts t) (first (one c₂.before)) (second c₂.before) c.put_unit.ensures)

@@ -29,14 +29,14 @@ put_text-place-requires c = (three-first (texts c.before.before.before.before)).
 
 pub put_units-end-requires : goal.put_units-end-requires
 unfolding bytes_of
-put_units-end-requires c = (c.requires.0.least, three-second (texts c.before) (put_of c.put_text-place.ensures))
+put_units-end-requires c = (c.requires.0.least, three-second (texts c.before.before.before.before.before.before.before.before.before.before) (put_of c.put_text-place.ensures))
 
 pub put_units-requires : goal.put_units-requires
 unfolding bytes_of
 put_units-requires c =
-    (c.requires.0.most, three_third (texts c.before) (put_of c.put_text-place.ensures) c.put_units-end.ensures)
+    (c.requires.0.most, three_third (texts c.before.before.before.before.before.before.before.before.before.before.before.before.before.before.before.before) (put_of c.put_text-place.ensures) c.put_units-end.ensures)
 
 pub returns : goal.returns
 unfolding excess_text bytes_of
 returns c =
-    three-put (texts c.before) (put_of c.put_text-place.ensures) c.put_units-end.ensures c.put_units.ensures
+    three-put (texts c.before.before.before.before.before.before.before.before.before.before.before.before.before.before.before.before.before.before.before) (put_of c.put_text-place.ensures) c.put_units-end.ensures c.put_units.ensures

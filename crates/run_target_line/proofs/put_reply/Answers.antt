@@ -28,4 +28,4 @@ put_found-requires c =
     (rw (found w) (found-sized s.args.p s.requires.0 s.args.query.age s.args.query.target), room_as (text w) s.requires.1)
 
 pub returns : goal.returns
-returns c = put_as (sym (text c.before)) c.put_found.ensures
+returns c = put_as (sym (text c.before.before.before.before)) c.put_found.ensures

@@ -35,4 +35,4 @@ pub returns : goal.returns
 unfolding verdict_line
 returns c =
     let w = c.before.before.before.before.before.before in
-    put-join (year w) c.put_judged.ensures (room (start w))
+    put-join (year w.before) c.put_judged.ensures (room (start w.before))
