@@ -51,8 +51,8 @@ def main():
     lists = {"Lib.antt", "code.antt", "laws.antt", "examples.antt"}
     hold("no other file stands with the definitions", {path for path in above if pathlib.Path(path).name not in lists} == reached)
 
-    law = "use Rattle·number_exponential.specs.laws.Soundness.{lower-sound}\n"
-    word = "use Rattle·text_printing.specs.code.Put.{Put}\n"
+    law = "use Rattle.number_exponential.specs.laws.Soundness.{lower-sound}\n"
+    word = "use Rattle.text_printing.specs.code.Put.{Put}\n"
     for what, path, more in (
         ("a law in a definition", "crates/quote_kinds/specs/Kinds.antt", law),
         ("a law far below", "crates/number_fraction/specs/Ratio.antt", law),
