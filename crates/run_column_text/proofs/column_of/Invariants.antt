@@ -16,6 +16,13 @@ use Rattle.run_column_text.specs.code.Code.{list_read, with_row}
 use Rattle.run_column_text.specs.laws.RowLaws.{row-long, line_at, column_from, from_start, from_step, from_end, from_past}
 use Rattle.run_column_text.proofs.column_of.Given as goal
 
+-- after x rows
+pub record Read (bytes steps : List ℕ) (x at : ℕ) : Type 0 where
+  pub most : x ≤ column_lines
+  pub within : at ≤ length bytes
+  pub long : length steps ≡ column_lines
+  pub whole : column_of bytes ≡ column_from bytes at steps x
+
 abbrev pub invariant-loop-x : goal.invariant-loop-x
 invariant-loop-x l = Read l.bytes l.steps l.x l.at
 

@@ -19,15 +19,15 @@ loop-left-init c = (room-start (omega arith) (omega arith), refl)
 pub returns-then-bytes-next : goal.returns-then-bytes-next
 returns-then-bytes-next c =
     let l = c.before.before.loop-left in
-    sym (l.invariant.1 ∙ place-past _ l.value l.false l.next (omega arith) (omega arith))
+    sym (l.invariant.1 ∙ place-past _ l.value l.left l.next (omega arith) (omega arith))
 
 pub returns-then-digit-lt48 : goal.returns-then-digit-lt48
 returns-then-digit-lt48 c =
     let l = c.before.before.before.before.loop-left in
     sym
     (l.invariant.1
-    ∙ place_other _ l.value l.false l.next (omega arith) (omega arith)
-    (⊎_elim (λ w. digit-below _ (omega arith)) (λ w. digit-above _ (omega (arith, ltb-true))) c.if-digit-lt48.branch))
+    ∙ place_other _ l.value l.left l.next (omega arith) (omega arith)
+    (⊎_elim (λ w. digit-below _ (omega arith)) (λ w. digit-above _ (omega (arith, ltb-true))) c.then-digit-lt48.either))
 
 pub overflow_mul-value : goal.overflow_mul-value
 overflow_mul-value c = omega (arith, room_bound c.before.before.before.before.before.loop-left.invariant.0)
@@ -41,14 +41,14 @@ overflow_add-value c = omega (arith, ltb-false, room_bound c.before.before.befor
 pub loop-left-preserved : goal.loop-left-preserved
 loop-left-preserved c =
     let l = c.before.before.before.before.before.loop-left in (
-      room_next l.false (omega arith) (omega (arith, ltb-false)) l.invariant.0,
+      room_next l.left (omega arith) (omega (arith, ltb-false)) l.invariant.0,
       l.invariant.1
-          ∙ place-digit _ l.value l.false l.next (omega arith) (omega arith)
+          ∙ place-digit _ l.value l.left l.next (omega arith) (omega arith)
           (digit-between _ (omega arith) (omega (arith, ltb-false))),
     )
 
 pub returns : goal.returns
 returns c =
     let l = c.before.loop-left in
-    let e : l.false ≡ 0 = omega arith in
+    let e : l.left ≡ 0 = omega arith in
     sym (rw e at l.invariant.1 ∙ read_all l.value _)

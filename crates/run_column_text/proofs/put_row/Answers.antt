@@ -35,20 +35,16 @@ row_as : (s : List ℕ) (x : ℕ) (line : List ℕ) {e : Entry} {b : Bool} → r
 unfolding with_row
 row_as s x line {e = e} q h = goes _ q ∙ ap (λ (b : Bool). list_read b (set s x e.steps)) h
 
-entry-taken : (c : goal.In-Of-2) → let s = c.before.before.before.before.args in
-    read_entry s.line.now ≡ taken c.in-Of.entry-1 []
-entry-taken c = sym c.before.before.entry_of.ensures ∙ ap entry_read c.in-Of.is
-
 pub returns-in_default : goal.returns-in_default
 unfolding with_row
-returns-in_default c = sym (stops _ (sym c.before.before.entry_of.ensures ∙ ap entry_read c.in_default.is))
+returns-in_default c = sym (stops _ (sym c.entry_of.ensures ∙ ap entry_read c.in_default.is))
 
 pub returns-then-entry-x : goal.returns-then-entry-x
 returns-then-entry-x c =
-    let e = c.before.before.before.before in
-    sym (row_as _ _ _ (entry-taken e) (age-other _ _ (λ q. omega arith)))
+    let entry-taken : let s = c.args in read_entry s.line.now ≡ taken c.in-Of.entry [] = sym c.entry_of.ensures ∙ ap entry_read c.in-Of.is in
+    sym (row_as _ _ _ entry-taken (age-other _ _ (λ q. omega arith)))
 
 pub returns : goal.returns
 returns c =
-    let k = c.before.before.before in
-    sym (row_as _ _ _ (entry-taken k.before) (age-own _ _ k.known_told-1.given.0.1.1.0.1 (omega arith) (omega arith)))
+    let entry-taken : let s = c.args in read_entry s.line.now ≡ taken c.in-Of.entry [] = sym c.entry_of.ensures ∙ ap entry_read c.in-Of.is in
+    sym (row_as _ _ _ entry-taken (age-own _ _ c.in-Of.known_told-1-own.given.0.1.1.0.1 (omega arith) (omega arith)))

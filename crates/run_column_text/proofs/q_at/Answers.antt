@@ -17,42 +17,31 @@ use Rattle.run_column_text.proofs.q_at.Goals as goal
 
 -- ---- the place where the first digit is read, seen from the point
 
-abbrev entry : goal.In-Unsigned → goal.Start
-entry c = c.before.before.before.before.before
-
-abbrev told : goal.After-text_at → goal.In-Unsigned
-told c = c.before.before
-
-first_taken : (c : goal.In-Unsigned) → let s = (entry c).args in let g = c.before.first-1.given.0 in
-    read_digits 0 wholes (drop s.at s.bytes.now) ≡ taken g.0 (drop g.1.0 s.bytes.now)
-first_taken c = unsigned-taken _ c.before.before.before.digits_at.ensures c.before.in-Unsigned.is
-
-after_first : (c : goal.In-Unsigned) → let s = (entry c).args in let g = c.before.first-1.given.0 in
-    read_q (drop s.at s.bytes.now) ≡ from_point g.0 (drop g.1.0 s.bytes.now)
-after_first c = digit-taken _ (first_taken c)
-
 -- ---- the needs
 
 pub returns-in_default : goal.returns-in_default
-returns-in_default c = sym (digit-malformed _ (unsigned-malformed _ c.before.before.digits_at.ensures c.in_default.is))
+returns-in_default c = sym (digit-malformed _ (unsigned-malformed _ c.digits_at.ensures c.in_default.is))
 
 pub returns-then-not-text_at : goal.returns-then-not-text_at
 unfolding bytes_of
 returns-then-not-text_at c =
-    let t = c.before in
-    sym (after_first (told t) ∙ stops _ (text-missing _ _ (bytes_of ".") (lacks t.text_at.ensures (ap not c.if-not-text_at.true))))
+    let first_taken : let s = c.args in read_digits 0 wholes (drop s.at s.bytes.now) ≡ taken c.in-Unsigned.first (drop c.in-Unsigned.after s.bytes.now) = unsigned-taken _ c.digits_at.ensures c.in-Unsigned.is in
+    let after_first : let s = c.args in read_q (drop s.at s.bytes.now) ≡ from_point c.in-Unsigned.first (drop c.in-Unsigned.after s.bytes.now) = digit-taken _ first_taken in
+    sym (after_first ∙ stops _ (text-missing _ _ (bytes_of ".") (lacks c.text_at.ensures (ap not c.if-not-text_at.true))))
 
 pub overflow_add-after : goal.overflow_add-after
 overflow_add-after c =
-    omega (arith, (entry (told c.before)).well_formed.0, text-room _ _ _ (has c.before.text_at.ensures (ap not c.if-not-text_at.false)))
+    omega (arith, c.well_formed.0, text-room _ _ _ (has c.text_at.ensures (ap not c.if-not-text_at.false)))
 
 pub digits_at-requires-2 : goal.digits_at-requires-2
-digits_at-requires-2 c = (omega arith, omega (arith, digits-small _ _ _ (first_taken (told c.before))))
+digits_at-requires-2 c =
+    let first_taken : let s = c.args in read_digits 0 wholes (drop s.at s.bytes.now) ≡ taken c.in-Unsigned.first (drop c.in-Unsigned.after s.bytes.now) = unsigned-taken _ c.digits_at.ensures c.in-Unsigned.is in
+    (omega arith, omega (arith, digits-small _ _ _ first_taken))
 
 pub returns : goal.returns
 unfolding bytes_of
 returns c =
-    let e = c.before in
-    let t = e.before in
+    let first_taken : let s = c.args in read_digits 0 wholes (drop s.at s.bytes.now) ≡ taken c.in-Unsigned.first (drop c.in-Unsigned.after s.bytes.now) = unsigned-taken _ c.digits_at.ensures c.in-Unsigned.is in
+    let after_first : let s = c.args in read_q (drop s.at s.bytes.now) ≡ from_point c.in-Unsigned.first (drop c.in-Unsigned.after s.bytes.now) = digit-taken _ first_taken in
     c.digits_at-2.ensures
-    ∙ sym (after_first (told t) ∙ goes _ (text-found _ _ (bytes_of ".") (has t.text_at.ensures (ap not e.if-not-text_at.false))))
+    ∙ sym (after_first ∙ goes _ (text-found _ _ (bytes_of ".") (has c.text_at.ensures (ap not c.if-not-text_at.false))))
