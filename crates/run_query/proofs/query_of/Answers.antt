@@ -19,135 +19,138 @@ use Rattle.run_query.proofs.query_of.Goals as goal
 
 -- ---- the places where a part is read, seen from the next
 
-abbrev entry : goal.Else-not-text_at → goal.Start
-entry c = c.before.before.before.before
-
-abbrev line : goal.Else-not-text_at → List ℕ
-line c = (entry c).args.line.now
-
-abbrev start : goal.In-Of → goal.Else-not-text_at
-start c = c.before.before.before.before
-
-abbrev told : goal.In-Number → goal.In-Of
-told c = c.before.before.before.before.before
-
-abbrev told₂ : goal.In-Number-field_at → goal.In-Number
-told₂ c = c.before.before.before.before.before
-
-abbrev told₃ : goal.In-Number-term_at → goal.In-Number-field_at
-told₃ c = c.before.before.before.before
-
-abbrev told₄ : goal.In-Of-rate_at → goal.In-Number-term_at
-told₄ c = c.before.before.before.before
-
-abbrev told₅ : goal.After-ends_at → goal.In-Of-rate_at
-told₅ c = c.before
-
--- the query that was read
-asked : goal.In-Of-rate_at → Query
-asked c =
-    let c₄ = told₄ c in
-    let c₃ = told₃ c₄ in
-    let c₂ = told₂ c₃ in
-    record {
-      kind = c.before.in-Of-rate_at.kind-1;
-      age = c₂.before.in-Number.age-1;
-      year = c₃.before.in-Number-field_at.year-1;
-      term = c₄.before.in-Number-term_at.term-1;
-    }
-
 -- ---- what each part leaves to be read
-
-after-start : (c : goal.Else-not-text_at) → let l = line c in read_query l ≡ from_word (drop 5 l)
-unfolding bytes_of
-after-start c = start-taken _ (text-found _ 0 (bytes_of "kind=") (has c.before.text_at.ensures (ap not c.if-not-text_at.false)))
-
-after-word : (c : goal.In-Of) → let l = line (start c) in let g = c.before.word-1.given.0 in
-    read_query l ≡ from_age g.0 (drop g.1.0 l)
-after-word c =
-    after-start (start c)
-    ∙ goes _ (kind-taken _ c.before.before.before.kind_at.ensures c.before.in-Of.is)
-
-after-age : (c : goal.In-Number) → let c₁ = told c in let l = line (start c₁) in
-    let g = c.before.age-1.given.0 in
-    read_query l ≡ from_year c₁.before.in-Of.word-1 g.0 (drop g.1.0 l)
-unfolding bytes_of
-after-age c =
-    after-word (told c)
-    ∙ goes _ (read_taken _ c.before.before.before.field_at.ensures c.before.in-Number.is)
-
-after-year : (c : goal.In-Number-field_at) → let c₂ = told₂ c in let c₁ = told c₂ in let l = line (start c₁) in
-    let g = c.before.year-1.given.0 in
-    read_query l ≡ from_term c₁.before.in-Of.word-1 c₂.before.in-Number.age-1 g.0 (drop g.1.0 l)
-unfolding bytes_of
-after-year c =
-    after-age (told₂ c)
-    ∙ goes _ (read_taken _ c.before.before.before.field_at-2.ensures c.before.in-Number-field_at.is)
-
-after-term : (c : goal.In-Number-term_at) → let c₃ = told₃ c in let c₂ = told₂ c₃ in let c₁ = told c₂ in
-    let l = line (start c₁) in
-    let g = c.before.term-1.given.0 in
-    read_query l
-    ≡ from_rate c₁.before.in-Of.word-1 c₂.before.in-Number.age-1 c₃.before.in-Number-field_at.year-1 g.0
-    (drop g.1.0 l)
-unfolding bytes_of
-after-term c =
-    after-year (told₃ c)
-    ∙ goes _ (read_taken _ c.before.before.before.term_at.ensures c.before.in-Number-term_at.is)
-
-after-rate : (c : goal.In-Of-rate_at) → let l = line (start (told (told₂ (told₃ (told₄ c))))) in
-    read_query l ≡ ended (asked c) (drop c.before.in-Of-rate_at.after_rate l)
-unfolding asked bytes_of
-after-rate c =
-    after-term (told₄ c)
-    ∙ goes _ (kind-taken _ c.before.before.before.rate_at.ensures c.before.in-Of-rate_at.is)
 
 -- ---- the needs
 
 pub returns-then-not-text_at : goal.returns-then-not-text_at
 unfolding bytes_of
-returns-then-not-text_at c = sym (start-malformed _ (text-missing _ 0 (bytes_of "kind=") (lacks c.before.text_at.ensures (ap not c.if-not-text_at.true))))
+returns-then-not-text_at c = sym (start-malformed _ (text-missing _ 0 (bytes_of "kind=") (lacks c.text_at.ensures (ap not c.if-not-text_at.true))))
 
 pub returns-in_default : goal.returns-in_default
+unfolding bytes_of
 returns-in_default c =
-    let k = c.before.before in
-    sym (after-start k.before ∙ stops _ (kind-malformed _ k.kind_at.ensures c.in_default.is))
+    let line : List ℕ = c.args.line.now in
+    let after-start : let l = line in read_query l ≡ from_word (drop 5 l) = start-taken _ (text-found _ 0 (bytes_of "kind=") (has c.text_at.ensures (ap not c.if-not-text_at.false))) in
+    sym (after-start ∙ stops _ (kind-malformed _ c.kind_at.ensures c.in_default.is))
 
 pub returns-in_default-field_at : goal.returns-in_default-field_at
 unfolding bytes_of
 returns-in_default-field_at c =
-    let f = c.before.before in
-    sym (after-word f.before.before ∙ stops _ (read-malformed _ f.field_at.ensures c.in_default-field_at.is))
+    let line : List ℕ = c.args.line.now in
+    let after-start : let l = line in read_query l ≡ from_word (drop 5 l) = start-taken _ (text-found _ 0 (bytes_of "kind=") (has c.text_at.ensures (ap not c.if-not-text_at.false))) in
+    let after-word : let l = line in read_query l ≡ from_age c.in-Of.word (drop c.in-Of.after_word l) =
+        after-start
+        ∙ goes _ (kind-taken _ c.kind_at.ensures c.in-Of.is) in
+    sym (after-word ∙ stops _ (read-malformed _ c.field_at.ensures c.in_default-field_at.is))
 
 pub returns-in_default-field_at-2 : goal.returns-in_default-field_at-2
 unfolding bytes_of
 returns-in_default-field_at-2 c =
-    let f = c.before.before in
-    sym (after-age f.before.before ∙ stops _ (read-malformed _ f.field_at-2.ensures c.in_default-field_at-2.is))
+    let line : List ℕ = c.args.line.now in
+    let after-start : let l = line in read_query l ≡ from_word (drop 5 l) = start-taken _ (text-found _ 0 (bytes_of "kind=") (has c.text_at.ensures (ap not c.if-not-text_at.false))) in
+    let after-word : let l = line in read_query l ≡ from_age c.in-Of.word (drop c.in-Of.after_word l) =
+        after-start
+        ∙ goes _ (kind-taken _ c.kind_at.ensures c.in-Of.is) in
+    let after-age : let l = line in read_query l ≡ from_year c.in-Of.word c.in-Number.age (drop c.in-Number.after_age l) =
+        after-word
+        ∙ goes _ (read_taken _ c.field_at.ensures c.in-Number.is) in
+    sym (after-age ∙ stops _ (read-malformed _ c.field_at-2.ensures c.in_default-field_at-2.is))
 
 pub returns-in_default-term_at : goal.returns-in_default-term_at
+unfolding bytes_of
 returns-in_default-term_at c =
-    let f = c.before.before in
-    sym (after-year f.before ∙ stops _ (read-malformed _ f.term_at.ensures c.in_default-term_at.is))
+    let line : List ℕ = c.args.line.now in
+    let after-start : let l = line in read_query l ≡ from_word (drop 5 l) = start-taken _ (text-found _ 0 (bytes_of "kind=") (has c.text_at.ensures (ap not c.if-not-text_at.false))) in
+    let after-word : let l = line in read_query l ≡ from_age c.in-Of.word (drop c.in-Of.after_word l) =
+        after-start
+        ∙ goes _ (kind-taken _ c.kind_at.ensures c.in-Of.is) in
+    let after-age : let l = line in read_query l ≡ from_year c.in-Of.word c.in-Number.age (drop c.in-Number.after_age l) =
+        after-word
+        ∙ goes _ (read_taken _ c.field_at.ensures c.in-Number.is) in
+    let after-year : let l = line in read_query l ≡ from_term c.in-Of.word c.in-Number.age c.in-Number-field_at.year (drop c.in-Number-field_at.after_year l) =
+        after-age
+        ∙ goes _ (read_taken _ c.field_at-2.ensures c.in-Number-field_at.is) in
+    sym (after-year ∙ stops _ (read-malformed _ c.term_at.ensures c.in_default-term_at.is))
 
 pub returns-in_default-rate_at : goal.returns-in_default-rate_at
+unfolding bytes_of
 returns-in_default-rate_at c =
-    let k = c.before.before in
-    sym (after-term k.before ∙ stops _ (kind-malformed _ k.rate_at.ensures c.in_default-rate_at.is))
+    let line : List ℕ = c.args.line.now in
+    let after-start : let l = line in read_query l ≡ from_word (drop 5 l) = start-taken _ (text-found _ 0 (bytes_of "kind=") (has c.text_at.ensures (ap not c.if-not-text_at.false))) in
+    let after-word : let l = line in read_query l ≡ from_age c.in-Of.word (drop c.in-Of.after_word l) =
+        after-start
+        ∙ goes _ (kind-taken _ c.kind_at.ensures c.in-Of.is) in
+    let after-age : let l = line in read_query l ≡ from_year c.in-Of.word c.in-Number.age (drop c.in-Number.after_age l) =
+        after-word
+        ∙ goes _ (read_taken _ c.field_at.ensures c.in-Number.is) in
+    let after-year : let l = line in read_query l ≡ from_term c.in-Of.word c.in-Number.age c.in-Number-field_at.year (drop c.in-Number-field_at.after_year l) =
+        after-age
+        ∙ goes _ (read_taken _ c.field_at-2.ensures c.in-Number-field_at.is) in
+    let after-term : let l = line in read_query l ≡ from_rate c.in-Of.word c.in-Number.age c.in-Number-field_at.year c.in-Number-term_at.term (drop c.in-Number-term_at.after_term l) =
+        after-year
+        ∙ goes _ (read_taken _ c.term_at.ensures c.in-Number-term_at.is) in
+    sym (after-term ∙ stops _ (kind-malformed _ c.rate_at.ensures c.in_default-rate_at.is))
 
 pub returns-then-not-ends_at : goal.returns-then-not-ends_at
+unfolding bytes_of
 returns-then-not-ends_at c =
-    sym (after-rate (told₅ c.before) ∙ line-goes-on _ _ (lacks c.before.ends_at.ensures (ap not c.if-not-ends_at.true)))
+    let line : List ℕ = c.args.line.now in
+    let asked : Query =
+        record {
+          kind = c.in-Of-rate_at.kind;
+          age = c.in-Number.age;
+          year = c.in-Number-field_at.year;
+          term = c.in-Number-term_at.term;
+        } in
+    let after-start : let l = line in read_query l ≡ from_word (drop 5 l) = start-taken _ (text-found _ 0 (bytes_of "kind=") (has c.text_at.ensures (ap not c.if-not-text_at.false))) in
+    let after-word : let l = line in read_query l ≡ from_age c.in-Of.word (drop c.in-Of.after_word l) =
+        after-start
+        ∙ goes _ (kind-taken _ c.kind_at.ensures c.in-Of.is) in
+    let after-age : let l = line in read_query l ≡ from_year c.in-Of.word c.in-Number.age (drop c.in-Number.after_age l) =
+        after-word
+        ∙ goes _ (read_taken _ c.field_at.ensures c.in-Number.is) in
+    let after-year : let l = line in read_query l ≡ from_term c.in-Of.word c.in-Number.age c.in-Number-field_at.year (drop c.in-Number-field_at.after_year l) =
+        after-age
+        ∙ goes _ (read_taken _ c.field_at-2.ensures c.in-Number-field_at.is) in
+    let after-term : let l = line in read_query l ≡ from_rate c.in-Of.word c.in-Number.age c.in-Number-field_at.year c.in-Number-term_at.term (drop c.in-Number-term_at.after_term l) =
+        after-year
+        ∙ goes _ (read_taken _ c.term_at.ensures c.in-Number-term_at.is) in
+    let after-rate : let l = line in read_query l ≡ ended asked (drop c.in-Of-rate_at.after_rate l) =
+        after-term
+        ∙ goes _ (kind-taken _ c.rate_at.ensures c.in-Of-rate_at.is) in
+    sym (after-rate ∙ line-goes-on _ _ (lacks c.ends_at.ensures (ap not c.if-not-ends_at.true)))
 
 pub returns : goal.returns
-unfolding asked
+unfolding bytes_of
 returns c =
-    let c₄ = told₄ (told₅ c.before) in
-    let c₃ = told₃ c₄ in
-    let c₂ = told₂ c₃ in
+    let line : List ℕ = c.args.line.now in
+    let asked : Query =
+        record {
+          kind = c.in-Of-rate_at.kind;
+          age = c.in-Number.age;
+          year = c.in-Number-field_at.year;
+          term = c.in-Number-term_at.term;
+        } in
+    let after-start : let l = line in read_query l ≡ from_word (drop 5 l) = start-taken _ (text-found _ 0 (bytes_of "kind=") (has c.text_at.ensures (ap not c.if-not-text_at.false))) in
+    let after-word : let l = line in read_query l ≡ from_age c.in-Of.word (drop c.in-Of.after_word l) =
+        after-start
+        ∙ goes _ (kind-taken _ c.kind_at.ensures c.in-Of.is) in
+    let after-age : let l = line in read_query l ≡ from_year c.in-Of.word c.in-Number.age (drop c.in-Number.after_age l) =
+        after-word
+        ∙ goes _ (read_taken _ c.field_at.ensures c.in-Number.is) in
+    let after-year : let l = line in read_query l ≡ from_term c.in-Of.word c.in-Number.age c.in-Number-field_at.year (drop c.in-Number-field_at.after_year l) =
+        after-age
+        ∙ goes _ (read_taken _ c.field_at-2.ensures c.in-Number-field_at.is) in
+    let after-term : let l = line in read_query l ≡ from_rate c.in-Of.word c.in-Number.age c.in-Number-field_at.year c.in-Number-term_at.term (drop c.in-Number-term_at.after_term l) =
+        after-year
+        ∙ goes _ (read_taken _ c.term_at.ensures c.in-Number-term_at.is) in
+    let after-rate : let l = line in read_query l ≡ ended asked (drop c.in-Of-rate_at.after_rate l) =
+        after-term
+        ∙ goes _ (kind-taken _ c.rate_at.ensures c.in-Of-rate_at.is) in
     rw (
-      held c₂.before.in-Number.age-1 c₂.known_told-in-Number-1.given.0.1,
-      held c₃.before.in-Number-field_at.year-1 c₃.known_told-in-Number-field_at-2-1.given.0.1,
-      held c₄.before.in-Number-term_at.term-1 c₄.known_told-in-Number-term_at-1.given.0.1,
+      held c.in-Number.age c.in-Number.known_told-in-Number-1-own.given.0.1,
+      held c.in-Number-field_at.year c.in-Number-field_at.known_told-in-Number-field_at-2-1-own.given.0.1,
+      held c.in-Number-term_at.term c.in-Number-term_at.known_told-in-Number-term_at-1-own.given.0.1,
     )
-    (sym (after-rate (told₅ c.before) ∙ line-ended _ _ (has c.before.ends_at.ensures (ap not c.if-not-ends_at.false))))
+    (sym (after-rate ∙ line-ended _ _ (has c.ends_at.ensures (ap not c.if-not-ends_at.false))))

@@ -11,26 +11,21 @@ use Rattle.run_query.proofs.QuerySteps.{rate-none, rate-malformed, rate-taken}
 use Rattle.run_query.proofs.rate_at.Goals as goal
 
 pub returns-then-not-takes_rate : goal.returns-then-not-takes_rate
-returns-then-not-takes_rate c = sym (rate-none _ _ (lacks c.before.takes_rate.ensures (ap not c.if-not-takes_rate.true)))
+returns-then-not-takes_rate c = sym (rate-none _ _ (lacks c.takes_rate.ensures (ap not c.if-not-takes_rate.true)))
 
 pub returns-in_default : goal.returns-in_default
 unfolding bytes_of
 returns-in_default c =
-    let f = c.before.before in
-    let t = f.before.before in
     sym
-    (rate-malformed _ _ (has t.before.takes_rate.ensures (ap not t.if-not-takes_rate.false))
-    (read-malformed _ f.field_at.ensures c.in_default.is))
+    (rate-malformed _ _ (has c.takes_rate.ensures (ap not c.if-not-takes_rate.false))
+    (read-malformed _ c.field_at.ensures c.in_default.is))
 
 pub returns : goal.returns
 unfolding bytes_of
 returns c =
-    let r = c.before.before in
-    let f = r.before.before in
-    let t = f.before.before in
-    let e = held r.in-Number.rate-1 c.before.known_told-1.given.0.1 in
-    ap (λ (k : Kind). taken k (drop r.in-Number.next t.before.before.before.args.bytes.now))
-    (c.with_rate.ensures ∙ ap (with_rate t.before.before.before.args.kind) e)
+    let e = held c.in-Number.rate c.in-Number.known_told-1-own.given.0.1 in
+    ap (λ (k : Kind). taken k (drop c.in-Number.next c.args.bytes.now))
+    (c.with_rate.ensures ∙ ap (with_rate c.args.kind) e)
     ∙ sym
-    (rate-taken _ _ (has t.before.takes_rate.ensures (ap not t.if-not-takes_rate.false))
-    (read_taken _ f.field_at.ensures r.in-Number.is))
+    (rate-taken _ _ (has c.takes_rate.ensures (ap not c.if-not-takes_rate.false))
+    (read_taken _ c.field_at.ensures c.in-Number.is))

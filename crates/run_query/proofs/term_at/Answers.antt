@@ -22,20 +22,14 @@ module _ (k : Kind) (bs : List ℕ) {r : Rule} (e : r ≡ rule_of k) where
   unfolding term_name
   of-span h = rw (← e, h)
 
-abbrev entry : goal.After-rule_of-rule → goal.Start
-entry c = c.before.before
-
-abbrev here : goal.After-rule_of-rule → List ℕ
-here c = drop (entry c).args.at (entry c).args.bytes.now
-
 pub returns-then-rule : goal.returns-then-rule
 unfolding bytes_of
 returns-then-rule c =
-    let t = c.before.before in
-    c.field_at.ensures ∙ of-date (entry t.before).args.kind (here t.before) t.before.rule_of-rule.ensures t.if-rule.true
+    let here : List ℕ = drop c.args.at c.args.bytes.now in
+    c.field_at.ensures ∙ of-date c.args.kind here c.rule_of-rule.ensures c.if-rule.true
 
 pub returns : goal.returns
 unfolding bytes_of
 returns c =
-    let t = c.before.before in
-    c.field_at-2.ensures ∙ of-span (entry t.before).args.kind (here t.before) t.before.rule_of-rule.ensures t.if-rule.false
+    let here : List ℕ = drop c.args.at c.args.bytes.now in
+    c.field_at-2.ensures ∙ of-span c.args.kind here c.rule_of-rule.ensures c.if-rule.false
