@@ -1,6 +1,7 @@
 // One cell of the table on a grid: p, the chance to live through the year, with two ends, from an age's
 // parameters at ages to 90 and by the closure above, which is fitted to the ages 80 to 90 of the year.
 #![tactic(auto)]
+
 ghost use Rattle.std.specs.Prelude.{◌≡◌, T};
 ghost use Rattle.number_exponential.specs.code.Flag.{grid_by};
 ghost use Rattle.model_log_force.specs.LogForce.{cell_force};

@@ -1,6 +1,7 @@
 // The closure: the weights of the fitted ages 80 to 90 at the ages 91 to 120, and G at these ages on the grid, the weighted
 // sum of H at the fitted ages over 110.
 #![tactic(auto)]
+
 ghost use Rattle.std.specs.Prelude.{◌≡◌};
 ghost use Rattle.number_whole.specs.code.Sizes.{Under, Within};
 ghost use Rattle.model_closure.specs.code.Totals.{weight_limit};

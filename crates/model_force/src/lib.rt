@@ -1,6 +1,7 @@
 // What a log force in range gives on a grid, each with two ends: the force and p at an age to 90, and H, to
 // which the closure is fitted; and q of p.
 #![tactic(auto)]
+
 ghost use Rattle.std.specs.Prelude.{◌≡◌, ◌≤◌};
 ghost use Rattle.number_exponential.specs.code.Flag.{grid_by};
 ghost use Rattle.number_exponential.specs.Exponential.{exp_between};

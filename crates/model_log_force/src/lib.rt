@@ -1,6 +1,7 @@
 // The log force of a cell on a grid, with two signed ends; and a year of the table: K and kappa, the year after, and the log
 // force at an age of it.
 #![tactic(auto)]
+
 ghost use Rattle.std.specs.Prelude.{◌≡◌};
 ghost use Rattle.number_exponential.specs.code.Flag.{grid_by};
 ghost use Rattle.model_log_force.specs.LogForce.{cell_force, in_range};

@@ -1,6 +1,7 @@
 // −ln(1 − u) on either grid, u in units: the sum of u^k/k, k = 1 to 28 or to 41, with two ends. What stands below
 // `log_between` takes a unit that is a constant in each call, so that the compiler makes a loop for each grid.
 #![tactic(auto)]
+
 ghost use Rattle.std.specs.Prelude.{◌≡◌, ◌*◌, ◌/◌, ◌≤◌, ◌<◌};
 ghost use Rattle.number_whole.specs.Division.{ceil_div_ℕ};
 ghost use Rattle.number_exponential.specs.code.Flag.{grid_by};

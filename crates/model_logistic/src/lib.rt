@@ -1,5 +1,6 @@
 // The logistic 1/(1 + e^−G) on a grid, from the ends of G.
 #![tactic(auto)]
+
 ghost use Rattle.std.specs.Prelude.{◌≡◌, cond, ◌*◌, ◌/◌, ◌≤◌};
 ghost use Rattle.number_whole.specs.Division.{ceil_div_ℕ};
 ghost use Rattle.number_whole.specs.code.Sizes.{Under, Within};

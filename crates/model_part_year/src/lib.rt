@@ -1,6 +1,7 @@
 // The cell of a part of a year on a grid: the chance to live through some of its days, with two ends, from the force
 // at any age.
 #![tactic(auto)]
+
 ghost use Rattle.std.specs.Prelude.{◌≡◌, ◌*◌, ◌≤◌, T};
 ghost use Rattle.number_exponential.specs.code.Flag.{grid_by};
 ghost use Rattle.number_exponential.specs.Exponential.{exp_between};

@@ -1,5 +1,6 @@
 // Dates as numbers, YYYYMMDD: which numbers are days, and of a day the year, the days since 1 January and the days of its year.
 #![tactic(auto)]
+
 ghost use Rattle.std.specs.Prelude.{◌≡◌, ◌≤◌, T, pos, nat_abs};
 ghost use Rattle.number_whole.specs.Listed.{listed};
 ghost use Rattle.quote_calendar.specs.Calendar.{date_year, leap_year, year_days, month_days, between, is_day, days_before, day_of_year};

@@ -2,6 +2,7 @@
 // first, then those above, whose H are worked once a year. A cell that no factor needs is not worked, and in one calendar year
 // the cell of age 120 is worked once, however many factors use it.
 #![tactic(auto)]
+
 ghost use Rattle.std.specs.Prelude.{◌≡◌, ◌-◌, ◌≤◌, ◌<◌, min, T};
 ghost use Rattle.number_exponential.specs.code.Flag.{grid_by};
 ghost use Rattle.model_closure.specs.Weights.{first_closed, last_closed};

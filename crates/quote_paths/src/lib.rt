@@ -2,6 +2,7 @@
 
 // A path over `count` years from an age in a year, counted from the start year: along the cohort, or in that one year.
 #![tactic(auto)]
+
 #[derive(Clone, Copy)]
 pub struct Path {
     pub cohort: bool,

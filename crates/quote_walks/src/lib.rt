@@ -1,5 +1,6 @@
 // The walk along a path at ages to 90 on a grid: p's ends at each of its cells, into an array by value.
 #![tactic(auto)]
+
 ghost use Rattle.std.specs.Prelude.{◌≡◌, ◌&&◌, ◌-◌, min, T, ltb};
 ghost use Rattle.number_exponential.specs.code.Flag.{grid_by};
 ghost use Rattle.model_closure.specs.Weights.{first_closed};

@@ -44,7 +44,7 @@ halving u =
       slack-small = elim u as (λ v. 2 * slack_upper (grid_of v) ≤ 3 * (grid_of v).unit) [ Coarse ↦ lit≤ tt | Fine ↦ lit≤ tt ];
       tested = elim u
           as (λ v. 6 * ((grid_of v).unit * taylor_den (grid_of v).unit 6) + 2 * slack_upper (grid_of v) * taylor_num ((grid_of v).scale * below highest_force) (grid_of v).unit 6
-            ≤ 3 * (grid_of v).unit * taylor_num ((grid_of v).scale * below highest_force) (grid_of v).unit 6) [ Coarse ↦ lit≤ tt | Fine ↦ lit≤ tt ];
+          ≤ 3 * (grid_of v).unit * taylor_num ((grid_of v).scale * below highest_force) (grid_of v).unit 6) [ Coarse ↦ lit≤ tt | Fine ↦ lit≤ tt ];
     }
 
 pub unit-fit : (u : GridUnit) → Fit (grid_of u)
