@@ -72,9 +72,9 @@ more-is c =
     elim c.if-is_open.branch [
       | then-is_open w ↦ w.more-is ∙ kept-open p year es x m (sym (open_is o) ∙ w.if-is_open.true) w.verdict_again-more.ensures
       | else-is_open w ↦
-        w.more-is
-        ∙ kept-printed p year es x m (sym (open_is o) ∙ w.if-is_open.false)
-        (c.age_verdict-more.ensures ∙ ap (λ (z : Figure). age_verdict (shown_of z) m) c.coarse_figure-figure.ensures)
+          w.more-is
+          ∙ kept-printed p year es x m (sym (open_is o) ∙ w.if-is_open.false)
+          (c.age_verdict-more.ensures ∙ ap (λ (z : Figure). age_verdict (shown_of z) m) c.coarse_figure-figure.ensures)
     ]
 
 pub loop-x-preserved : goal.loop-x-preserved
