@@ -1,6 +1,7 @@
 // Quotes of all kinds: any set, kind, age, year and term, a span or a date, give the two ends of the figure with the figure itself, or one
 // numbered refusal.
 #![tactic(auto)]
+
 ghost use Rattle.std.specs.Prelude.{◌≡◌, T};
 ghost use Rattle.set_limits.specs.InLimits.{in_limits};
 ghost use Rattle.set_params.specs.code.Within.{StartWithin};

@@ -1,6 +1,7 @@
 // The quote of a fold along a path and a part of a year after it: the two ends of the figure with the figure itself, or the
 // refusal of a cell out of range. A figure that the coarse ends leave open is worked again on the fine grid.
 #![tactic(auto)]
+
 ghost use Rattle.std.specs.Prelude.{◌≡◌, ◌&&◌, ◌≤◌};
 ghost use Rattle.number_exponential.specs.code.Flag.{unit_by};
 ghost use Rattle.quote_walks.specs.code.Code.{PathWithin};

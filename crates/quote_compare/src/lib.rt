@@ -2,6 +2,7 @@
 // first is below the second or above it, with the least and the most between them, or near, with the most that they can
 // differ by.
 #![tactic(auto)]
+
 ghost use Rattle.std.specs.Prelude.{◌≡◌, ◌-◌};
 ghost use Rattle.number_exponential.specs.Units.{grid_of};
 ghost use Rattle.quote.specs.Quote.{answer_of};

@@ -1,6 +1,7 @@
 // Quotes of couples: any two sets, kind, ages, year and span give the two ends of the figure with the figure itself, or one numbered
 // refusal. A figure that the coarse ends leave open is worked again on the fine grid.
 #![tactic(auto)]
+
 ghost use Rattle.std.specs.Prelude.{◌≡◌, T};
 ghost use Rattle.number_whole.specs.code.Sizes.{Under};
 ghost use Rattle.number_exponential.specs.code.Flag.{unit_by};

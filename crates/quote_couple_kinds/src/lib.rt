@@ -1,5 +1,6 @@
 // The kinds of a couple's figures: the status of the two lives that each asks for, and the single life's kind that it follows.
 #![tactic(auto)]
+
 ghost use Rattle.std.specs.Prelude.{◌≡◌};
 ghost use Rattle.quote_couple_kinds.specs.CoupleKinds.{single_of};
 ghost use Rattle.quote_couple_kinds.specs.code.Code.{status_of};

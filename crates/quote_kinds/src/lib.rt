@@ -1,5 +1,6 @@
 // The kinds of figure, and what each takes of a path: one rule a kind, and a step and a fold for each of four figures.
 #![tactic(auto)]
+
 ghost use Rattle.std.specs.Prelude.{◌≡◌, ◌*◌, ◌≤◌, T, take};
 ghost use Rattle.number_whole.specs.code.Sizes.{Under};
 ghost use Rattle.quote_calendar.specs.Calendar.{is_day};

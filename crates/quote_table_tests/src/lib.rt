@@ -1,5 +1,6 @@
 // The tests of an age, a year, a term and a rate against the table: refusals 3 to 5, 8 and 10.
 #![tactic(auto)]
+
 ghost use Rattle.std.specs.Prelude.{◌≡◌};
 ghost use Rattle.number_whole.specs.code.Sizes.{Under};
 ghost use Rattle.set_params.specs.Limits.{last_years};

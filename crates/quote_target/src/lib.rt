@@ -1,6 +1,7 @@
 // The year a target is reached: any set, age and target give the first quote year whose period expectancy reaches it, or tell that
 // the ends leave it open, that none does, or one numbered refusal.
 #![tactic(auto)]
+
 ghost use Rattle.std.specs.Prelude.{◌≡◌, T};
 ghost use Rattle.set_limits.specs.InLimits.{in_limits};
 ghost use Rattle.quote_target.specs.Target.{reaches, year_tells, target_answer};

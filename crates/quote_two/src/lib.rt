@@ -1,6 +1,7 @@
 // Two quotes, whichever their sets, kinds, ages, years, terms and rates: whether they are of one kind and, if so, whether their
 // figures are equal, and so whether their exact values round to one step. Proved from the contract of `quote_of` alone.
 #![tactic(auto)]
+
 ghost use Rattle.std.specs.Prelude.{◌≡◌};
 ghost use Rattle.quote_kinds.specs.Kinds.{OneKind};
 ghost use Rattle.quote.specs.Demand.{shown_of, figure_shown};

@@ -1,6 +1,7 @@
 // Two lives on a grid: the chance of a status from the two survivals, and its expectancy in one pass over two arrays
 // of factors.
 #![tactic(auto)]
+
 ghost use Rattle.std.specs.Prelude.{◌≡◌, take};
 ghost use Rattle.number_exponential.specs.code.Flag.{grid_by};
 ghost use Rattle.number_folds.specs.code.Code.{AtMost, Chances};

@@ -2,6 +2,7 @@
 // worked once on the coarse grid, and with them each age's figure and the year's closure; a figure that they leave open is asked of
 // its quote.
 #![tactic(auto)]
+
 ghost use Rattle.std.specs.Prelude.{◌≡◌, [], ◌<◌, T};
 ghost use Rattle.text_tokens.specs.Text.{taken};
 ghost use Rattle.number_exponential.specs.Units.{billionths};

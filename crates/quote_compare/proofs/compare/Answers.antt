@@ -15,22 +15,16 @@ small-quote e s = rw e at s
 
 pub pair_of-requires : goal.pair_of-requires
 pair_of-requires c =
-    let s = c.before in
-    let f = s.before.before.before in
-    let p = f.before.before.requires in
-    (small-quote f.in-Quoted.is p.0, small-quote s.in-Quoted-b.is p.1)
+    let p = c.requires in
+    (small-quote c.in-Quoted.is p.0, small-quote c.in-Quoted-b.is p.1)
 
 pub returns-in-Quoted-b : goal.returns-in-Quoted-b
 returns-in-Quoted-b c =
-    let s = c.before.before in
-    let f = s.before.before.before in
-    sym (both-quoted f.in-Quoted.is s.in-Quoted-b.is c.pair_of.ensures)
+    sym (both-quoted c.in-Quoted.is c.in-Quoted-b.is c.pair_of.ensures)
 
 pub returns-in-Refused-b : goal.returns-in-Refused-b
 returns-in-Refused-b c =
-    let s = c.before in
-    let f = s.before.before.before in
-    sym (second-refused f.in-Quoted.is s.in-Refused-b.is)
+    sym (second-refused c.in-Quoted.is c.in-Refused-b.is)
 
 pub returns-in-Refused : goal.returns-in-Refused
-returns-in-Refused c = let f = c.before in sym (first-refused f.before.before.args.b-1 f.in-Refused.is)
+returns-in-Refused c = sym (first-refused c.args.b c.in-Refused.is)

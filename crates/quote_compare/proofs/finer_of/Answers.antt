@@ -7,8 +7,8 @@ use Rattle.quote_compare.proofs.finer_of.Goals as goal
 
 pub returns-in-Coarse : goal.returns-in-Coarse
 unfolding finer
-returns-in-Coarse c = sym (ap (λ (u : GridUnit). finer u c.before.before.args.b) c.in-Coarse.is)
+returns-in-Coarse c = sym (ap (λ (u : GridUnit). finer u c.args.b) c.in-Coarse.is)
 
 pub returns-in-Fine : goal.returns-in-Fine
 unfolding finer
-returns-in-Fine c = sym (ap (λ (u : GridUnit). finer u c.before.before.args.b) c.in-Fine.is)
+returns-in-Fine c = sym (ap (λ (u : GridUnit). finer u c.args.b) c.in-Fine.is)

@@ -7,23 +7,26 @@ use Rattle.number_exponential.specs.declared.Ends.{Ends}
 use Rattle.quote_compare.specs.declared.Values.TheVariants.{Below, Above, Near}
 use Rattle.quote_compare.specs.laws.CompareLaws.{values-below, values-above, values-near, apart-first, apart-second}
 use Rattle.quote_compare.proofs.values_of.Goals as goal
+use Rattle.quote_compare.proofs.values_of.Tie as tie
+use Rattle.quote_compare.proofs.values_of.Lts as lts
+use Rattle.quote_compare.proofs.values_of.Reads as reads
 
 -- the ends where they are compared
-abbrev first : goal.Start → Ends
+abbrev first : lts.Start tie.the-claims reads.Pre reads.Post → Ends
 first s = s.args.a
 
-abbrev second : goal.Start → Ends
+abbrev second : lts.Start tie.the-claims reads.Pre reads.Post → Ends
 second s = s.args.b
 
 -- the first is not below the second
-abbrev passed : goal.Else-a-b → goal.Start
+abbrev passed : lts.Else1 tie.the-claims reads.Pre reads.Post → lts.Start tie.the-claims reads.Pre reads.Post
 passed c = c.before.before.before
 
-not-below : (c : goal.Else-a-b) → (second (passed c)).lower ≤ (first (passed c)).upper
+not-below : (c : lts.Else1 tie.the-claims reads.Pre reads.Post) → (second (passed c)).lower ≤ (first (passed c)).upper
 not-below c = omega (arith, c.if-a-b.false)
 
 -- nor above it
-not-above : (c : goal.Else-b-a) → let s = passed c.before.before.before in (first s).lower ≤ (second s).upper
+not-above : (c : lts.Else2 tie.the-claims reads.Pre reads.Post) → let s = passed c.before.before.before in (first s).lower ≤ (second s).upper
 not-above c = omega (arith, c.if-b-a.false)
 
 pub returns-then-a-b : goal.returns-then-a-b

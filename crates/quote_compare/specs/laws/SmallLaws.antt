@@ -119,8 +119,10 @@ answer-small p k age year term = of-answer SmallAnswer p k age year term (λ q s
 
 times-most : (u v : GridUnit) → times u v * (grid_of v).unit ≤ ten_trillionths.unit
 unfolding grid_of
-times-most u v =
-    elim u [ Coarse ↦ elim v [ Coarse ↦ lit≤ tt | Fine ↦ lit≤ tt ] | Fine ↦ elim v [ Coarse ↦ lit≤ tt | Fine ↦ lit≤ tt ] ]
+times-most Coarse Coarse = lit≤ tt
+times-most Coarse Fine = lit≤ tt
+times-most Fine Coarse = lit≤ tt
+times-most Fine Fine = lit≤ tt
 
 -- n units of at most 172
 pub most-in : (u v : GridUnit) (n : ℕ) → n ≤ 172 * (grid_of v).unit → n * times u v ≤ 172 * ten_trillionths.unit

@@ -25,7 +25,7 @@ pub returns-then-not-in_limits-2 : goal.returns-then-not-in_limits-2
 returns-then-not-in_limits-2 c =
     let a = c.args in
     let r = second-out a.first a.second a.kind a.age a.other a.year a.span (first-limits c.before.before)
-        (sym c.in_limits-2.ensures ∙ c.if-not-in_limits-2.true) in
+    (sym c.in_limits-2.ensures ∙ c.if-not-in_limits-2.true) in
     record { answered = r; honest = (met r).1 }
 
 pub couple_within-requires : goal.couple_within-requires

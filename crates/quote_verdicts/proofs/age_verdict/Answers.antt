@@ -31,7 +31,7 @@ pub returns-in_default : goal.returns-in_default
 returns-in_default c = open-here _ _ c.in_default.is
 
 pub returns-then-n-entry : goal.returns-then-n-entry
-returns-then-n-entry c = right-here _ _ c.before.before.in-Printed.is c.if-n-entry.true
+returns-then-n-entry c = right-here _ _ c.in-Printed.is c.if-n-entry.true
 
 pub returns : goal.returns
-returns c = wrong-here _ _ c.before.before.in-Printed.is c.if-n-entry.false
+returns c = wrong-here _ _ c.in-Printed.is c.if-n-entry.false

@@ -1,6 +1,5 @@
 -- `judge_within` meets its contract: the table's refusal of the year, that of a cell out of range, or the verdict by the factors of the
 -- year's cells.
-use mathlib.Core.Bool.{not}
 use mathlib.Core.Path.{◌≡◌, ap, sym, ◌∙◌}
 use mathlib.Core.Bool.{true, false}
 use Prim.Native.Nat.{ℕ, suc, ◌+◌, ◌≤◌}
@@ -36,23 +35,26 @@ use Rattle.quote.proofs.Steps.{years-under}
 use Rattle.quote_verdicts.specs.Verdict.{column_ages, year_cells}
 use Rattle.quote_verdicts.proofs.Steps.{year-out, cell_out, verdict-by}
 use Rattle.quote_verdicts.proofs.judge_within.Goals as goal
+use Rattle.quote_verdicts.proofs.judge_within.Tie as tie
+use Rattle.quote_verdicts.proofs.judge_within.Lts as lts
+use Rattle.quote_verdicts.proofs.judge_within.Reads as reads
 
 -- the function's start and its rule, from after the table's refusal, and past it
-abbrev ruled : goal.After-table_refusal-refusal → goal.After-rule_of-rule
+abbrev ruled : lts.After-table_refusal tie.the-claims reads.Pre reads.Post → lts.After-rule_of tie.the-claims reads.Pre reads.Post
 ruled c = c.before.before
 
-abbrev begun : goal.Else-refusal_number-ne0 → goal.Start
+abbrev begun : lts.Else1 tie.the-claims reads.Pre reads.Post → lts.Start tie.the-claims reads.Pre reads.Post
 begun e = (ruled e.before.before).before
 
 -- the start year, as it is read
-start-read : (s : goal.Start) → bits s.args.p.start ≡ s.args.p.start
+start-read : (s : lts.Start tie.the-claims reads.Pre reads.Post) → bits s.args.p.start ≡ s.args.p.start
 start-read s = let f : SFits w64 s.args.p.start = search rules in to_z-of_z f
 
-start-within : (s : goal.Start) → StartWithin s.args.p.start
+start-within : (s : lts.Start tie.the-claims reads.Pre reads.Post) → StartWithin s.args.p.start
 start-within s = in-limits-start s.args.p s.requires
 
 -- the table's refusal of the year
-refusal_is : (c : goal.After-table_refusal-refusal) → let s = (ruled c).before in
+refusal_is : (c : lts.After-table_refusal tie.the-claims reads.Pre reads.Post) → let s = (ruled c).before in
     c.table_refusal-refusal.result ≡ first_failed (table_tests s.args.p.start (rule_of Death) (pos 0) s.args.year (pos 0))
 refusal_is c =
     let r = ruled c in
@@ -61,20 +63,20 @@ refusal_is c =
     ∙ ap (λ (k : Rule). first_failed (table_tests s.args.p.start k (pos 0) s.args.year (pos 0))) r.rule_of-rule.ensures
 
 -- where it is none, the year is one of `q`
-table : (e : goal.Else-refusal_number-ne0) → InTable (begun e).args.p.start (rule_of Death) (pos 0) (begun e).args.year (pos 0)
+table : (e : lts.Else1 tie.the-claims reads.Pre reads.Post) → InTable (begun e).args.p.start (rule_of Death) (pos 0) (begun e).args.year (pos 0)
 table e =
     let n = e.before in
     let r = n.before in
     in_table (begun e).args.p.start (rule_of Death) (pos 0) (begun e).args.year (pos 0)
     (sym (refusal_is r) ∙ accepted r.table_refusal-refusal.result (sym n.refusal_number.ensures ∙ e.if-refusal_number-ne0.false))
 
-numbers : (e : goal.Else-refusal_number-ne0) → Counted (begun e).args.p.start Death (pos 0) (begun e).args.year (pos 0)
+numbers : (e : lts.Else1 tie.the-claims reads.Pre reads.Post) → Counted (begun e).args.p.start Death (pos 0) (begun e).args.year (pos 0)
 numbers e = counted Death (table e)
 
 pub table_refusal-refusal-requires : goal.table_refusal-refusal-requires
 table_refusal-refusal-requires c =
-    let r = c.before in
-    rw (start-read r.before, r.rule_of-rule.ensures) (start-within r.before, years-under _)
+    let s = c.before.before.before in
+    rw (start-read s, c.rule_of-rule.ensures) (start-within s, years-under _)
 
 pub returns-then-refusal_number-ne0 : goal.returns-then-refusal_number-ne0
 returns-then-refusal_number-ne0 c =
@@ -87,11 +89,11 @@ returns-then-refusal_number-ne0 c =
 -- the year's number
 pub year_number-n-requires : goal.year_number-n-requires
 year_number-n-requires c =
-    let e = c.before in
+    let e = c.before.before in
     let s = begun e in
     rw (start-read s, to_z-of_z s.ranges.year) (year-reached (start-within s) (numbers e).year-in)
 
-number_is : (c : goal.After-year_number-n) → let s = begun c.before.before in
+number_is : (c : lts.After-year_number tie.the-claims reads.Pre reads.Post) → let s = begun c.before.before in
     c.year_number-n.result ≡ year_number s.args.p.start s.args.year
 number_is c =
     let s = begun c.before.before in
@@ -105,7 +107,7 @@ cells start year = record { cohort = false; age = 0; year = year_number start ye
 one-year : (n k : ℕ) → false ≡ true → n + k ≤ suc last_years
 one-year n k e = clash cc
 
-within : (e : goal.Else-refusal_number-ne0) → let s = begun e in PathWithin s.args.p (cells s.args.p.start s.args.year)
+within : (e : lts.Else1 tie.the-claims reads.Pre reads.Post) → let s = begun e in PathWithin s.args.p (cells s.args.p.start s.args.year)
 within e =
     let s = begun e in
     let f = path-first Death (numbers e) in
@@ -118,25 +120,25 @@ within e =
     }
 
 pub factors_of-worked-requires : goal.factors_of-worked-requires
-factors_of-worked-requires c = rw (number_is c) (within c.before.before)
+factors_of-worked-requires c = rw (number_is c.before) (within c.before.before.before)
 
 -- their factors
-worked : (c : goal.After-factors_of-worked) → let s = begun c.before.before.before in
+worked : (c : lts.After-factors_of tie.the-claims reads.Pre reads.Post) → let s = begun c.before.before.before in
     FactorsOf billionths s.args.p (cells s.args.p.start s.args.year) c.factors_of-worked.result
 unfolding grid_of unit_by
 worked c = rw (number_is c.before) at c.factors_of-worked.ensures
 
 -- every cell is in range
-ok : (c : goal.Else-not-worked) → c.before.before.factors_of-worked.result.ok ≡ true
-ok c = not-false _ (ap not c.if-not-worked.false)
+ok : (c : lts.Else2 tie.the-claims reads.Pre reads.Post) → c.before.before.factors_of-worked.result.ok ≡ true
+ok c = not-false _ c.if-not-worked.false
 
 pub verdict_on-verdict-requires : goal.verdict_on-verdict-requires
 unfolding grid_of
 verdict_on-verdict-requires c =
-    let e = c.before in
+    let e = c.before.before in
     let f = e.before.before in
     let i = f.before.before.before in
-    ((begun i).requires, path-chances Coarse (within i) ((worked f).ends-1 (rw (ok e) tt)))
+    ((begun i).requires, path-chances Coarse (within i) ((worked f).ends (rw (ok e) tt)))
 
 pub returns-then-not-worked : goal.returns-then-not-worked
 unfolding year_cells
@@ -144,7 +146,7 @@ returns-then-not-worked c =
     let f = c.before.before in
     let e = f.before.before.before in
     let s = begun e in
-    cell_out s.args.p s.args.year s.args.column s.requires (table e).year-in (sym (worked f).ok ∙ not-true _ (ap not c.if-not-worked.true))
+    cell_out s.args.p s.args.year s.args.column s.requires (table e).year-in (sym (worked f).ok ∙ not-true _ c.if-not-worked.true)
 
 pub returns : goal.returns
 unfolding year_cells
@@ -154,5 +156,5 @@ returns c =
     let e = f.before.before.before in
     let s = begun e in
     let w = worked f in
-    verdict-by s.args.p s.args.year s.args.column s.requires (table e).year-in f.factors_of-worked.result.ends-1
-    (rw (← w.ok, ok o) tt) (w.ends-1 (rw (ok o) tt)) (rw (to_z-of_z s.ranges.year) at c.verdict_on-verdict.ensures)
+    verdict-by s.args.p s.args.year s.args.column s.requires (table e).year-in f.factors_of-worked.result.ends
+    (rw (← w.ok, ok o) tt) (w.ends (rw (ok o) tt)) (rw (to_z-of_z s.ranges.year) at c.verdict_on-verdict.ensures)

@@ -21,6 +21,9 @@ use Rattle.quote_verdicts.specs.declared.Verdict.TheVariants.{Right}
 use Rattle.quote_verdicts.specs.Verdict.{column_ages, figure_here, differs, is_open}
 use Rattle.quote_verdicts.specs.code.Code.{age_verdict}
 use Rattle.quote_verdicts.proofs.verdict_again.Goals as goal
+use Rattle.quote_verdicts.proofs.verdict_again.Tie as tie
+use Rattle.quote_verdicts.proofs.verdict_again.Lts as lts
+use Rattle.quote_verdicts.proofs.verdict_again.Reads as reads
 
 -- ---- by the answer
 
@@ -38,7 +41,7 @@ quoted-here a m e f = rw e f
 age-fits : (x : ℕ) → x < column_ages → SFits w64 (pos x)
 age-fits x l = fits (under-pos {k = column_ages} (omega arith)) tt
 
-asked : (c : goal.After-answer_within-answer) → let a = c.before.args in
+asked : (c : lts.After-answer_within tie.the-claims reads.Pre reads.Post) → let a = c.before.args in
     c.answer_within-answer.result ≡ answer_of a.p Death (pos a.age) a.year (pos 0)
 asked c =
     let s = c.before in
@@ -47,13 +50,11 @@ asked c =
 
 pub returns-in_default : goal.returns-in_default
 unfolding figure_here
-returns-in_default c = none_here _ _ (sym (asked c.before.before) ∙ c.in_default.is)
+returns-in_default c = none_here _ _ (sym (asked c.before) ∙ c.in_default.is)
 
 pub returns : goal.returns
 unfolding figure_here
-returns c =
-    let k = c.before.before in
-    quoted-here _ _ (sym (asked k.before.before) ∙ k.in-Quoted.is) c.age_verdict.ensures
+returns c = quoted-here _ _ (sym (asked c.before.before) ∙ c.in-Quoted.is) c.age_verdict.ensures
 
 pub overflow_cast-age : goal.overflow_cast-age
 overflow_cast-age c = age-fits c.args.age c.requires.1

@@ -25,9 +25,13 @@ use Rattle.quote_verdicts.specs.Verdict.{column_ages, figure_here, entry_at, ver
 use Rattle.quote_verdicts.specs.code.Code.{age_verdict, joined, figure_in, figure_kept}
 use Rattle.quote_verdicts.specs.laws.VerdictLaws.{verdict-none, verdict-more}
 use Rattle.quote_verdicts.proofs.verdict_on.Goals as goal
+use Rattle.quote_verdicts.proofs.verdict_on.Goals.{then-is_open, else-is_open}
+use Rattle.quote_verdicts.proofs.verdict_on.Tie as tie
+use Rattle.quote_verdicts.proofs.verdict_on.Lts as lts
+use Rattle.quote_verdicts.proofs.verdict_on.Reads as reads
 
 -- the array's length
-size : (c : goal.Start) → length c.args.factors ≡ most_factors
+size : (c : lts.Start tie.the-claims reads.Pre reads.Post goal.the-invariant-loop-x goal.the-decreases-loop-x) → length c.args.factors ≡ most_factors
 size c = search rules
 
 pub loop-x-init : goal.loop-x-init
@@ -50,29 +54,28 @@ module _ (p : Params) (year : ℤ) (es : List Ends) (x m : ℕ) {v : Verdict} wh
   unfolding figure_kept
   kept-printed e h = rw e h
 
-open_is : (c : goal.After-is_open) → let l = c.before.before.before.before.before in
+open_is : (c : lts.After-is_open tie.the-claims reads.Pre reads.Post goal.the-invariant-loop-x goal.the-decreases-loop-x) → let l = c.before.before.before.before.before in
     c.is_open.result ≡ is_open (figure_in l.before.args.factors l.loop-x.x)
 open_is c = c.is_open.ensures ∙ ap is_open c.before.before.coarse_figure-figure.ensures
 
-more-is : (c : goal.Joined-is_open) → let l = c.before.before.before.before.before.before in
+more-is : (c : lts.Joined1 tie.the-claims reads.Pre reads.Post goal.the-invariant-loop-x goal.the-decreases-loop-x) → let l = c.before.before.before.before.before.before in
     let s = l.before in let x = l.loop-x.x in
     c.if-is_open.more ≡ age_verdict (figure_kept s.args.p (bits s.args.year) s.args.factors x) (entry_at s.args.column x)
 unfolding entry_at
 more-is c =
     let o = c.before in
-    let a = o.before in
-    let f = a.before in
-    let l = f.before.before.before in
-    let s = l.before in
-    let p = s.args.p in
-    let year = bits s.args.year in
-    let es = s.args.factors in
-    let x = l.loop-x.x in
-    let m = entry_at s.args.column x in
-    ⊎_elim
-    (λ w. w.2 ∙ kept-open p year es x m (sym (open_is o) ∙ w.0.true) w.1.ensures)
-    (λ w. w.1 ∙ kept-printed p year es x m (sym (open_is o) ∙ w.0.false) (a.age_verdict-more.ensures ∙ ap (λ (z : Figure). age_verdict (shown_of z) m) f.coarse_figure-figure.ensures))
-    c.if-is_open.branch
+    let p = c.args.p in
+    let year = bits c.args.year in
+    let es = c.args.factors in
+    let x = c.loop-x.x in
+    let m = entry_at c.args.column x in
+    elim c.if-is_open.branch [
+      | then-is_open w ↦ w.more-is ∙ kept-open p year es x m (sym (open_is o) ∙ w.if-is_open.true) w.verdict_again-more.ensures
+      | else-is_open w ↦
+          w.more-is
+          ∙ kept-printed p year es x m (sym (open_is o) ∙ w.if-is_open.false)
+          (c.age_verdict-more.ensures ∙ ap (λ (z : Figure). age_verdict (shown_of z) m) c.coarse_figure-figure.ensures)
+    ]
 
 pub loop-x-preserved : goal.loop-x-preserved
 loop-x-preserved c =

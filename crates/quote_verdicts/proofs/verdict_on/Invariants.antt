@@ -27,7 +27,7 @@ use Rattle.quote_verdicts.proofs.verdict_on.Given as goal
 
 abbrev pub invariant-loop-x : goal.invariant-loop-x
 invariant-loop-x l =
-    (l.verdict ≡ verdict_to (figure_kept l.p (to_z w64 l.year) l.factors) (entry_at l.column) l.x) × (l.x ≤ column_ages)
+    (l.verdict ≡ verdict_to (figure_kept l.p l.year l.factors) (entry_at l.column) l.x) × (l.x ≤ column_ages)
 
 abbrev pub decreases-loop-x : goal.decreases-loop-x
 decreases-loop-x l = column_ages - l.x
