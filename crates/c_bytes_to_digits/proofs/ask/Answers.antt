@@ -1,5 +1,7 @@
 -- `ask` meets its contract, from that of the call that is made.
 use borrow.Author.Rules.{rules}
+use mir.Val.{SFits}
+use mir.Syntax.{w64}
 use mir.Facts.{to_z-of_z}
 use Rattle.c_bytes_to_digits.specs.Calls.{kind_in}
 use Rattle.c_bytes_to_digits.specs.laws.CallLaws.{called}
@@ -20,8 +22,9 @@ returns-in-Annuity c =
     let q = c in
     let t = q in
     let f = t.ranges in
+    let g : SFits w64 c.in-Annuity.rate = search rules in
     called _ _ _ _ _ t.in-Annuity.is _
-    (rw (to_z-of_z f.age, to_z-of_z f.year, to_z-of_z f.term, to_z-of_z (record { sfits = t.known_told-1.given.0.1 })) at
+    (rw (to_z-of_z f.age, to_z-of_z f.year, to_z-of_z f.term, to_z-of_z g) at
     q.kulfizan_annuity.ensures)
 
 pub returns-in-Day : goal.returns-in-Day

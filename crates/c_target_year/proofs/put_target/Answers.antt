@@ -1,5 +1,7 @@
 -- `put_target` meets its contract: what was found and the year into the two places, or a refusal's number.
 use borrow.Author.Rules.{rules}
+use mir.Val.{SFits}
+use mir.Syntax.{w64}
 use mathlib.Core.Path.{refl, sym}
 use mir.Facts.{to_z-of_z}
 use Rattle.c_target_year.specs.SheetTarget.{target_no, found_after, year_after}
@@ -10,8 +12,9 @@ pub returns-in-Reached : goal.returns-in-Reached
 unfolding target_no found_after year_after
 returns-in-Reached c =
     let k = c in
+    let f : SFits w64 c.in-Reached.year = search rules in
     put_same _ _ (sym k.in-Reached.is)
-    (c.refusal_number.ensures, (refl, to_z-of_z (record { sfits = k.known_told-1.given.0.1 })))
+    (c.refusal_number.ensures, (refl, to_z-of_z f))
 
 pub returns-in-Open : goal.returns-in-Open
 unfolding target_no found_after year_after
