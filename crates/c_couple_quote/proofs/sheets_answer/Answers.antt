@@ -19,4 +19,4 @@ returns c =
     let f = e.ranges in
     both_read _ _ _ _ _ _ _ e.read-one.ensures e.read-two.ensures e.lower_refusal-refusal.ensures
     n.refusal_number.ensures (omega (arith, c.if-refusal_number-ne0.false))
-    (rw (to_z-of_z f.age, to_z-of_z f.other, to_z-of_z f.year, to_z-of_z f.span) at c.couple_of.ensures.0)
+    (rw (to_z-of_z f.age, to_z-of_z f.other, to_z-of_z f.year, to_z-of_z f.span) at c.couple_of.ensures.answered)

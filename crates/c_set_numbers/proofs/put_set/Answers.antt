@@ -1,5 +1,6 @@
 -- `put_set` meets its contract. The loop's invariant: the numbers of the ages before x stand behind the table, the sex and the series.
 -- The measure is how many ages are left.
+use mir.Syntax.{w64}
 use borrow.Author.Rules.{rules}
 use mathlib.Core.Path.{◌≡◌, ◌∙◌}
 use Prim.Native.Nat.{◌+◌, ◌*◌, ◌-◌, ◌≤◌}
@@ -28,9 +29,9 @@ loop-x-init c =
     let series = told.1.1.1.1.1 in
     let head : Front (first_ages c.args.p 0) 8 c.args.values.now c.put_four-2.new.values =
         head-put c.args.p c.put_four.ensures c.put_four-2.ensures
-        (to_z-of_z (search rules) ∙ c.table_number.ensures) (to_z-of_z (search rules) ∙ c.sex_number.ensures)
-        (to_z-of_z (search rules)) (to_z-of_z (search rules)) (to_z-of_z (search rules)) (to_z-of_z (search rules))
-        (to_z-of_z (search rules)) (to_z-of_z (search rules)) in
+        (to_z-of_z {w = w64} (search rules) ∙ c.table_number.ensures) (to_z-of_z {w = w64} (search rules) ∙ c.sex_number.ensures)
+        (to_z-of_z {w = w64} (search rules)) (to_z-of_z {w = w64} (search rules)) (to_z-of_z {w = w64} (search rules)) (to_z-of_z {w = w64} (search rules))
+        (to_z-of_z {w = w64} (search rules)) (to_z-of_z {w = w64} (search rules)) in
     (omega arith, front_self head)
 
 pub put_four-requires-in-loop-x : goal.put_four-requires-in-loop-x
@@ -39,9 +40,9 @@ put_four-requires-in-loop-x c =
     let series = told.1.1.1.1.1 in
     let head : Front (first_ages c.args.p 0) 8 c.args.values.now c.put_four-2.new.values =
         head-put c.args.p c.put_four.ensures c.put_four-2.ensures
-        (to_z-of_z (search rules) ∙ c.table_number.ensures) (to_z-of_z (search rules) ∙ c.sex_number.ensures)
-        (to_z-of_z (search rules)) (to_z-of_z (search rules)) (to_z-of_z (search rules)) (to_z-of_z (search rules))
-        (to_z-of_z (search rules)) (to_z-of_z (search rules)) in
+        (to_z-of_z {w = w64} (search rules) ∙ c.table_number.ensures) (to_z-of_z {w = w64} (search rules) ∙ c.sex_number.ensures)
+        (to_z-of_z {w = w64} (search rules)) (to_z-of_z {w = w64} (search rules)) (to_z-of_z {w = w64} (search rules)) (to_z-of_z {w = w64} (search rules))
+        (to_z-of_z {w = w64} (search rules)) (to_z-of_z {w = w64} (search rules)) in
     let t = c.loop-x-test.true in
     let h = front-length (omega (arith, c.requires)) head in
     let k = front-length (omega (arith, c.requires)) c.loop-x.invariant.1 in
@@ -55,7 +56,7 @@ loop-x-preserved c =
       omega arith,
       rw (add-one x)
           (age-put c.args.p x c.loop-x.invariant.1 c.put_four-in-loop-x.ensures (c.age_of_runs-age.ensures ∙ four-age _ _)
-          (to_z-of_z (search rules)) (to_z-of_z (search rules)) (to_z-of_z (search rules)) (to_z-of_z (search rules))),
+          (to_z-of_z {w = w64} (search rules)) (to_z-of_z {w = w64} (search rules)) (to_z-of_z {w = w64} (search rules)) (to_z-of_z {w = w64} (search rules))),
     )
 
 pub shape_of-values : goal.shape_of-values
@@ -64,9 +65,9 @@ shape_of-values c =
     let series = told.1.1.1.1.1 in
     let head : Front (first_ages c.args.p 0) 8 c.args.values.now c.put_four-2.new.values =
         head-put c.args.p c.put_four.ensures c.put_four-2.ensures
-        (to_z-of_z (search rules) ∙ c.table_number.ensures) (to_z-of_z (search rules) ∙ c.sex_number.ensures)
-        (to_z-of_z (search rules)) (to_z-of_z (search rules)) (to_z-of_z (search rules)) (to_z-of_z (search rules))
-        (to_z-of_z (search rules)) (to_z-of_z (search rules)) in
+        (to_z-of_z {w = w64} (search rules) ∙ c.table_number.ensures) (to_z-of_z {w = w64} (search rules) ∙ c.sex_number.ensures)
+        (to_z-of_z {w = w64} (search rules)) (to_z-of_z {w = w64} (search rules)) (to_z-of_z {w = w64} (search rules)) (to_z-of_z {w = w64} (search rules))
+        (to_z-of_z {w = w64} (search rules)) (to_z-of_z {w = w64} (search rules)) in
     let l = c.loop-x in
     let e : l.x ≡ ages = omega arith in
     let all = front-over 364 head (rw e at l.invariant.1) in
@@ -78,9 +79,9 @@ returns c =
     let series = told.1.1.1.1.1 in
     let head : Front (first_ages c.args.p 0) 8 c.args.values.now c.put_four-2.new.values =
         head-put c.args.p c.put_four.ensures c.put_four-2.ensures
-        (to_z-of_z (search rules) ∙ c.table_number.ensures) (to_z-of_z (search rules) ∙ c.sex_number.ensures)
-        (to_z-of_z (search rules)) (to_z-of_z (search rules)) (to_z-of_z (search rules)) (to_z-of_z (search rules))
-        (to_z-of_z (search rules)) (to_z-of_z (search rules)) in
+        (to_z-of_z {w = w64} (search rules) ∙ c.table_number.ensures) (to_z-of_z {w = w64} (search rules) ∙ c.sex_number.ensures)
+        (to_z-of_z {w = w64} (search rules)) (to_z-of_z {w = w64} (search rules)) (to_z-of_z {w = w64} (search rules)) (to_z-of_z {w = w64} (search rules))
+        (to_z-of_z {w = w64} (search rules)) (to_z-of_z {w = w64} (search rules)) in
     let l = c.loop-x in
     let e : l.x ≡ ages = omega arith in
     let all = front-over 364 head (rw e at l.invariant.1) in

@@ -28,5 +28,5 @@ returns c =
     let g : SFits w64 (get_or ns 1 (pos 0)) = search rules in
     sym
     (set-taken ns (t.table_of-table.ensures ∙ ap table_of (to_z-of_z f)) (s.sex_of-sex.ensures ∙ ap sex_of (to_z-of_z g))
-    (to_z-of_z (search rules)) (to_z-of_z (search rules)) (to_z-of_z (search rules)) (to_z-of_z (search rules)) (to_z-of_z (search rules))
-    (to_z-of_z (search rules)) r₁.run-level.ensures r₂.run-slope.ensures r₃.run-alpha.ensures r₄.run-beta.ensures)
+    (to_z-of_z {w = w64} (search rules)) (to_z-of_z {w = w64} (search rules)) (to_z-of_z {w = w64} (search rules)) (to_z-of_z {w = w64} (search rules)) (to_z-of_z {w = w64} (search rules))
+    (to_z-of_z {w = w64} (search rules)) r₁.run-level.ensures r₂.run-slope.ensures r₃.run-alpha.ensures r₄.run-beta.ensures)

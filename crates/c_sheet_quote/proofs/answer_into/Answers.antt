@@ -9,7 +9,9 @@ use Rattle.c_sheet_quote.proofs.answer_into.Goals as goal
 
 pub returns-in_default : goal.returns-in_default
 returns-in_default c =
-    put-malformed _ _ _ _ _ (ap (kind_read []) c.in_default.is) c.refusal_number.ensures
+    let m = put-malformed c.args.sheet.now c.args.age c.args.year c.args.term c.args.numbers.now
+            (ap (kind_read []) c.in_default.is) c.refusal_number.ensures in
+    record { value = m.0; numbers_after = m.1 }
 
 pub returns : goal.returns
 returns c =
@@ -17,6 +19,8 @@ returns c =
     let a = p in
     let k = a in
     let f = k.ranges in
-    put-taken _ _ _ _ _ (ap (kind_read []) k.in-Of.is)
-    (rw (to_z-of_z f.age, to_z-of_z f.year, to_z-of_z f.term) at a.sheet_answer.ensures)
-    p.put_answer.ensures
+    let m = put-taken c.args.sheet.now c.args.age c.args.year c.args.term c.args.numbers.now
+            (ap (kind_read []) k.in-Of.is)
+            (rw (to_z-of_z f.age, to_z-of_z f.year, to_z-of_z f.term) at a.sheet_answer.ensures)
+            (p.put_answer.ensures.value, p.put_answer.ensures.numbers_after) in
+    record { value = m.0; numbers_after = m.1 }

@@ -6,7 +6,10 @@ use Rattle.c_sheet_quote.proofs.put_answer.Goals as goal
 pub returns-in-Quoted : goal.returns-in-Quoted
 returns-in-Quoted c =
     let p = c in
-    put-quoted _ p.in-Quoted.is p.put_quote.ensures
+    let m = put-quoted c.args.numbers.now p.in-Quoted.is (p.put_quote.ensures.value, p.put_quote.ensures.numbers_after) in
+    record { value = m.0; numbers_after = m.1 }
 
 pub returns-in-Refused : goal.returns-in-Refused
-returns-in-Refused c = put_refused _ c.in-Refused.is c.refusal_number.ensures
+returns-in-Refused c =
+    let m = put_refused c.args.numbers.now c.in-Refused.is c.refusal_number.ensures in
+    record { value = m.0; numbers_after = m.1 }

@@ -10,5 +10,6 @@ returns c =
     let k = a in
     let start = k in
     let f = start.ranges in
-    put-read _ _ _ _ _ k.kind_of.result k.kind_of.ensures start.args.numbers.now
-    (rw (to_z-of_z f.age, to_z-of_z f.year, to_z-of_z f.span) at a.answer_into.ensures)
+    let m = put-read c.args.sheet.now c.args.word.now c.args.age c.args.year c.args.span k.kind_of.result k.kind_of.ensures c.args.numbers.now
+            (rw (to_z-of_z f.age, to_z-of_z f.year, to_z-of_z f.span) at a.answer_into.ensures.value, rw (to_z-of_z f.age, to_z-of_z f.year, to_z-of_z f.span) at a.answer_into.ensures.numbers_after) in
+    record { value = m.0; numbers_after = m.1 }

@@ -17,4 +17,4 @@ returns c =
     let r = n in
     let f = r.ranges in
     answer-given _ _ _ _ _ r.read-got.ensures n.refusal_number.ensures (omega (arith, c.if-refusal_number-ne0.false))
-    (rw (to_z-of_z f.age, to_z-of_z f.year, to_z-of_z f.term) at c.quote_of.ensures.0)
+    (rw (to_z-of_z f.age, to_z-of_z f.year, to_z-of_z f.term) at c.quote_of.ensures.answered)

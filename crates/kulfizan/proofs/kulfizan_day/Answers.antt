@@ -4,7 +4,7 @@ use mir.Facts.{to_z-of_z}
 use Rattle.kulfizan.proofs.kulfizan_day.Goals as goal
 
 pub returns : goal.returns
-returns c =
-    let q = c in
-    let f = q.ranges in
-    rw (to_z-of_z f.age, to_z-of_z f.year, to_z-of_z f.date) at q.day_into.ensures
+returns c = record {
+  value = rw (to_z-of_z c.ranges.age, to_z-of_z c.ranges.year, to_z-of_z c.ranges.date) at c.day_into.ensures.value;
+  quote_after = rw (to_z-of_z c.ranges.age, to_z-of_z c.ranges.year, to_z-of_z c.ranges.date) at c.day_into.ensures.numbers_after;
+}

@@ -7,4 +7,7 @@ use Rattle.kulfizan.proofs.kulfizan_run.Goals as goal
 
 pub returns : goal.returns
 unfolding program_of
-returns c = let r = c in run-told _ _ _ _ refl r.run.ensures c.tell.ensures
+returns c =
+    let m = run-told c.args.input.now c.args.ends c.args.out.now c.args.len.now refl c.run.ensures
+            (c.tell.ensures.value, c.tell.ensures.len_after) in
+    record { value = m.0; out_after = m.1.0; len_after = m.1.1 }

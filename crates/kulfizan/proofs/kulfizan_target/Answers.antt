@@ -4,6 +4,8 @@ use mir.Facts.{to_z-of_z}
 use Rattle.kulfizan.proofs.kulfizan_target.Goals as goal
 
 pub returns : goal.returns
-returns c =
-    let f = c.ranges in
-    rw (to_z-of_z f.age, to_z-of_z f.target) at c.target_into.ensures
+returns c = record {
+  value = rw (to_z-of_z c.ranges.age, to_z-of_z c.ranges.target) at c.target_into.ensures.value;
+  found_after = rw (to_z-of_z c.ranges.age, to_z-of_z c.ranges.target) at c.target_into.ensures.found_after;
+  year_after = rw (to_z-of_z c.ranges.age, to_z-of_z c.ranges.target) at c.target_into.ensures.year_after;
+}

@@ -4,4 +4,7 @@ use mir.Facts.{to_z-of_z}
 use Rattle.kulfizan.proofs.kulfizan_verdict.Goals as goal
 
 pub returns : goal.returns
-returns c = rw (to_z-of_z c.ranges.year) at c.verdict_into.ensures
+returns c = record {
+  value = rw (to_z-of_z c.ranges.year) at c.verdict_into.ensures.value;
+  verdict_after = rw (to_z-of_z c.ranges.year) at c.verdict_into.ensures.verdict_after;
+}

@@ -17,4 +17,4 @@ returns c =
     let r = n in
     let f = r.ranges in
     verdict-given _ _ _ r.read-got.ensures n.refusal_number.ensures (omega (arith, c.if-refusal_number-ne0.false))
-    (rw (to_z-of_z f.year) at c.verdict_on.ensures.0)
+    (rw (to_z-of_z f.year) at c.verdict_on.ensures.answered)

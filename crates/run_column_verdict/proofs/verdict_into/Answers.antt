@@ -8,4 +8,5 @@ pub returns : goal.returns
 returns c =
     let a = c in
     let f = a.ranges in
-    put_same _ (rw (to_z-of_z f.year) at a.sheet_verdict.ensures) c.put_judged.ensures
+    let m = put_same c.args.verdict.now (rw (to_z-of_z f.year) at a.sheet_verdict.ensures) c.put_judged.ensures in
+    record { value = m.0; verdict_after = m.1 }

@@ -23,5 +23,8 @@ unfolding column_verdict
 returns c =
     let s = c.args in
     let read = same_read c.column_of-read.result.ok c.column_of-read.result.steps ∙ c.column_of-read.ensures in
-    let e = (rw (to_z-of_z c.ranges.year) at c.judge.ensures.0) ∙ ap (judged s.p s.year) read in
-    (e, subst (HonestOn s.p s.year s.bytes.now) (sym e) (honest-on s.p s.year s.bytes.now))
+    let e = (rw (to_z-of_z c.ranges.year) at c.judge.ensures.answered) ∙ ap (judged s.p s.year) read in
+    record {
+      answered = e;
+      honest = subst (HonestOn s.p s.year s.bytes.now) (sym e) (honest-on s.p s.year s.bytes.now);
+    }

@@ -21,19 +21,19 @@ step s = answering couple-lengths (couple-bounded s.args.first s.args.second) (l
 -- ---- the needs, by what the line reads as
 
 pub put_refusal-requires : goal.put_refusal-requires
-put_refusal-requires c = refusal-room (step c.before) (sym c.couple_query_of.ensures ∙ ap couple_read c.in_default.is)
+put_refusal-requires c = refusal-room (step c.before.before.before.before.before.before) (sym c.couple_query_of.ensures ∙ ap couple_read c.in_default.is)
 
 pub returns-in_default : goal.returns-in_default
 returns-in_default c =
-    refusal-put (step c.before) (sym c.couple_query_of.ensures ∙ ap couple_read c.in_default.is) c.put_refusal.ensures
+    refusal-put (step c.before.before.before.before.before.before.before.before.before) (sym c.couple_query_of.ensures ∙ ap couple_read c.in_default.is) c.put_refusal.ensures
 
 pub put_echo-place-requires : goal.put_echo-place-requires
-put_echo-place-requires c = echo-room (step c.before) (sym c.couple_query_of.ensures ∙ ap couple_read c.in-Of.is)
+put_echo-place-requires c = echo-room (step c.before.before.before.before.before.before) (sym c.couple_query_of.ensures ∙ ap couple_read c.in-Of.is)
 
 pub put_reply-requires : goal.put_reply-requires
 put_reply-requires c =
-    (c.requires.0, c.requires.1, reply-room (step c.before) (sym c.couple_query_of.ensures ∙ ap couple_read c.in-Of.is) c.put_echo-place.ensures)
+    (c.requires.0, c.requires.1, reply-room (step c.before.before.before.before.before.before.before.before.before.before) (sym c.couple_query_of.ensures ∙ ap couple_read c.in-Of.is) c.put_echo-place.ensures)
 
 pub returns : goal.returns
 returns c =
-    reply-put (step c.before) (sym c.couple_query_of.ensures ∙ ap couple_read c.in-Of.is) c.put_echo-place.ensures c.put_reply.ensures
+    reply-put (step c.before.before.before.before.before.before.before.before.before.before.before.before.before) (sym c.couple_query_of.ensures ∙ ap couple_read c.in-Of.is) c.put_echo-place.ensures c.put_reply.ensures

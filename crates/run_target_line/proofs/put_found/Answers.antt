@@ -1,5 +1,8 @@
 -- `put_found` meets its contract: one text in each case.
 use borrow.Author.Rules.{rules}
+use mir.Facts.{to_z-of_z}
+use mir.Val.{SFits}
+use mir.Syntax.{w64}
 use mathlib.Core.Path.{◌≡◌, sym, ap, subst}
 use Rattle.text_tokens.specs.Text.{bytes_of}
 use Rattle.text_tokens.specs.laws.ReadLaws.{held}
@@ -19,32 +22,30 @@ required s e = (subst SizedFound e s.requires.0, room_as (ap found_text e) s.req
 pub put_year-requires : goal.put_year-requires
 unfolding SizedFound found_text
 put_year-requires c =
-    let k = c.before in
-    let f = k.before in
-    rw (held f.in-Reached.year k.known_told-1.given.0.1) (required f.before.before.before f.in-Reached.is)
+    let f : SFits w64 c.in-Reached.year = search rules in
+    rw (to_z-of_z f) (required c.before c.in-Reached.is)
 
 pub put_text-requires : goal.put_text-requires
 unfolding found_text bytes_of
 put_text-requires c =
-    let w = c.before.before in (required w.before.before.before w.in-Open.is).1.fits
+    (required c.before c.in-Open.is).1.fits
 
 pub put_text-requires-in-Never : goal.put_text-requires-in-Never
 unfolding found_text bytes_of
 put_text-requires-in-Never c =
-    let w = c.before.before in (required w.before.before.before w.in-Never.is).1.fits
+    (required c.before c.in-Never.is).1.fits
 
 pub put_refused-requires : goal.put_refused-requires
 unfolding found_text
 put_refused-requires c =
-    let f = c.before.before in (required f.before f.in-Refused.is).1
+    (required c.before c.in-Refused.is).1
 
 pub returns-in-Reached : goal.returns-in-Reached
 unfolding found_text
 returns-in-Reached c =
-    let k = c in
-    let f = k in
-    put_as (sym (ap found_text f.in-Reached.is))
-    (rw (held f.in-Reached.year k.known_told-1.given.0.1) at c.put_year.ensures)
+    let f : SFits w64 c.in-Reached.year = search rules in
+    put_as (sym (ap found_text c.in-Reached.is))
+    (rw (to_z-of_z f) at c.put_year.ensures)
 
 pub returns-in-Open : goal.returns-in-Open
 unfolding found_text bytes_of

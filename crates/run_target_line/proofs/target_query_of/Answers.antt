@@ -3,6 +3,9 @@
 use mathlib.Core.Bool.{not}
 use mathlib.Core.Path.{ap}
 use borrow.Author.Rules.{rules}
+use mir.Facts.{to_z-of_z}
+use mir.Val.{SFits}
+use mir.Syntax.{w64}
 use mathlib.Core.Path.{◌≡◌, sym, ◌∙◌}
 use Prim.Native.Nat.{ℕ}
 use mathlib.Core.List.{List}
@@ -36,7 +39,7 @@ age-taken line e = goes _ e
 
 pub returns-in_default : goal.returns-in_default
 unfolding bytes_of
-returns-in_default.before.before c = sym (age-malformed _ (read-malformed _ c.field_at.ensures c.in_default.is))
+returns-in_default c = sym (age-malformed _ (read-malformed _ c.field_at.ensures c.in_default.is))
 
 pub returns-in_default-field_at : goal.returns-in_default-field_at
 unfolding bytes_of
@@ -52,9 +55,8 @@ returns-then-not-ends_at c =
 pub returns : goal.returns
 unfolding bytes_of
 returns c =
-    rw (
-      held c.in-Number.age c.known_told-1.given.0.1,
-      held c.in-Number-field_at.target c.known_told-in-Number-field_at-2-1.given.0.1,
-    )
+    let f : SFits w64 c.in-Number.age = search rules in
+    let g : SFits w64 c.in-Number-field_at.target = search rules in
+    rw (to_z-of_z f, to_z-of_z g)
     (sym (age-taken _ (read_taken _ c.field_at.ensures c.in-Number.is) ∙ goes _ (read_taken _ c.field_at-2.ensures c.in-Number-field_at.is)
     ∙ line-ended _ _ (has c.ends_at.ensures (ap not c.if-not-ends_at.false))))

@@ -1,11 +1,12 @@
 -- `put_verdict` meets its contract: a malformed year's line, a refused sheet, or the line of the year.
 use borrow.Author.Rules.{rules}
+use mir.Facts.{to_z-of_z}
 use mathlib.Core.Path.{◌≡◌, sym, ap, subst, ◌∙◌}
 use mathlib.Core.List.{List}
 use Prim.Native.Nat.{ℕ, ◌≤◌}
 use native.Mathlib.Omega.{arith}
 use mir.Syntax.{w64}
-use mir.Val.{to_z, of_z}
+use mir.Val.{to_z, of_z, SFits}
 use lib.ListN.{length, drop}
 use Rattle.text_tokens.specs.Text.{malformed, taken}
 use Rattle.text_tokens.specs.laws.ReadLaws.{held, read-malformed, read_taken}
@@ -64,17 +65,19 @@ slice_bounds-verdict_on-start c = subst (PlaceIn (length c.args.input.now)) c.in
 pub put_line-requires : goal.put_line-requires
 put_line-requires c =
     let s = c.args in
+    let f : SFits w64 c.in-Number.year = search rules in
     let line = run-judged s.input.now c.read_front-front.ensures (read_taken _ c.year_at.ensures.0 c.in-Number.is) (sym c.refusal_number.ensures ∙ c.if-refusal_number-ne0.false)
             ∙ ap (verdict_line c.in-Number.year)
-            (sym ((rw (held c.in-Number.year c.known_told-1.given.0.1) at c.verdict_on-judged.ensures.0)
+            (sym ((rw (to_z-of_z f) at c.verdict_on-judged.ensures.answered)
             ∙ ap (column_verdict c.read_front-front.result.first c.in-Number.year) (rest_from s.input.now c.in-Number.next))) in
-    rw (held c.in-Number.year c.known_told-1.given.0.1) (year-small _ (read_taken _ c.year_at.ensures.0 c.in-Number.is), room_as line (line-room _ s.input.now c.requires))
+    rw (to_z-of_z f) (year-small _ (read_taken _ c.year_at.ensures.0 c.in-Number.is), room_as line (line-room _ s.input.now c.requires))
 
 pub returns : goal.returns
 returns c =
     let s = c.args in
+    let f : SFits w64 c.in-Number.year = search rules in
     let line = run-judged s.input.now c.read_front-front.ensures (read_taken _ c.year_at.ensures.0 c.in-Number.is) (sym c.refusal_number.ensures ∙ c.if-refusal_number-ne0.false)
             ∙ ap (verdict_line c.in-Number.year)
-            (sym ((rw (held c.in-Number.year c.known_told-1.given.0.1) at c.verdict_on-judged.ensures.0)
+            (sym ((rw (to_z-of_z f) at c.verdict_on-judged.ensures.answered)
             ∙ ap (column_verdict c.read_front-front.result.first c.in-Number.year) (rest_from s.input.now c.in-Number.next))) in
-    put_as (sym line) (rw (held c.in-Number.year c.known_told-1.given.0.1) at c.put_line.ensures)
+    put_as (sym line) (rw (to_z-of_z f) at c.put_line.ensures)

@@ -2,6 +2,9 @@
 use mathlib.Core.Bool.{not}
 use mathlib.Core.Path.{ap}
 use borrow.Author.Rules.{rules}
+use mir.Facts.{to_z-of_z}
+use mir.Val.{SFits}
+use mir.Syntax.{w64}
 use mathlib.Core.Path.{◌≡◌, sym, ◌∙◌}
 use native.Mathlib.Omega.{arith}
 use lib.ListN.{drop}
@@ -36,8 +39,9 @@ pub returns : goal.returns
 unfolding bytes_of
 returns c =
     let t = c in
+    let f : SFits w64 c.in-Number.year = search rules in
     let h = has t.text_at.ensures (ap not c.if-not-text_at.false) in (
-      rw (held t.in-Number.year t.known_told-1.given.0.1)
+      rw (to_z-of_z f)
           (sym (year-steps _ ∙ goes _ (read_taken _ c.field_at.ensures c.in-Number.is) ∙ goes _ (text-found _ _ (bytes_of "\n") h))),
       omega (arith, text-room _ _ (bytes_of "\n") h),
     )
