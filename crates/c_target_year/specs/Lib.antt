@@ -1,2 +1,1 @@
 pub mod SheetTarget
-pub mod laws

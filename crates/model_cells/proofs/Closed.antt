@@ -3,7 +3,7 @@ use mathlib.Core.List.{List}
 use native.Mathlib.Nat.{le_refl}
 use lib.Dec.{lit≤}
 use lib.IntN.{ℤ}
-use Rattle.number_whole.specs.laws.Bound.{under-weaken, under-floor, under-ceil}
+use Rattle.number_whole.proofs.laws.Bound.{under-weaken, under-floor, under-ceil}
 use Rattle.number_whole.specs.SignedEnds.{outward}
 use Rattle.number_whole.specs.declared.SignedEnds.{SignedEnds}
 use Rattle.number_whole.specs.code.Sizes.{Within}

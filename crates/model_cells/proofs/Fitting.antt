@@ -12,9 +12,9 @@ use lib.ListN.{length, take, set, length-set}
 use lib.Seq.{take-suc-set, take_all}
 use lib.Ieee.Bits.{is_true}
 use mir.Facts.{yes_and}
-use Rattle.number_whole.specs.laws.Bound.{under-weaken}
+use Rattle.number_whole.proofs.laws.Bound.{under-weaken}
 use Rattle.number_whole.specs.Listed.{listed}
-use Rattle.number_whole.specs.laws.Table.{listed_more}
+use Rattle.number_whole.proofs.laws.Table.{listed_more}
 use Rattle.number_exponential.specs.Grid.{Grid}
 use Rattle.number_exponential.specs.declared.GridUnit.{GridUnit}
 use Rattle.number_exponential.specs.Units.{grid_of}
@@ -25,15 +25,15 @@ use Rattle.set_params.specs.Limits.{last_years}
 use Rattle.number_whole.specs.declared.SignedEnds.{SignedEnds}
 use Rattle.number_whole.specs.code.Sizes.{Within}
 use Rattle.model_log_force.specs.LogForce.{log_force, in_range}
-use Rattle.model_log_force.specs.laws.RangeLaws.{log_force-negated}
+use Rattle.model_log_force.proofs.laws.RangeLaws.{log_force-negated}
 use Rattle.model_log_force.specs.code.Within.{log_force_width, Negated}
 use Rattle.model_logarithm.specs.Logarithm.{inverse_logistic}
 use Rattle.model_closure.specs.Weights.{first_fitted, fitted}
 use Rattle.model_closure.specs.code.Code.{end_limit}
 use Rattle.model_force.specs.Force.{negated}
 use Rattle.model_mortality.specs.Cell.{young_force, fitted_ends, fitted_list, fitted_in_range}
-use Rattle.model_mortality.specs.laws.Needed.{fitted-range}
-use Rattle.model_mortality.specs.laws.Holds.{fitted-at}
+use Rattle.model_mortality.proofs.laws.Needed.{fitted-range}
+use Rattle.model_mortality.proofs.laws.Holds.{fitted-at}
 use Rattle.model_cells.specs.declared.Fitted.{Fitted}
 use Rattle.model_cells.specs.code.Fitted.{FittedOf}
 use Rattle.model_force.proofs.Ends.{under-lower, under-upper, exp-small, log-lower-small, log-upper-small, end-under}

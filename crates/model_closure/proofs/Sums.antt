@@ -8,10 +8,10 @@ use lib.IntN.{ℤ, ◌+ℤ◌}
 use mir.Syntax.{w64}
 use mir.Val.{SFits}
 use Rattle.number_whole.specs.code.Sizes.{Under, Within}
-use Rattle.number_whole.specs.laws.Bound.{bits, under-lit, under-weaken, under-add, fits, back}
+use Rattle.number_whole.proofs.laws.Bound.{bits, under-lit, under-weaken, under-add, fits, back}
 use Rattle.number_whole.specs.declared.SignedEnds.{SignedEnds}
 use Rattle.number_whole.specs.SignedEnds.{least_product, greatest_product}
-use Rattle.number_whole.specs.laws.EndLaws.{least_under, greatest-under}
+use Rattle.number_whole.proofs.laws.EndLaws.{least_under, greatest-under}
 use Rattle.number_whole.proofs.Signed.{read, sum}
 use Rattle.model_closure.specs.Weights.{fitted}
 use Rattle.model_closure.specs.code.Totals.{weight_limit}

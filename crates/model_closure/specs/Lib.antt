@@ -2,5 +2,3 @@ pub mod Weights
 pub mod Closure
 pub mod Exact
 pub mod code
-pub mod laws
-pub mod examples

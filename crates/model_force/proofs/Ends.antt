@@ -11,10 +11,10 @@ use mir.Syntax.{w64}
 use mir.Val.{Fits, SFits}
 use mir.Facts.{to_z-of_z}
 use Rattle.number_whole.specs.Parts.{below}
-use Rattle.number_whole.specs.laws.Sign.{below-sign, below-size}
+use Rattle.number_whole.proofs.laws.Sign.{below-sign, below-size}
 use Rattle.number_whole.specs.code.Sizes.{Under}
-use Rattle.number_whole.specs.laws.Bound.{bits, under-pos, under-weaken, under-add, fits, back}
-use Rattle.number_whole.specs.laws.DivisionLaws.{ceilℕ-least}
+use Rattle.number_whole.proofs.laws.Bound.{bits, under-pos, under-weaken, under-add, fits, back}
+use Rattle.number_whole.proofs.laws.DivisionLaws.{ceilℕ-least}
 use Rattle.number_whole.specs.declared.SignedEnds.{SignedEnds}
 use Rattle.number_exponential.specs.declared.Ends.{Ends}
 use Rattle.number_exponential.specs.Exponential.{exp_between}
@@ -22,16 +22,16 @@ use Rattle.number_exponential.specs.Grid.{Grid}
 use Rattle.number_exponential.specs.declared.GridUnit.{GridUnit}
 use Rattle.number_exponential.specs.declared.GridUnit.TheVariants.{Coarse, Fine}
 use Rattle.number_exponential.specs.Units.{grid_of}
-use Rattle.number_exponential.specs.laws.GridFacts.{unit-sound}
-use Rattle.number_exponential.specs.laws.Scales.{most_scale, scale-most}
-use Rattle.number_exponential.specs.laws.AtMostOne.{exp-lower-one, exp-upper-one}
+use Rattle.number_exponential.proofs.laws.GridFacts.{unit-sound}
+use Rattle.number_exponential.proofs.laws.Scales.{most_scale, scale-most}
+use Rattle.number_exponential.proofs.laws.AtMostOne.{exp-lower-one, exp-upper-one}
 use Rattle.number_whole.proofs.Signed.{sum}
 use Rattle.model_log_force.specs.LogForce.{lowest_force}
 use Rattle.model_log_force.specs.code.Within.{Negated}
-use Rattle.model_log_force.specs.laws.RangeLaws.{scale-some}
+use Rattle.model_log_force.proofs.laws.RangeLaws.{scale-some}
 use Rattle.model_logarithm.specs.Logarithm.{power_lower, power_upper, log_terms_lower, log_terms_upper, log_rest, log_lower, log_upper}
-use Rattle.model_logarithm.specs.laws.Powers.{power-lower-bound, power-upper-bound}
-use Rattle.model_logarithm.specs.laws.GridFacts.{unit-fine}
+use Rattle.model_logarithm.proofs.laws.Powers.{power-lower-bound, power-upper-bound}
+use Rattle.model_logarithm.proofs.laws.GridFacts.{unit-fine}
 use Rattle.model_logistic.proofs.Force.{negated}
 
 -- ---- −m

@@ -10,23 +10,23 @@ use mir.Syntax.{w64}
 use mir.Val.{SFits}
 use Rattle.number_whole.specs.Division.{floor_div, ceil_div}
 use Rattle.number_whole.specs.code.Sizes.{Under, Within}
-use Rattle.number_whole.specs.laws.Bound.{bits, fits, back, under-add, under-mul, under-weaken, under-floor, under-ceil, under-floor-to, under-ceil-to}
+use Rattle.number_whole.proofs.laws.Bound.{bits, fits, back, under-add, under-mul, under-weaken, under-floor, under-ceil, under-floor-to, under-ceil-to}
 use Rattle.number_whole.specs.declared.SignedEnds.{SignedEnds}
 use Rattle.number_whole.specs.SignedEnds.{least_product, greatest_product, outward}
-use Rattle.number_whole.specs.laws.EndLaws.{outward-under}
+use Rattle.number_whole.proofs.laws.EndLaws.{outward-under}
 use Rattle.number_whole.proofs.Signed.{read, sum, product}
 use Rattle.number_exponential.specs.declared.GridUnit.{GridUnit}
 use Rattle.number_exponential.specs.Units.{grid_of}
-use Rattle.number_exponential.specs.laws.Scales.{most_scale, under-scaled}
+use Rattle.number_exponential.proofs.laws.Scales.{most_scale, under-scaled}
 use Rattle.set_params.specs.declared.Age.{Age}
 use Rattle.set_params.specs.Limits.{a_limit, kappa_limit}
 use Rattle.set_series.specs.Series.{coefficient_unit, in_grid}
 use Rattle.set_series.specs.code.Within.{number_limit, mixed_over, MixedWithin}
-use Rattle.set_series.specs.laws.BoundLaws.{in_grid-under}
-use Rattle.set_series.specs.laws.Mixed.{end_by, least-over, greatest-over}
+use Rattle.set_series.proofs.laws.BoundLaws.{in_grid-under}
+use Rattle.set_series.proofs.laws.Mixed.{end_by, least-over, greatest-over}
 use Rattle.model_log_force.specs.LogForce.{cell_force}
 use Rattle.model_log_force.specs.code.Within.{CellLimits}
-use Rattle.model_log_force.specs.laws.BoundLaws.{force_limit, quotients-under, cell_force-under}
+use Rattle.model_log_force.proofs.laws.BoundLaws.{force_limit, quotients-under, cell_force-under}
 
 module _ (u : GridUnit) {age : Age} {k : ℤ} {e : SignedEnds} (l : CellLimits (grid_of u) age k e) where
   -- A + alpha, and that in the grid's units

@@ -6,15 +6,15 @@ use native.Mathlib.Numerals.{add-one}
 use native.Mathlib.Omega.{arith}
 use lib.Dec.{lit≤}
 use Rattle.number_whole.specs.Division.{ceil_div_ℕ}
-use Rattle.number_whole.specs.laws.DivisionLaws.{ceilℕ-least, ceilℕ-exact}
+use Rattle.number_whole.proofs.laws.DivisionLaws.{ceilℕ-least, ceilℕ-exact}
 use Rattle.number_exponential.specs.Grid.{Grid}
 use Rattle.number_exponential.specs.declared.GridUnit.{GridUnit}
 use Rattle.number_exponential.specs.declared.GridUnit.TheVariants.{Coarse, Fine}
 use Rattle.number_exponential.specs.Units.{grid_of, ten_trillionths}
 use Rattle.number_products.specs.laws.Units.{unit-most}
 use Rattle.model_logarithm.specs.Logarithm.{power_lower, power_upper, log_terms_lower, log_terms_upper, log_rest, log_lower, log_upper}
-use Rattle.model_logarithm.specs.laws.Powers.{power-lower-bound, power-upper-bound}
-use Rattle.model_logarithm.specs.laws.RunOut.{lower-run, upper-run}
+use Rattle.model_logarithm.proofs.laws.Powers.{power-lower-bound, power-upper-bound}
+use Rattle.model_logarithm.proofs.laws.RunOut.{lower-run, upper-run}
 
 -- the powers are those of `powers` and the sums those of `sums`
 pub record Steps (g : Grid) (powers sums : ℕ → ℕ) (power sum k : ℕ) : Type 0 where

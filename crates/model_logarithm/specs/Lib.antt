@@ -1,4 +1,3 @@
 pub mod Logarithm
 pub mod Exact
 pub mod Positive
-pub mod laws

@@ -10,15 +10,15 @@ use lib.Signed.{non_neg, lt_z}
 use mir.Syntax.{w64}
 use mir.Val.{Fits, SFits}
 use Rattle.number_whole.specs.Division.{ceil_div_ℕ}
-use Rattle.number_whole.specs.laws.Sign.{Sign, minus, plain, sign}
+use Rattle.number_whole.proofs.laws.Sign.{Sign, minus, plain, sign}
 use Rattle.number_whole.specs.code.Sizes.{Under}
-use Rattle.number_whole.specs.laws.Bound.{bits, under-pos, fits, back}
+use Rattle.number_whole.proofs.laws.Bound.{bits, under-pos, fits, back}
 use Rattle.number_exponential.specs.Exponential.{exp_lower, exp_upper}
 use Rattle.number_exponential.specs.Grid.{Grid}
 use Rattle.number_exponential.specs.declared.GridUnit.{GridUnit}
 use Rattle.number_exponential.specs.Units.{grid_of}
-use Rattle.number_exponential.specs.laws.GridFacts.{unit-sound}
-use Rattle.number_exponential.specs.laws.AtMostOne.{exp-lower-one, exp-upper-one}
+use Rattle.number_exponential.proofs.laws.GridFacts.{unit-sound}
+use Rattle.number_exponential.proofs.laws.AtMostOne.{exp-lower-one, exp-upper-one}
 use Rattle.number_whole.proofs.Signed.{read}
 use Rattle.model_logistic.specs.Logistic.{logistic_lower, logistic_upper, over_one_lower, over_one_upper, share_lower, share_upper}
 use Rattle.model_logistic.specs.code.Code.{closed_limit}

@@ -1,1 +1,2 @@
 pub mod Force
+pub mod laws

@@ -3,4 +3,3 @@ pub mod Exact
 pub mod Units
 pub mod Positive
 pub mod code
-pub mod laws

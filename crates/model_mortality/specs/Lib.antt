@@ -1,4 +1,2 @@
 pub mod Cell
 pub mod Exact
-pub mod laws
-pub mod examples

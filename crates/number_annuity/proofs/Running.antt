@@ -11,11 +11,11 @@ use Rattle.number_exponential.specs.Grid.{Grid}
 use Rattle.number_exponential.specs.declared.Ends.{Ends}
 use Rattle.number_folds.specs.Folds.{one, with_factor, plus}
 use Rattle.number_folds.specs.code.Code.{AtMost, most_factors, Chances}
-use Rattle.number_folds.specs.laws.Bounds.{with-factor-at-most}
+use Rattle.number_folds.proofs.laws.Bounds.{with-factor-at-most}
 use Rattle.number_folds.proofs.Running.{SurvivalTo, first, within}
 use Rattle.number_annuity.specs.Annuity.{discounted, discount_over, payment_after, annuity_over}
-use Rattle.number_annuity.specs.laws.Steps.{annuity-none, annuity-next}
-use Rattle.number_annuity.specs.laws.Bounds.{discount-at-most, annuity-at-most}
+use Rattle.number_annuity.proofs.laws.Steps.{annuity-none, annuity-next}
+use Rattle.number_annuity.proofs.laws.Bounds.{discount-at-most, annuity-at-most}
 
 pub record DiscountTo (g : Grid) (rate i : ℕ) (d : Ends) : Type 0 where
   pub is : d ≡ discount_over g rate i

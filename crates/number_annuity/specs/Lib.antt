@@ -1,4 +1,3 @@
 pub mod Annuity
 pub mod Exact
-pub mod laws
 pub mod examples

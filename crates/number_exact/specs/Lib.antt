@@ -1,4 +1,3 @@
 pub mod Value
 pub mod Figure
-pub mod laws
 pub mod examples

@@ -6,16 +6,16 @@ use Prim.Native.Nat.{ℕ, suc, ◌+◌, ◌-◌, ◌*◌, ◌≤◌, ◌<◌, mi
 use native.Mathlib.Nat.{le_refl, mul_comm, one-mul, mul-div_cancel, mul-le-mul, eq-zero-or-pos}
 use native.Mathlib.Numerals.{add-one}
 use native.Mathlib.Omega.{arith}
-use Rattle.number_whole.specs.laws.DivisionLaws.{ceilℕ-exact}
+use Rattle.number_whole.proofs.laws.DivisionLaws.{ceilℕ-exact}
 use Rattle.number_taylor.specs.Alternating.{double}
 use Rattle.number_exponential.specs.Grid.{Grid}
 use Rattle.number_exponential.specs.Exponential.{next_lower, next_upper, term_lower, term_upper, total, sum_lower, sum_upper}
-use Rattle.number_exponential.specs.laws.Facts.{Sound}
-use Rattle.number_exponential.specs.laws.WidthFacts.{Narrow}
-use Rattle.number_exponential.specs.laws.Terms.{term-lower-bound, term-upper-bound}
-use Rattle.number_exponential.specs.laws.Sums.{even_total, odd_total, evens-even, evens-odd, odds-even, odds-odd}
-use Rattle.number_exponential.specs.laws.NearSums.{lower-kept, upper-kept}
-use Rattle.number_exponential.specs.laws.RunOut.{term-lower-stays, term-upper-stays, even-run, odd-run}
+use Rattle.number_exponential.proofs.laws.Facts.{Sound}
+use Rattle.number_exponential.proofs.laws.WidthFacts.{Narrow}
+use Rattle.number_exponential.proofs.laws.Terms.{term-lower-bound, term-upper-bound}
+use Rattle.number_exponential.proofs.laws.Sums.{even_total, odd_total, evens-even, evens-odd, odds-even, odds-odd}
+use Rattle.number_exponential.proofs.laws.NearSums.{lower-kept, upper-kept}
+use Rattle.number_exponential.proofs.laws.RunOut.{term-lower-stays, term-upper-stays, even-run, odd-run}
 use Rattle.number_exponential.specs.declared.GridUnit.{GridUnit}
 use Rattle.number_exponential.specs.Units.{grid_of, ten_trillionths}
 use Rattle.number_products.specs.laws.Units.{unit-most}

@@ -9,15 +9,15 @@ use native.Mathlib.Decide.{dec_lt}
 use lib.ListN.{length, get_or-eq_default}
 use borrow.Author.Tests.{lt-ltb, le-ltb}
 use Rattle.number_whole.specs.Division.{ceil_div_ℕ}
-use Rattle.number_whole.specs.laws.DivisionLaws.{ceilℕ-exact}
+use Rattle.number_whole.proofs.laws.DivisionLaws.{ceilℕ-exact}
 use Rattle.number_taylor.specs.Taylor.{taylor_den, taylor_num}
 use Rattle.number_exponential.specs.Grid.{Grid}
 use Rattle.number_exponential.specs.Exponential.{step, cutoff_units, sum_lower, sum_upper, constant_lower, constant_upper, exp_lower, exp_upper}
-use Rattle.number_exponential.specs.laws.Facts.{Sound}
-use Rattle.number_exponential.specs.laws.Soundness.{rest-small, steps-below}
-use Rattle.number_exponential.specs.laws.SumLaws.{sum-lower}
-use Rattle.number_exponential.specs.laws.AtMostOne.{constant-upper-one}
-use Rattle.number_exponential.specs.laws.Width.{sum-upper-bound}
+use Rattle.number_exponential.proofs.laws.Facts.{Sound}
+use Rattle.number_exponential.proofs.laws.Soundness.{rest-small, steps-below}
+use Rattle.number_exponential.proofs.laws.SumLaws.{sum-lower}
+use Rattle.number_exponential.proofs.laws.AtMostOne.{constant-upper-one}
+use Rattle.number_exponential.proofs.laws.Width.{sum-upper-bound}
 
 -- past 0 a constant's upper end is one more than its lower end
 one_more : (g : Grid) (n : ℕ) → (n ≡ 0 → ⊥) → constant_upper g n ≡ constant_lower g n + 1

@@ -3,5 +3,4 @@ pub mod Exponential
 pub mod Units
 pub mod Outward
 pub mod code
-pub mod laws
 pub mod examples

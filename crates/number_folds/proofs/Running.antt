@@ -12,8 +12,8 @@ use Rattle.number_exponential.specs.declared.Ends.{Ends}
 use Rattle.number_folds.specs.Folds.{one, half, with_factor, survival_from, survival_over, plus, sum_over, expectancy_over}
 use Rattle.number_folds.specs.laws.Each.{Each, each_take, each_at}
 use Rattle.number_folds.specs.code.Code.{AtMost, most_factors, Chances}
-use Rattle.number_folds.specs.laws.Steps.{survival-next, expectancy-next}
-use Rattle.number_folds.specs.laws.Bounds.{survival-at-most, expectancy-at-most, years-at-most}
+use Rattle.number_folds.proofs.laws.Steps.{survival-next, expectancy-next}
+use Rattle.number_folds.proofs.laws.Bounds.{survival-at-most, expectancy-at-most, years-at-most}
 
 -- the factor that the code reads at i, with what would stand past the end
 abbrev pub past : Ends

@@ -2,4 +2,3 @@ pub mod Folds
 pub mod Exact
 pub mod code
 pub mod laws
-pub mod examples

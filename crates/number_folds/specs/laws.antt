@@ -1,9 +1,1 @@
 pub mod Each
-pub mod Steps
-pub mod Bounds
-pub mod Holds
-pub mod OrdersAgree
-pub mod Width
-pub mod Parts
-pub mod Plain
-pub mod Narrowing

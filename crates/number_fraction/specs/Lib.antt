@@ -1,5 +1,3 @@
 pub mod Ratio
 pub mod Bracket
 pub mod Fraction
-pub mod laws
-pub mod examples

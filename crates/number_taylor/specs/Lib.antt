@@ -2,4 +2,3 @@ pub mod Taylor
 pub mod Order
 pub mod Alternating
 pub mod Positive
-pub mod laws

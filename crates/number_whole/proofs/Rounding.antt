@@ -13,11 +13,11 @@ use mir.Syntax.{w64}
 use mir.Val.{Fits, SFits, to_z}
 use mir.Facts.{to_z-of_z}
 use Rattle.number_whole.specs.Parts.{below}
-use Rattle.number_whole.specs.laws.Above.{above}
-use Rattle.number_whole.specs.laws.Split.{split, split-sub, split-add, split-abs}
+use Rattle.number_whole.proofs.laws.Above.{above}
+use Rattle.number_whole.proofs.laws.Split.{split, split-sub, split-add, split-abs}
 use Rattle.number_whole.specs.Division.{floor_div, ceil_div}
-use Rattle.number_whole.specs.laws.Bound.{bits, fits-parts, under-weaken, under-floor-to, under-ceil-to}
-use Rattle.number_whole.specs.laws.Shift.{floor-shift, ceil-is-floor}
+use Rattle.number_whole.proofs.laws.Bound.{bits, fits-parts, under-weaken, under-floor-to, under-ceil-to}
+use Rattle.number_whole.proofs.laws.Shift.{floor-shift, ceil-is-floor}
 use Rattle.number_whole.specs.code.Sizes.{Under, Divides}
 
 -- ---- the sealed operations

@@ -8,7 +8,7 @@ use mir.Syntax.{w64}
 use mir.Val.{SFits}
 use mir.Facts.{to_z-of_z}
 use Rattle.number_whole.specs.Division.{floor_div, ceil_div}
-use Rattle.number_whole.specs.laws.Bound.{bits, fits-floor, fits-ceil}
+use Rattle.number_whole.proofs.laws.Bound.{bits, fits-floor, fits-ceil}
 use Rattle.number_whole.specs.declared.SignedEnds.{SignedEnds}
 
 -- a number that is z is read as z, and so are its floor and its ceiling

@@ -3,5 +3,4 @@ pub mod Parts
 pub mod Division
 pub mod SignedEnds
 pub mod code
-pub mod laws
 pub mod examples

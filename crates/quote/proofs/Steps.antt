@@ -8,9 +8,9 @@ use borrow.Author.Tests.{ne_eqb}
 use lib.Dec.{T}
 use lib.IntN.{ℤ, nat_abs}
 use lib.Ieee.Bits.{is_true}
-use Rattle.number_whole.specs.laws.Clash.{clash}
+use Rattle.number_whole.proofs.laws.Clash.{clash}
 use Rattle.number_whole.specs.code.Sizes.{Under}
-use Rattle.number_whole.specs.laws.Bound.{under-pos}
+use Rattle.number_whole.proofs.laws.Bound.{under-pos}
 use Rattle.number_fraction.specs.Ratio.{whole/}
 use Rattle.number_exponential.specs.Units.{billionths}
 use Rattle.set_params.specs.declared.Params.{Params}
@@ -27,7 +27,7 @@ use Rattle.quote_factors.specs.code.Code.{PartWithin}
 use Rattle.quote_kinds.specs.declared.Kind.{Kind}
 use Rattle.quote_kinds.specs.Kinds.{rule_of, count_of, step_of, span_of, part_of}
 use Rattle.quote_table_tests.specs.TableTests.{age_in_table, year_in_table, date_in_table, span_in_table, rate_in_table, Test, first_failed, table_tests}
-use Rattle.quote_table_tests.specs.laws.TableLaws.{InTable}
+use Rattle.quote_table_tests.proofs.laws.TableLaws.{InTable}
 use Rattle.quote_along.specs.declared.Quote.{Quote}
 use Rattle.quote_along.specs.declared.Answer.{Answer}
 use Rattle.quote_along.specs.declared.Answer.TheVariants.{Quoted, Refused}
@@ -35,8 +35,8 @@ use Rattle.quote_along.specs.code.Code.{in_range_or, quote_for, path_quote}
 use Rattle.quote.specs.Quote.{query_path, query_ends, quote_of, refusal_of, answer_by, answer_of}
 use Rattle.quote.specs.code.Code.{answer_for}
 use Rattle.quote.specs.Demand.{Demand3}
-use Rattle.quote.specs.laws.Theorem.{demand-met}
-use Rattle.quote.specs.laws.Tests.{kind-within, Counted, part-within, part-after}
+use Rattle.quote.proofs.laws.Theorem.{demand-met}
+use Rattle.quote.proofs.laws.Tests.{kind-within, Counted, part-within, part-after}
 
 -- ---- the refusal
 

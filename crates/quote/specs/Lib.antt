@@ -1,4 +1,3 @@
 pub mod Quote
 pub mod Demand
 pub mod code
-pub mod laws

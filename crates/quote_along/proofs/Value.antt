@@ -15,15 +15,15 @@ use Rattle.number_exponential.specs.declared.Ends.{Ends}
 use Rattle.number_exponential.specs.declared.GridUnit.{GridUnit}
 use Rattle.number_exponential.specs.declared.GridUnit.TheVariants.{Coarse, Fine}
 use Rattle.number_exponential.specs.Units.{grid_of}
-use Rattle.number_exponential.specs.laws.GridFacts.{unit-sound, unit-most}
+use Rattle.number_exponential.proofs.laws.GridFacts.{unit-sound, unit-most}
 use Rattle.set_params.specs.declared.Params.{Params}
 use Rattle.number_exact.specs.declared.Figure.{Figure}
 use Rattle.number_exact.specs.Figure.{figure_of}
 use Rattle.number_folds.specs.code.Code.{most_factors, Chances}
 use Rattle.quote_paths.specs.Path.{Place, part_year, factors}
 use Rattle.quote_paths.specs.Values.{grid_value}
-use Rattle.quote_paths.specs.laws.Answers.{path-length}
-use Rattle.quote_paths.specs.laws.Width.{factors-chances, value-small}
+use Rattle.quote_paths.proofs.laws.Answers.{path-length}
+use Rattle.quote_paths.proofs.laws.Width.{factors-chances, value-small}
 use Rattle.quote_paths.specs.declared.Path.{Path}
 use Rattle.quote_paths.specs.declared.Part.{Part}
 use Rattle.quote_paths.specs.code.Code.{IsPart}

@@ -1,4 +1,3 @@
 pub mod Compare
 pub mod code
-pub mod laws
 pub mod examples

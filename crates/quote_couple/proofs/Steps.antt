@@ -21,7 +21,7 @@ use Rattle.quote_couple_kinds.specs.declared.CoupleKind.{CoupleKind}
 use Rattle.quote_couple_kinds.specs.declared.CoupleKind.TheVariants.{JointLife, LastSurvivor, JointExpectancy, LastExpectancy}
 use Rattle.quote_couple_kinds.specs.CoupleKinds.{single_of}
 use Rattle.quote_table_tests.specs.TableTests.{age_in_table, year_in_table, span_in_table, first_failed, table_tests}
-use Rattle.quote_table_tests.specs.laws.TableLaws.{in_table}
+use Rattle.quote_table_tests.proofs.laws.TableLaws.{in_table}
 use Rattle.quote_along.specs.declared.Quote.{Quote}
 use Rattle.quote_along.specs.QuoteBy.{quote_by}
 use Rattle.quote_along.specs.code.Code.{in_range_or}
@@ -29,13 +29,13 @@ use Rattle.quote_along.specs.declared.Answer.{Answer}
 use Rattle.quote_along.specs.declared.Answer.TheVariants.{Refused}
 use Rattle.quote.specs.Quote.{query_path, answer_by}
 use Rattle.quote.specs.code.Code.{path_to}
-use Rattle.quote.specs.laws.Tests.{counted, path-first, path_room, path-in}
+use Rattle.quote.proofs.laws.Tests.{counted, path-first, path_room, path-in}
 use Rattle.quote.proofs.Steps.{refused, failed-append, first-passed, number-none}
 use Rattle.quote_couple.specs.Couple.{life_path, couple_ends, couple_table, couple_refusal, couple_step, couple_answer}
 use Rattle.quote_couple.specs.code.Code.{paths_quote}
 use Rattle.quote_couple.specs.Couple.{CoupleDemand3}
-use Rattle.quote_couple.specs.laws.Theorem.{demand-met}
-use Rattle.quote_couple.specs.laws.CoupleTests.{CoupleIn, same-starts, other-starts}
+use Rattle.quote_couple.proofs.laws.Theorem.{demand-met}
+use Rattle.quote_couple.proofs.laws.CoupleTests.{CoupleIn, same-starts, other-starts}
 
 -- ---- each life's path, as the code has it
 

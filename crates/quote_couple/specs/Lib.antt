@@ -1,3 +1,2 @@
 pub mod Couple
 pub mod code
-pub mod laws

@@ -16,7 +16,7 @@ use Rattle.model_closure.specs.Weights.{last_closed}
 use Rattle.number_folds.specs.code.Code.{most_factors}
 use Rattle.model_mortality.specs.Cell.{whole_year, survival}
 use Rattle.quote_paths.specs.Path.{place_at, path_of, factors, path_in_range}
-use Rattle.quote_paths.specs.laws.Oldest.{range-stays, factors-stay, place-oldest}
+use Rattle.quote_paths.proofs.laws.Oldest.{range-stays, factors-stay, place-oldest}
 use Rattle.quote_paths.specs.declared.Path.{Path}
 use Rattle.quote_walks.specs.code.Code.{path_to, path_is, Worked}
 use Rattle.quote_walks.proofs.Steps.{worked-last}

@@ -20,7 +20,7 @@ use Rattle.model_cells.specs.laws.Answers.{cell-there, cell-gone}
 use Rattle.model_part_year.specs.code.Code.{part_cell}
 use Rattle.number_folds.specs.code.Code.{most_factors}
 use Rattle.quote_paths.specs.Path.{Place, part_year, factors, path_in_range}
-use Rattle.quote_paths.specs.laws.Answers.{path-length, in-range-append, factors-append}
+use Rattle.quote_paths.proofs.laws.Answers.{path-length, in-range-append, factors-append}
 use Rattle.quote_paths.specs.declared.Path.{Path}
 use Rattle.quote_paths.specs.declared.Part.{Part}
 use Rattle.quote_paths.specs.code.Code.{IsPart}

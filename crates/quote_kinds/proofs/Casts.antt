@@ -7,8 +7,8 @@ use lib.Signed.{non_neg}
 use mir.Syntax.{w64}
 use mir.Val.{Fits, SFits}
 use mir.Facts.{to_z-of_z}
-use Rattle.number_whole.specs.laws.Clash.{clash}
-use Rattle.number_whole.specs.laws.Bound.{bits}
+use Rattle.number_whole.proofs.laws.Clash.{clash}
+use Rattle.number_whole.proofs.laws.Bound.{bits}
 
 pub cast-whole : {z : ℤ} → SFits w64 z → pos (nat_abs z) ≡ z → T (non_neg (bits z)) × Fits w64 (nat_abs (bits z))
 cast-whole {z = pos n} f e = rw (to_z-of_z f) (tt, record { fits = omega (arith, f.sfits) })

@@ -1,5 +1,4 @@
 pub mod Path
 pub mod Values
 pub mod code
-pub mod laws
 pub mod examples

@@ -1,2 +1,1 @@
 pub mod TableTests
-pub mod laws

@@ -1,2 +1,1 @@
 pub mod Target
-pub mod laws

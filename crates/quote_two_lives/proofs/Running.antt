@@ -11,12 +11,12 @@ use Rattle.number_exponential.specs.Grid.{Grid}
 use Rattle.number_exponential.specs.declared.Ends.{Ends}
 use Rattle.number_folds.specs.Folds.{half, plus, sum_over}
 use Rattle.number_folds.specs.code.Code.{AtMost, most_factors, Chances}
-use Rattle.number_folds.specs.laws.Bounds.{years-at-most}
+use Rattle.number_folds.proofs.laws.Bounds.{years-at-most}
 use Rattle.number_folds.proofs.Running as life
 use Rattle.quote_couple_kinds.specs.declared.Status.{Status}
 use Rattle.quote_two_lives.specs.TwoLives.{status_chance, status_over, status_expectancy_over}
-use Rattle.quote_two_lives.specs.laws.Sizes.{status-at-most, expectancy-at-most}
-use Rattle.quote_two_lives.specs.laws.Steps.{expectancy-next}
+use Rattle.quote_two_lives.proofs.laws.Sizes.{status-at-most, expectancy-at-most}
+use Rattle.quote_two_lives.proofs.laws.Steps.{expectancy-next}
 
 abbrev expectancy_at : Grid → Status → List Ends → List Ends → ℕ → Ends
 expectancy_at g status first second i = status_expectancy_over status g (take i first) (take i second)

@@ -1,3 +1,2 @@
 pub mod TwoLives
 pub mod Exact
-pub mod laws

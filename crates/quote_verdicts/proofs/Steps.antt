@@ -35,9 +35,9 @@ use Rattle.quote_verdicts.specs.Verdict.{
   judged,
 }
 use Rattle.quote_verdicts.specs.code.Code.{column_read, figure_kept, Honest}
-use Rattle.quote_verdicts.specs.laws.VerdictLaws.{verdict-same}
-use Rattle.quote_verdicts.specs.laws.Figures.{figures-kept}
-use Rattle.quote_verdicts.specs.laws.Theorem.{verdict-honest}
+use Rattle.quote_verdicts.proofs.laws.VerdictLaws.{verdict-same}
+use Rattle.quote_verdicts.proofs.laws.Figures.{figures-kept}
+use Rattle.quote_verdicts.proofs.laws.Theorem.{verdict-honest}
 
 -- a set out of its limits
 pub out-of-limits : (p : Params) (year : ℤ) (read : Parse (List ℕ)) → in_limits p ≡ false → Refused OutOfLimits ≡ judged p year read

@@ -24,10 +24,10 @@ use Rattle.model_mortality.specs.Cell.{whole_year, survival, needed_in_range}
 use Rattle.model_log_force.specs.code.Year.{YearWithin}
 use Rattle.model_cells.specs.code.Code.{cell_of}
 use Rattle.model_cells.specs.laws.Answers.{cell-there, cell-gone}
-use Rattle.model_log_force.specs.laws.YearLaws.{year-within, year-next}
+use Rattle.model_log_force.proofs.laws.YearLaws.{year-within, year-next}
 use Rattle.number_folds.specs.code.Code.{most_factors}
 use Rattle.quote_paths.specs.Path.{place_at, path_of, factors, path_in_range}
-use Rattle.quote_paths.specs.laws.Answers.{path-length, factors-length, path-more, factors-append, in-range-more, range-out}
+use Rattle.quote_paths.proofs.laws.Answers.{path-length, factors-length, path-more, factors-append, in-range-more, range-out}
 use Rattle.quote_paths.specs.declared.Path.{Path}
 use Rattle.quote_walks.specs.code.Code.{place_of, path_to, path_is, PathWithin, Advanced, Worked, YearAt}
 

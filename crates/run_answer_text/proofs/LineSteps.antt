@@ -10,7 +10,7 @@ use Rattle.text_printing.specs.code.Put.{Room, Put}
 use Rattle.text_printing.specs.laws.PutLaws.{put_as, room_as, room-first, room-rest, put-join}
 use Rattle.set_refusal.specs.declared.Refusal.TheVariants.{Malformed}
 use Rattle.run_answer_text.specs.AnswerText.{refusal_line, without_feed, answered}
-use Rattle.run_answer_text.specs.laws.LineLaws.{Bounded, Lengths, answered-malformed, answered-taken}
+use Rattle.run_answer_text.proofs.laws.LineLaws.{Bounded, Lengths, answered-malformed, answered-taken}
 
 -- there is room for the answer, and a line that is read has a byte
 pub record Answering {A : Type 0} (read : List ℕ → Parse A) (follows : A → List ℕ) (bytes : List ℕ) (at : ℕ) (line : List ℕ) : Type 0 where

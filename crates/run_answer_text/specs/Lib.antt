@@ -1,4 +1,3 @@
 pub mod AnswerText
 pub mod code
-pub mod laws
 pub mod examples

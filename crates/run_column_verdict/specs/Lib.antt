@@ -1,2 +1,1 @@
 pub mod ColumnVerdict
-pub mod laws

@@ -9,7 +9,7 @@ use Rattle.text_printing.specs.code.Overwritten.{overwritten}
 use Rattle.text_printing.specs.laws.OverwrittenLaws.{overwritten-none, overwritten-previous}
 use Rattle.text_printing.specs.code.Put.{Room, Put}
 use Rattle.run_figure_text.specs.FigureText.{last_digits}
-use Rattle.run_figure_text.specs.laws.FigureTextLaws.{last-length}
+use Rattle.run_figure_text.proofs.laws.FigureTextLaws.{last-length}
 
 -- the last digits of n are written from the place at + left on, and so many of the rest are still to come
 pub record Tail (buffer₀ : List ℕ) (at d n : ℕ) (buffer : List ℕ) (rest left : ℕ) : Type 0 where

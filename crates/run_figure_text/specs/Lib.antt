@@ -1,4 +1,3 @@
 pub mod FigureText
 pub mod code
-pub mod laws
 pub mod examples

@@ -10,7 +10,7 @@ use lib.Dec.{leb}
 use lib.IntN.{ℤ}
 use lib.ListN.{length, drop, drop_of_length-le}
 use lib.Seq.{drop-cons}
-use Rattle.number_whole.specs.laws.Clash.{clash}
+use Rattle.number_whole.proofs.laws.Clash.{clash}
 use Rattle.text_tokens.specs.Text.{bytes_of, Parse, malformed, taken, is_taken, take_text, and_then}
 use Rattle.text_tokens.specs.code.Places.{text_at}
 use Rattle.text_tokens.specs.laws.TextLaws.{text-found, text-missing}

@@ -1,3 +1,2 @@
 pub mod VerdictRun
 pub mod code
-pub mod laws

@@ -11,7 +11,7 @@ use mir.Syntax.{w64}
 use mir.Val.{SFits, to_z, of_z}
 use mir.Facts.{to_z-of_z}
 use Rattle.number_whole.specs.code.Sizes.{Under}
-use Rattle.number_whole.specs.laws.Bound.{under-lit}
+use Rattle.number_whole.proofs.laws.Bound.{under-lit}
 use Rattle.set_params.specs.Limits.{within}
 
 -- −limit fits

@@ -4,13 +4,13 @@ use Prim.Native.Nat.{◌*◌}
 use lib.IntN.{ℤ}
 use lib.Signed.{non_neg}
 use Rattle.number_whole.specs.code.Sizes.{Under}
-use Rattle.number_whole.specs.laws.Bound.{bits, fits, back, under-cond}
+use Rattle.number_whole.proofs.laws.Bound.{bits, fits, back, under-cond}
 use Rattle.number_whole.proofs.Signed.{read}
 use Rattle.number_exponential.specs.declared.GridUnit.{GridUnit}
 use Rattle.number_exponential.specs.Units.{grid_of}
-use Rattle.number_exponential.specs.laws.Scales.{under-scaled}
+use Rattle.number_exponential.proofs.laws.Scales.{under-scaled}
 use Rattle.set_params.specs.Limits.{a_limit, kappa_limit}
-use Rattle.set_series.specs.laws.Mixed.{end_by}
+use Rattle.set_series.proofs.laws.Mixed.{end_by}
 
 module _ (u : GridUnit) {c : ℤ} (l : Under c a_limit) {end other : ℤ} (h : Under end ((grid_of u).scale * kappa_limit))
     (k : Under other ((grid_of u).scale * kappa_limit)) where

@@ -1,4 +1,3 @@
 pub mod Series
 pub mod Exact
 pub mod code
-pub mod laws

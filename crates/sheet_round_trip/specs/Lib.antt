@@ -1,2 +1,1 @@
 pub mod Trips
-pub mod laws

@@ -9,7 +9,7 @@ use lib.Bits.{bit_and, bit_or, bit_xor, and_le_r}
 use lib.Dec.{T, eqb, eqb→eq, lit<, lit≤}
 use lib.ListN.{length}
 use Rattle.number_whole.specs.Listed.{listed}
-use Rattle.number_whole.specs.laws.Table.{every, at, listed-length, listed_at}
+use Rattle.number_whole.proofs.laws.Table.{every, at, listed-length, listed_at}
 use Rattle.text_words.specs.code.Word.{byte_bits, word_bytes, bytes_in, lane_sum, word_of, Below}
 use Rattle.text_words.specs.laws.LaneLaws.{lanes-below, lanes-length}
 use Rattle.text_tokens.specs.Number.{is_digit}

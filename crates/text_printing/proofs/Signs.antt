@@ -9,8 +9,8 @@ use lib.Signed.{◌≤ℤ◌, ◌<ℤ◌, non_neg}
 use mir.Syntax.{w64}
 use mir.Val.{SFits}
 use Rattle.number_whole.specs.code.Sizes.{Under}
-use Rattle.number_whole.specs.laws.Bound.{under-lit, under-sub, fits}
-use Rattle.number_whole.specs.laws.Split.{split}
+use Rattle.number_whole.proofs.laws.Bound.{under-lit, under-sub, fits}
+use Rattle.number_whole.proofs.laws.Split.{split}
 use Rattle.number_whole.proofs.Rounding.{diff, diff_is}
 use Rattle.text_tokens.specs.Number.{most_digits}
 

@@ -14,7 +14,7 @@ use lib.Seq.{take_all, get_or-drop, drop-cons}
 use mir.Syntax.{w64}
 use mir.Val.{SFits, to_z, of_z}
 use mir.Facts.{to_z-of_z, to_z_pos}
-use Rattle.number_whole.specs.laws.Clash.{clash}
+use Rattle.number_whole.proofs.laws.Clash.{clash}
 use Rattle.text_tokens.specs.declared.Digits.{Digits}
 use Rattle.text_tokens.specs.declared.UnsignedRead.{UnsignedRead}
 use Rattle.text_tokens.specs.declared.UnsignedRead.TheVariants.{Malformed as NoUnsigned, Unsigned}

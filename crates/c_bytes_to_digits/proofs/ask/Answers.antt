@@ -4,7 +4,7 @@ use mir.Val.{SFits}
 use mir.Syntax.{w64}
 use mir.Facts.{to_z-of_z}
 use Rattle.c_bytes_to_digits.specs.Calls.{kind_in}
-use Rattle.c_bytes_to_digits.specs.laws.CallLaws.{called}
+use Rattle.c_bytes_to_digits.proofs.laws.CallLaws.{called}
 use Rattle.c_bytes_to_digits.proofs.ask.Goals as goal
 
 pub returns-in-Quote : goal.returns-in-Quote

@@ -15,8 +15,8 @@ use Rattle.set_params.specs.code.Runs.{Whole}
 use Rattle.set_limits.specs.InLimits.{in_limits}
 use Rattle.sheet.specs.declared.Reading.{Reading}
 use Rattle.sheet.specs.Sheet.{params_of, sheet_text, read_sheet, write_refusal}
-use Rattle.sheet.specs.laws.SetTrip.{params-whole, all_params, params-all}
-use Rattle.sheet.specs.laws.SheetTrip.{written-reads-back, read-writes-back}
+use Rattle.sheet.proofs.laws.SetTrip.{params-whole, all_params, params-all}
+use Rattle.sheet.proofs.laws.SheetTrip.{written-reads-back, read-writes-back}
 use Rattle.c_set_numbers.specs.SetNumbers.{set_length, table_number, sex_number, set_numbers, is_label, table_of, sex_of, are_set, set_of, set_over}
 use Rattle.c_set_numbers.specs.SetNumbers.{read_no, numbers_after, write_no}
 use Rattle.c_set_numbers.specs.laws.AnswerLaws.{as_many, first-labels, read-accepted}

@@ -11,7 +11,7 @@ use Rattle.set_refusal.specs.declared.Refusal.TheVariants.{Accepted, Malformed, 
 use Rattle.set_refusal.specs.Refusals.{refusal_number}
 use Rattle.sheet.specs.declared.Reading.{Reading}
 use Rattle.sheet.specs.Sheet.{read_sheet}
-use Rattle.sheet.specs.laws.BySheet.{sheet-refused, sheet-given}
+use Rattle.sheet.proofs.laws.BySheet.{sheet-refused, sheet-given}
 use Rattle.quote_kinds.specs.declared.Kind.{Kind}
 use Rattle.quote_along.specs.declared.Quote.{Quote}
 use Rattle.quote_along.specs.declared.Answer.{Answer}

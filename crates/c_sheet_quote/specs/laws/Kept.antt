@@ -13,7 +13,7 @@ use Rattle.quote_along.specs.declared.Quote.{Quote}
 use Rattle.quote_along.specs.declared.Answer.{Answer}
 use Rattle.quote_along.specs.declared.Answer.TheVariants.{Quoted, Refused}
 use Rattle.quote.specs.Quote.{refusal_of, quote_of, answer_by, answer_of}
-use Rattle.quote.specs.laws.AnswerLaws.{AnswerBy, quoted, refused, answer-by}
+use Rattle.quote.proofs.laws.AnswerLaws.{AnswerBy, quoted, refused, answer-by}
 use Rattle.quote.specs.Demand.{number_of}
 use Rattle.c_sheet_quote.specs.SheetQuote.{answer_to, sheet_answer, quote_length, quote_over}
 use Rattle.c_sheet_quote.specs.SheetQuote.{quoted_no, quoted_after, quote_no, quote_after}

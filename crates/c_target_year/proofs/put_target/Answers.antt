@@ -5,7 +5,7 @@ use mir.Syntax.{w64}
 use mathlib.Core.Path.{refl, sym}
 use mir.Facts.{to_z-of_z}
 use Rattle.c_target_year.specs.SheetTarget.{target_no, found_after, year_after}
-use Rattle.c_target_year.specs.laws.TargetLaws.{put_same}
+use Rattle.c_target_year.proofs.laws.TargetLaws.{put_same}
 use Rattle.c_target_year.proofs.put_target.Goals as goal
 
 pub returns-in-Reached : goal.returns-in-Reached

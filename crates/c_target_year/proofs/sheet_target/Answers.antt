@@ -2,7 +2,7 @@
 use borrow.Author.Rules.{rules}
 use native.Mathlib.Omega.{arith}
 use mir.Facts.{to_z-of_z}
-use Rattle.c_target_year.specs.laws.TargetLaws.{target-refused, target-given}
+use Rattle.c_target_year.proofs.laws.TargetLaws.{target-refused, target-given}
 use Rattle.c_target_year.proofs.sheet_target.Goals as goal
 
 pub returns-then-refusal_number-ne0 : goal.returns-then-refusal_number-ne0

@@ -1,7 +1,7 @@
 -- `target_into` meets its contract: the answer by the sheet, put into the two places.
 use borrow.Author.Rules.{rules}
 use mir.Facts.{to_z-of_z}
-use Rattle.c_target_year.specs.laws.TargetLaws.{put_same}
+use Rattle.c_target_year.proofs.laws.TargetLaws.{put_same}
 use Rattle.c_target_year.proofs.target_into.Goals as goal
 
 pub returns : goal.returns

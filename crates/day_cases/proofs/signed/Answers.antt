@@ -6,8 +6,8 @@ use lib.IntN.{pos, negsuc, ◌-ℤ◌}
 use mir.Syntax.{w64}
 use mir.Val.{SFits}
 use mir.Facts.{to_z_pos}
-use Rattle.number_whole.specs.laws.Split.{split-sub}
-use Rattle.number_whole.specs.laws.Bound.{fits-parts}
+use Rattle.number_whole.proofs.laws.Split.{split-sub}
+use Rattle.number_whole.proofs.laws.Bound.{fits-parts}
 use Rattle.day_cases.proofs.signed.Goals as goal
 
 below-zero : (n : ℕ) → n < 2 ^ 63 → SFits w64 (negsuc 0 -ℤ pos n)

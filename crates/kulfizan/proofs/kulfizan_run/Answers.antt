@@ -2,7 +2,7 @@
 use borrow.Author.Rules.{rules}
 use mathlib.Core.Path.{refl}
 use Rattle.kulfizan.specs.Run.{program_of}
-use Rattle.kulfizan.specs.laws.RunLaws.{run-told}
+use Rattle.kulfizan.proofs.laws.RunLaws.{run-told}
 use Rattle.kulfizan.proofs.kulfizan_run.Goals as goal
 
 pub returns : goal.returns

@@ -14,12 +14,12 @@ use Rattle.number_exponential.specs.Exponential.{exp_between}
 use Rattle.set_params.specs.Set.{age_of}
 use Rattle.set_params.specs.laws.SetLaws.{four-age}
 use Rattle.model_log_force.specs.LogForce.{log_force, in_range}
-use Rattle.model_log_force.specs.laws.RangeLaws.{log_force-negated}
+use Rattle.model_log_force.proofs.laws.RangeLaws.{log_force-negated}
 use Rattle.model_logarithm.specs.Logarithm.{inverse_logistic}
 use Rattle.model_closure.specs.Weights.{first_fitted, fitted}
 use Rattle.model_force.specs.Force.{negated}
 use Rattle.model_mortality.specs.Cell.{young_force, fitted_ends}
-use Rattle.model_log_force.specs.laws.YearLaws.{cell-within, year-force}
+use Rattle.model_log_force.proofs.laws.YearLaws.{cell-within, year-force}
 use Rattle.model_cells.specs.code.Fitted.{LentIn}
 use Rattle.model_cells.proofs.Fitting.{FittedTo, fitted_none, fitted-more, fitted-out, fitted-all}
 use Rattle.model_cells.proofs.fitted_in.Goals as goal

@@ -9,7 +9,7 @@ use Rattle.number_exponential.specs.Units.{grid_of}
 use Rattle.number_exponential.specs.code.Flag.{unit_by, grid_by}
 use Rattle.number_whole.specs.declared.SignedEnds.{SignedEnds}
 use Rattle.model_log_force.specs.LogForce.{cell_force, in_range}
-use Rattle.model_log_force.specs.laws.RangeLaws.{cell-negated}
+use Rattle.model_log_force.proofs.laws.RangeLaws.{cell-negated}
 use Rattle.model_force.specs.Force.{negated}
 use Rattle.model_cells.specs.declared.Cell.TheVariants.{Of}
 use Rattle.model_cells.specs.code.Code.{cell_if}

@@ -1,7 +1,7 @@
 -- The answer at a cell, as the code gives it from an age's log force, or from a row of weights and the ends of H.
 use Rattle.std.specs.Prelude.{◌≡◌, refl, Bool, true, false, ℕ, ◌≤◌, ◌<◌, T}
 use Rattle.std.proofs.Common.{ap, sym, ◌∙◌, lt-ltb, le-ltb}
-use Rattle.number_whole.specs.laws.Clash.{clash}
+use Rattle.number_whole.proofs.laws.Clash.{clash}
 use Rattle.number_exponential.specs.declared.Ends.{Ends}
 use Rattle.number_exponential.specs.Exponential.{exp_between}
 use Rattle.number_exponential.specs.Grid.{Grid}
@@ -9,9 +9,9 @@ use Rattle.set_params.specs.declared.Params.{Params}
 use Rattle.model_log_force.specs.LogForce.{log_force}
 use Rattle.model_closure.specs.Weights.{first_closed}
 use Rattle.model_closure.specs.code.Table.{weight_row}
-use Rattle.model_closure.specs.examples.Rows.{row-mean}
+use Rattle.model_closure.proofs.examples.Rows.{row-mean}
 use Rattle.model_mortality.specs.Cell.{young_force, old_force, force, survival, needed_in_range}
-use Rattle.model_mortality.specs.laws.Whole.{force-whole}
+use Rattle.model_mortality.proofs.laws.Whole.{force-whole}
 use Rattle.model_cells.specs.declared.Cell.TheVariants.{LogForceOutOfRange, Of}
 use Rattle.model_cells.specs.declared.Fitted.{Fitted}
 use Rattle.model_cells.specs.code.Fitted.{FittedOf}

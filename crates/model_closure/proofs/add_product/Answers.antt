@@ -1,6 +1,6 @@
 -- `add_product` meets its contract: the products and the sums with them fit.
-use Rattle.number_whole.specs.laws.Bound.{fits, back}
-use Rattle.number_whole.specs.laws.EndLaws.{least_under, greatest-under}
+use Rattle.number_whole.proofs.laws.Bound.{fits, back}
+use Rattle.number_whole.proofs.laws.EndLaws.{least_under, greatest-under}
 use Rattle.number_whole.proofs.Signed.{both_ends}
 use Rattle.model_closure.specs.code.Code.{with_product}
 use Rattle.model_closure.proofs.Sums.{next-least, next-greatest}

@@ -5,7 +5,7 @@ use Prim.Native.Nat.{◌-◌, ◌≤◌}
 use native.Mathlib.Omega.{arith}
 use lib.Dec.{lit≤}
 use lib.IntN.{ℤ}
-use Rattle.number_whole.specs.laws.Bound.{bits, fits, back, under-weaken, divides}
+use Rattle.number_whole.proofs.laws.Bound.{bits, fits, back, under-weaken, divides}
 use Rattle.number_whole.specs.declared.SignedEnds.{SignedEnds}
 use Rattle.number_whole.specs.SignedEnds.{outward}
 use Rattle.number_whole.specs.code.Sizes.{Under, Within, Divides}

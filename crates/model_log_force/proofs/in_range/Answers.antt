@@ -6,15 +6,15 @@ use lib.IntN.{ℤ}
 use lib.Signed.{le_z}
 use mir.Facts.{to_z-of_z}
 use Rattle.number_whole.specs.code.Sizes.{Under}
-use Rattle.number_whole.specs.laws.Bound.{bits, fits, under-lit}
+use Rattle.number_whole.proofs.laws.Bound.{bits, fits, under-lit}
 use Rattle.number_whole.proofs.Signed.{EndsFit, read}
 use Rattle.number_exponential.specs.declared.GridUnit.{GridUnit}
 use Rattle.number_exponential.specs.Units.{grid_of}
 use Rattle.number_exponential.specs.code.Flag.{unit_by, grid_by}
-use Rattle.number_exponential.specs.laws.Scales.{under-scaled}
+use Rattle.number_exponential.proofs.laws.Scales.{under-scaled}
 use Rattle.set_series.specs.Series.{in_grid}
 use Rattle.set_series.specs.code.Within.{number_limit}
-use Rattle.set_series.specs.laws.BoundLaws.{in_grid-under}
+use Rattle.set_series.proofs.laws.BoundLaws.{in_grid-under}
 use Rattle.model_log_force.specs.LogForce.{lowest_force, highest_force, in_range}
 use Rattle.model_log_force.proofs.in_range.Goals as goal
 use Rattle.model_log_force.proofs.in_range.Goals.{After-in_grid-highest}

@@ -4,12 +4,12 @@ use mathlib.Core.Path.{◌≡◌}
 use lib.IntN.{◌+ℤ◌, ◌*ℤ◌}
 use mir.Syntax.{w64}
 use mir.Val.{SFits}
-use Rattle.number_whole.specs.laws.Bound.{bits, back}
+use Rattle.number_whole.proofs.laws.Bound.{bits, back}
 use Rattle.number_whole.proofs.Signed.{both_ends}
 use Rattle.number_exponential.specs.Units.{grid_of}
 use Rattle.number_exponential.specs.code.Flag.{unit_by, grid_by}
 use Rattle.set_series.specs.Series.{in_grid}
-use Rattle.set_series.specs.laws.Mixed.{end_by}
+use Rattle.set_series.proofs.laws.Mixed.{end_by}
 use Rattle.set_series.proofs.Chosen.{chosen-under, chosen-read}
 use Rattle.model_log_force.specs.LogForce.{cell_force}
 use Rattle.model_log_force.proofs.Cell.{number-under, number, fixed, trend, beta-under, within, lower-end, upper-end}

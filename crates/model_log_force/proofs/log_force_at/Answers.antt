@@ -1,5 +1,5 @@
 -- `log_force_at` meets its contract by that of the log force.
-use Rattle.number_whole.specs.laws.Bound.{back}
+use Rattle.number_whole.proofs.laws.Bound.{back}
 use Rattle.model_log_force.proofs.log_force_at.Goals as goal
 
 pub log_force-requires : goal.log_force-requires

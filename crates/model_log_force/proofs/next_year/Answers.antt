@@ -5,7 +5,7 @@ use native.Mathlib.Omega.{arith}
 use lib.IntN.{◌+ℤ◌}
 use mir.Syntax.{w64}
 use mir.Val.{SFits}
-use Rattle.number_whole.specs.laws.Bound.{bits, fits, back}
+use Rattle.number_whole.proofs.laws.Bound.{bits, fits, back}
 use Rattle.number_whole.proofs.Signed.{sum}
 use Rattle.model_log_force.proofs.next_year.Goals as goal
 use Rattle.model_log_force.proofs.next_year.Goals.{After-kappa_step-next, Start}

@@ -1,9 +1,9 @@
 -- `year_at` meets its contract: K and kappa of a year, each read as it is.
 use mathlib.Core.Path.{◌≡◌, refl}
 use native.Mathlib.Omega.{arith}
-use Rattle.number_whole.specs.laws.Bound.{fits, back, under-weaken}
+use Rattle.number_whole.proofs.laws.Bound.{fits, back, under-weaken}
 use Rattle.set_series.specs.Series.{period_in}
-use Rattle.set_series.specs.laws.BoundLaws.{period-under}
+use Rattle.set_series.proofs.laws.BoundLaws.{period-under}
 use Rattle.number_whole.proofs.Signed.{read}
 use Rattle.model_log_force.proofs.year_at.Goals as goal
 

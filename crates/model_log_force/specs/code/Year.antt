@@ -10,7 +10,7 @@ use Rattle.set_params.specs.code.Within.{PeriodWithin, DynamicsWithin}
 use Rattle.set_series.specs.Series.{period_in, period_index, kappa_step, kappa_in, kappa}
 use Rattle.set_series.specs.code.Within.{KappaWithin}
 use Rattle.set_limits.specs.InLimits.{in_limits}
-use Rattle.number_whole.specs.laws.EndLaws.{Wide}
+use Rattle.number_whole.proofs.laws.EndLaws.{Wide}
 use Rattle.model_log_force.specs.code.Within.{CellLimits}
 use Rattle.model_log_force.specs.declared.Year.{Year}
 

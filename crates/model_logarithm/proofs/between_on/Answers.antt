@@ -8,7 +8,7 @@ use borrow.Author.Rules.{rules}
 use Rattle.number_exponential.specs.Grid.{Grid}
 use Rattle.number_exponential.specs.Units.{billionths, grid_of, ten_trillionths}
 use Rattle.number_exponential.specs.code.Flag.{unit_by, grid_by}
-use Rattle.number_exponential.specs.laws.RunOut.{count_fits, sum_fits}
+use Rattle.number_exponential.proofs.laws.RunOut.{count_fits, sum_fits}
 use Rattle.number_products.specs.laws.Units.{unit-least, unit-most}
 use Rattle.model_logarithm.specs.Logarithm.{log_upper}
 use Rattle.model_logarithm.proofs.Steps.{LowerSteps, UpperSteps, few-terms, room, lower-second, upper-second, lower-more, upper-more}

@@ -1,6 +1,6 @@
 -- `logistic` meets its contract by those of the two ends.
 use borrow.Author.Rules.{rules}
-use Rattle.number_whole.specs.laws.Bound.{back}
+use Rattle.number_whole.proofs.laws.Bound.{back}
 use Rattle.model_logistic.specs.Logistic.{logistic}
 use Rattle.model_logistic.proofs.logistic.Goals as goal
 

@@ -6,7 +6,7 @@ use native.Mathlib.Omega.{arith}
 use borrow.Author.Rules.{rules}
 use Rattle.number_exponential.specs.Units.{grid_of}
 use Rattle.number_exponential.specs.code.Flag.{unit_by, grid_by}
-use Rattle.number_exponential.specs.laws.GridFacts.{unit-most}
+use Rattle.number_exponential.proofs.laws.GridFacts.{unit-most}
 use Rattle.model_logistic.proofs.Force.{quotient, negative, other, small, share-end, over-end}
 use Rattle.model_logistic.proofs.logistic_end.Goals as goal
 

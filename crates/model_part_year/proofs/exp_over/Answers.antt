@@ -6,7 +6,7 @@ use native.Mathlib.Omega.{arith}
 use borrow.Author.Rules.{rules}
 use Rattle.number_exponential.specs.Units.{grid_of}
 use Rattle.number_exponential.specs.code.Flag.{unit_by, grid_by}
-use Rattle.number_exponential.specs.laws.GridFacts.{unit-most}
+use Rattle.number_exponential.proofs.laws.GridFacts.{unit-most}
 use Rattle.number_exponential.specs.Exponential.{exp_between}
 use Rattle.number_exponential.specs.Outward.{outward_over}
 use Rattle.number_exponential.specs.Units.{grid_of}

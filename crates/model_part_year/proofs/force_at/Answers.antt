@@ -9,11 +9,11 @@ use Rattle.number_exponential.specs.Units.{grid_of}
 use Rattle.number_exponential.specs.code.Flag.{unit_by, grid_by}
 use Rattle.set_params.specs.Set.{age_of}
 use Rattle.set_params.specs.laws.SetLaws.{four-age}
-use Rattle.model_log_force.specs.laws.YearLaws.{year-asked, year-given, cell-within, year-force}
+use Rattle.model_log_force.proofs.laws.YearLaws.{year-asked, year-given, cell-within, year-force}
 use Rattle.model_closure.specs.Weights.{first_closed, last_closed}
 use Rattle.model_closure.specs.code.Table.{weight_row}
-use Rattle.model_closure.specs.laws.WeightLaws.{table-row}
-use Rattle.model_closure.specs.examples.Rows.{row_within}
+use Rattle.model_closure.proofs.laws.WeightLaws.{table-row}
+use Rattle.model_closure.proofs.examples.Rows.{row_within}
 use Rattle.model_cells.specs.code.Fitted.{FittedOf, lent}
 use Rattle.model_cells.specs.code.Code.{force_cell}
 use Rattle.model_cells.specs.laws.Answers.{young-force, old-force}

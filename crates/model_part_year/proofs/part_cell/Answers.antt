@@ -7,10 +7,10 @@ use Prim.Native.Nat.{ℕ}
 use Rattle.number_exponential.specs.declared.Ends.{Ends}
 use Rattle.number_exponential.specs.Units.{grid_of}
 use Rattle.number_exponential.specs.code.Flag.{unit_by, grid_by}
-use Rattle.number_exponential.specs.laws.GridFacts.{unit-sound}
+use Rattle.number_exponential.proofs.laws.GridFacts.{unit-sound}
 use Rattle.set_params.specs.declared.Params.{Params}
 use Rattle.model_mortality.specs.Cell.{force, needed_in_range}
-use Rattle.model_mortality.specs.laws.AtMostOne.{force-one}
+use Rattle.model_mortality.proofs.laws.AtMostOne.{force-one}
 use Rattle.model_cells.specs.declared.Cell.TheVariants.{Of}
 use Rattle.model_cells.specs.code.Code.{cell_if}
 use Rattle.model_cells.specs.laws.Answers.{cell-there, cell-gone}

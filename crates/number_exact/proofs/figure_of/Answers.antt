@@ -1,7 +1,7 @@
 -- `figure_of` meets its contract: its test is the definition's, of both ends in steps.
 use mathlib.Core.Path.{sym, ◌∙◌}
 use native.Mathlib.Omega.{arith}
-use Rattle.number_exact.specs.laws.FigureLaws.{printed-when, figure-open}
+use Rattle.number_exact.proofs.laws.FigureLaws.{printed-when, figure-open}
 use Rattle.number_exact.proofs.figure_of.Goals as goal
 
 pub half_up-low-requires : goal.half_up-low-requires

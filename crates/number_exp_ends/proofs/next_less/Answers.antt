@@ -5,7 +5,7 @@ use native.Mathlib.Nat.{mul-pos}
 use native.Mathlib.Omega.{arith}
 use borrow.Author.Rules.{rules}
 use Rattle.number_whole.specs.Division.{ceil_div_ℕ}
-use Rattle.number_whole.specs.laws.DivisionLaws.{floorℕ-encloses, ceilℕ-unique}
+use Rattle.number_whole.proofs.laws.DivisionLaws.{floorℕ-encloses, ceilℕ-unique}
 use Rattle.number_exponential.specs.Exponential.{next_upper}
 use Rattle.number_exponential.specs.Units.{grid_of}
 use Rattle.number_exponential.specs.code.Flag.{unit_by, grid_by}

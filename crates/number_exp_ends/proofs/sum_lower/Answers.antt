@@ -12,8 +12,8 @@ use Rattle.number_exponential.specs.declared.GridUnit.{GridUnit}
 use Rattle.number_exponential.specs.declared.GridUnit.TheVariants.{Coarse, Fine}
 use Rattle.number_exponential.specs.Units.{ten_trillionths, grid_of}
 use Rattle.number_exponential.specs.code.Flag.{unit_by, grid_by}
-use Rattle.number_exponential.specs.laws.GridFacts.{unit-sound, unit-narrow}
-use Rattle.number_exponential.specs.laws.Sums.{double-two}
+use Rattle.number_exponential.proofs.laws.GridFacts.{unit-sound, unit-narrow}
+use Rattle.number_exponential.proofs.laws.Sums.{double-two}
 use Rattle.number_products.specs.laws.Units.{unit-most}
 use Rattle.number_exp_ends.specs.code.Code.{PairCount}
 use Rattle.number_exp_ends.proofs.Pairs.{Lower, Less, LowerPairs, room, positive, none, more, all, lower-next, less-next, first-upper, lower-sum, lower-out}

@@ -5,9 +5,9 @@ use borrow.Author.Rules.{rules}
 use Rattle.number_exponential.specs.Grid.{Grid}
 use Rattle.number_exponential.specs.Units.{grid_of}
 use Rattle.number_exponential.specs.code.Flag.{unit_by, grid_by}
-use Rattle.number_exponential.specs.laws.Facts.{Sound}
-use Rattle.number_exponential.specs.laws.Soundness.{step-positive, rest-small}
-use Rattle.number_exponential.specs.laws.GridFacts.{unit-sound}
+use Rattle.number_exponential.proofs.laws.Facts.{Sound}
+use Rattle.number_exponential.proofs.laws.Soundness.{step-positive, rest-small}
+use Rattle.number_exponential.proofs.laws.GridFacts.{unit-sound}
 use Rattle.number_products.specs.laws.Units.{unit-most}
 use Rattle.number_exp_ends.proofs.Products.{upper_first, upper-later, upper-small, constant-more, upper-past}
 use Rattle.number_exp_ends.proofs.upper_on.Goals as goal

@@ -4,7 +4,7 @@ use Prim.Native.Nat.{ℕ, ◌+◌, ◌*◌, ◌/◌, ◌%◌, ◌≤◌, ◌<◌
 use native.Mathlib.Nat.{div-add-mod', mod-lt, div-le_of_le-mul}
 use native.Mathlib.Omega.{arith}
 use borrow.Author.Rules.{rules}
-use Rattle.number_whole.specs.laws.DivisionLaws.{floorℕ-unique}
+use Rattle.number_whole.proofs.laws.DivisionLaws.{floorℕ-unique}
 use Rattle.number_exponential.specs.Units.{ten_trillionths}
 use Rattle.number_products.proofs.fine_quotient.Goals as goal
 

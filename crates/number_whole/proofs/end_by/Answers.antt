@@ -4,7 +4,7 @@ use mathlib.Core.Bool.{Bool, cond}
 use lib.IntN.{ℤ}
 use lib.Signed.{non_neg}
 use mir.Facts.{to_z-of_z}
-use Rattle.number_whole.specs.laws.Sign.{Sign, minus, plain, sign}
+use Rattle.number_whole.proofs.laws.Sign.{Sign, minus, plain, sign}
 use Rattle.number_whole.proofs.end_by.Goals as goal
 
 chosen : {c : ℤ} {b : Bool} (l u : ℤ) → Sign c b → cond b u l ≡ cond (non_neg c) l u

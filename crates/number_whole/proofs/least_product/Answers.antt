@@ -4,7 +4,7 @@ use lib.IntN.{◌*ℤ◌}
 use mir.Syntax.{w64}
 use mir.Val.{SFits}
 use borrow.Author.Rules.{rules}
-use Rattle.number_whole.specs.laws.Bound.{bits}
+use Rattle.number_whole.proofs.laws.Bound.{bits}
 use Rattle.number_whole.specs.SignedEnds.{least_product}
 use Rattle.number_whole.proofs.Signed.{EndsFit, choice}
 use Rattle.number_whole.proofs.least_product.Goals as goal

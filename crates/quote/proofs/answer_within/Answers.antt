@@ -6,7 +6,7 @@ use lib.IntN.{nat_abs}
 use mir.Syntax.{w64}
 use mir.Val.{SFits}
 use mir.Facts.{to_z-of_z}
-use Rattle.number_whole.specs.laws.Bound.{bits}
+use Rattle.number_whole.proofs.laws.Bound.{bits}
 use Rattle.set_params.specs.Set.{year_number}
 use Rattle.set_params.specs.code.Within.{StartWithin}
 use Rattle.set_limits.specs.laws.LimitsLaws.{in-limits-start}
@@ -14,10 +14,10 @@ use Rattle.quote_paths.specs.code.Code.{IsPart}
 use Rattle.quote_kinds.specs.declared.Rule.{Rule}
 use Rattle.quote_kinds.specs.Kinds.{rule_of, count_of, span_of, part_of}
 use Rattle.quote_table_tests.specs.TableTests.{first_failed, table_tests}
-use Rattle.quote_table_tests.specs.laws.TableLaws.{InTable, in_table}
+use Rattle.quote_table_tests.proofs.laws.TableLaws.{InTable, in_table}
 use Rattle.quote.specs.Quote.{query_path}
 use Rattle.quote.specs.code.Code.{path_to}
-use Rattle.quote.specs.laws.Tests.{Counted, counted, path-first, path_room, path-in}
+use Rattle.quote.proofs.laws.Tests.{Counted, counted, path-first, path_room, path-in}
 use Rattle.set_refusal.specs.declared.Refusal.TheVariants.{Accepted}
 use Rattle.set_refusal.specs.laws.RefusalLaws.{accepted}
 use Rattle.quote.proofs.Steps.{table-answer, along-answer, years-under, part_room}

@@ -11,8 +11,8 @@ use Rattle.set_params.specs.Set.{year_number}
 use Rattle.quote_paths.specs.declared.Path.{Path}
 use Rattle.quote_kinds.specs.declared.Rule.{Rule}
 use Rattle.quote_kinds.specs.Kinds.{rule_of, count_of, span_of}
-use Rattle.quote_table_tests.specs.laws.TableLaws.{InTable, in_table, year-small, year-reached}
-use Rattle.quote.specs.laws.Tests.{Counted, counted, path-first}
+use Rattle.quote_table_tests.proofs.laws.TableLaws.{InTable, in_table, year-small, year-reached}
+use Rattle.quote.proofs.laws.Tests.{Counted, counted, path-first}
 use Rattle.quote_kinds.proofs.Casts.{cast-whole}
 use Rattle.quote.proofs.Steps.{years-under}
 use Rattle.quote.proofs.path_to.Goals as goal

@@ -13,7 +13,7 @@ use Rattle.number_exponential.specs.code.Flag.{unit_by}
 use Rattle.set_params.specs.declared.Params.{Params}
 use Rattle.quote_paths.specs.declared.Fold.{Fold}
 use Rattle.quote_paths.specs.Path.{Place, path_in_range}
-use Rattle.quote_paths.specs.laws.Answers.{path-finer}
+use Rattle.quote_paths.proofs.laws.Answers.{path-finer}
 use Rattle.quote_paths.specs.code.Code.{IsPart}
 use Rattle.quote_factors.specs.code.Code.{all_places}
 use Rattle.quote_along.specs.declared.Answer.{Answer}

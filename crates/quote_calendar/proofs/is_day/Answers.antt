@@ -4,7 +4,7 @@ use mathlib.Core.Bool.{true, false}
 use borrow.Author.Rules.{rules}
 use lib.IntN.{ℤ, pos, nat_abs}
 use mir.Facts.{to_z-of_z}
-use Rattle.number_whole.specs.laws.Sign.{Sign, minus, plain, sign}
+use Rattle.number_whole.proofs.laws.Sign.{Sign, minus, plain, sign}
 use Rattle.quote_calendar.specs.Calendar.{is_day}
 use Rattle.quote_calendar.proofs.is_day.Goals as goal
 

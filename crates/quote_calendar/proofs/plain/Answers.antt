@@ -8,7 +8,7 @@ use lib.Signed.{non_neg}
 use mir.Syntax.{w64}
 use mir.Val.{SFits, Fits}
 use mir.Facts.{to_z-of_z}
-use Rattle.number_whole.specs.laws.Clash.{clash}
+use Rattle.number_whole.proofs.laws.Clash.{clash}
 use Rattle.quote_calendar.proofs.plain.Goals as goal
 
 natural : (z : ℤ) → pos (nat_abs z) ≡ z → SFits w64 z → T (non_neg z) × Fits w64 (nat_abs z)

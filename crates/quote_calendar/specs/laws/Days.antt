@@ -6,7 +6,7 @@ use Prim.Native.Nat.{ℕ, zero, suc, ◌+◌, ◌-◌, ◌*◌, ◌≤◌, ◌<�
 use Rattle.std.proofs.Math.Decide.{dec_lt}
 use native.Mathlib.Omega.{arith}
 use Rattle.std.proofs.Math.Facts.{and_yes, yes_and}
-use Rattle.number_whole.specs.laws.Table.{at}
+use Rattle.number_whole.proofs.laws.Table.{at}
 use Rattle.quote_calendar.specs.Calendar.{
   date_year,
   date_month,

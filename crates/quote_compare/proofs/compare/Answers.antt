@@ -5,7 +5,7 @@ use Rattle.quote_along.specs.declared.Quote.{Quote}
 use Rattle.quote_along.specs.declared.Answer.{Answer}
 use Rattle.quote_along.specs.declared.Answer.TheVariants.{Quoted}
 use Rattle.quote_compare.specs.code.Sizes.{SmallQuote, SmallAnswer}
-use Rattle.quote_compare.specs.laws.CompareLaws.{first-refused, second-refused, both-quoted}
+use Rattle.quote_compare.proofs.laws.CompareLaws.{first-refused, second-refused, both-quoted}
 use Rattle.quote_compare.proofs.compare.Goals as goal
 
 -- the quote of an answer whose ends are small

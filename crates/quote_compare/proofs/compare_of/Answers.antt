@@ -3,7 +3,7 @@ use borrow.Author.Rules.{rules}
 use mathlib.Core.Path.{◌≡◌}
 use mir.Facts.{to_z-of_z}
 use Rattle.quote.specs.Quote.{answer_of}
-use Rattle.quote_compare.specs.laws.SmallLaws.{answer-small}
+use Rattle.quote_compare.proofs.laws.SmallLaws.{answer-small}
 use Rattle.quote_compare.proofs.compare_of.Goals as goal
 use Rattle.quote_compare.proofs.compare_of.Tie as tie
 use Rattle.quote_compare.proofs.compare_of.Lts as lts

@@ -7,7 +7,7 @@ use Rattle.number_exponential.specs.declared.GridUnit.{GridUnit}
 use Rattle.number_exponential.specs.Units.{ten_trillionths, grid_of}
 use Rattle.quote_along.specs.declared.Quote.{Quote}
 use Rattle.quote_compare.specs.Compare.{ends_in}
-use Rattle.quote_compare.specs.laws.SmallLaws.{most-in}
+use Rattle.quote_compare.proofs.laws.SmallLaws.{most-in}
 use Rattle.quote_compare.proofs.ends_in.Goals as goal
 
 -- by the scales that the code has

@@ -1,6 +1,6 @@
 -- `excess_of` meets its contract: the two differences of ends.
 use borrow.Author.Rules.{rules}
-use Rattle.quote_compare.specs.laws.CompareLaws.{excess-is}
+use Rattle.quote_compare.proofs.laws.CompareLaws.{excess-is}
 use Rattle.quote_compare.proofs.excess_of.Goals as goal
 
 pub returns : goal.returns

@@ -5,7 +5,7 @@ use Prim.Native.Nat.{◌≤◌}
 use native.Mathlib.Omega.{arith}
 use Rattle.number_exponential.specs.declared.Ends.{Ends}
 use Rattle.quote_compare.specs.declared.Values.TheVariants.{Below, Above, Near}
-use Rattle.quote_compare.specs.laws.CompareLaws.{values-below, values-above, values-near, apart-first, apart-second}
+use Rattle.quote_compare.proofs.laws.CompareLaws.{values-below, values-above, values-near, apart-first, apart-second}
 use Rattle.quote_compare.proofs.values_of.Goals as goal
 use Rattle.quote_compare.proofs.values_of.Tie as tie
 use Rattle.quote_compare.proofs.values_of.Lts as lts

@@ -7,11 +7,11 @@ use Prim.Native.Nat.{ℕ, ◌*◌, ◌≤◌}
 use native.Mathlib.Omega.{arith}
 use lib.ListN.{length, take}
 use Rattle.number_exponential.specs.code.Flag.{unit_by, grid_by}
-use Rattle.number_exponential.specs.laws.GridFacts.{unit-sound, unit-most}
+use Rattle.number_exponential.proofs.laws.GridFacts.{unit-sound, unit-most}
 use Rattle.number_folds.specs.code.Code.{AtMost, most_factors}
 use Rattle.quote_paths.specs.Path.{factors, path_in_range}
-use Rattle.quote_paths.specs.laws.Answers.{path-length, factors-length}
-use Rattle.quote_paths.specs.laws.Width.{factors-chances}
+use Rattle.quote_paths.proofs.laws.Answers.{path-length, factors-length}
+use Rattle.quote_paths.proofs.laws.Width.{factors-chances}
 use Rattle.quote_walks.specs.code.Code.{path_is}
 use Rattle.quote_along.specs.code.Code.{in_range_or}
 use Rattle.quote_along.proofs.Value.{path-chances, step_fits, quoted}
@@ -19,7 +19,7 @@ use Rattle.quote_kinds.specs.Kinds.{rule_of, step_of}
 use Rattle.quote_kinds.specs.declared.Rule.{Rule}
 use Rattle.quote_couple_kinds.specs.CoupleKinds.{single_of}
 use Rattle.quote_two_lives.specs.TwoLives.{couple_over}
-use Rattle.quote_two_lives.specs.laws.Sizes.{couple-at-most}
+use Rattle.quote_two_lives.proofs.laws.Sizes.{couple-at-most}
 use Rattle.quote_couple.specs.Couple.{couple_step}
 use Rattle.quote_couple.specs.code.Code.{paths_ends, paths_answer}
 use Rattle.quote_couple.proofs.answer_on.Goals as goal

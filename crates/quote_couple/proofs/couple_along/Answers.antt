@@ -11,7 +11,7 @@ use Rattle.number_exponential.specs.declared.GridUnit.TheVariants.{Coarse, Fine}
 use Rattle.number_exponential.specs.code.Flag.{unit_by}
 use Rattle.set_params.specs.declared.Params.{Params}
 use Rattle.quote_paths.specs.Path.{Place, path_in_range}
-use Rattle.quote_paths.specs.laws.Answers.{path-finer}
+use Rattle.quote_paths.proofs.laws.Answers.{path-finer}
 use Rattle.quote_walks.specs.code.Code.{path_is}
 use Rattle.quote_couple_kinds.specs.declared.CoupleKind.{CoupleKind}
 use Rattle.quote_along.specs.code.Code.{left_open, quote_for}

@@ -5,7 +5,7 @@ use lib.IntN.{ℤ}
 use mir.Syntax.{w64}
 use mir.Val.{SFits, to_z, of_z}
 use mir.Facts.{to_z-of_z}
-use Rattle.number_whole.specs.laws.Bound.{bits}
+use Rattle.number_whole.proofs.laws.Bound.{bits}
 use Rattle.set_params.specs.code.Within.{StartWithin}
 use Rattle.set_limits.specs.laws.LimitsLaws.{in-limits-start}
 use Rattle.set_refusal.specs.declared.Refusal.TheVariants.{Accepted}
@@ -20,7 +20,7 @@ use Rattle.quote.specs.code.Code.{path_to}
 use Rattle.quote.proofs.Steps.{years-under}
 use Rattle.quote_couple.specs.Couple.{couple_table}
 use Rattle.quote_couple.specs.code.Code.{paths_quote}
-use Rattle.quote_couple.specs.laws.CoupleTests.{CoupleIn, couple-in, life-in, single-plain}
+use Rattle.quote_couple.proofs.laws.CoupleTests.{CoupleIn, couple-in, life-in, single-plain}
 use Rattle.quote_couple.proofs.Steps.{whole-path, path-within, starts-differ, table-refuses, along-answer}
 use Rattle.quote_couple.proofs.couple_within.Goals as goal
 use Rattle.quote_couple.proofs.couple_within.Tie as tie

@@ -3,7 +3,7 @@ use borrow.Author.Rules.{rules}
 use mathlib.Core.Path.{ap₂, ◌∙◌}
 use mir.Facts.{to_z-of_z}
 use Rattle.set_refusal.specs.Refusals.{lower_refusal}
-use Rattle.quote_couple.specs.laws.CoupleTests.{table-lower}
+use Rattle.quote_couple.proofs.laws.CoupleTests.{table-lower}
 use Rattle.quote_couple.proofs.table_refusal.Goals as goal
 
 pub returns : goal.returns

@@ -8,7 +8,7 @@ use borrow.Author.Rules.{rules}
 use lib.Dec.{T}
 use lib.ListN.{get_or, set}
 use Rattle.number_exponential.specs.Grid.{Grid}
-use Rattle.number_whole.specs.laws.Bound.{back}
+use Rattle.number_whole.proofs.laws.Bound.{back}
 use Rattle.number_exponential.specs.declared.Ends.{Ends}
 use Rattle.number_exponential.specs.Units.{grid_of}
 use Rattle.number_exponential.specs.code.Flag.{unit_by, grid_by}
@@ -16,8 +16,8 @@ use Rattle.set_params.specs.declared.Params.{Params}
 use Rattle.set_limits.specs.laws.LimitsLaws.{in-limits-series}
 use Rattle.model_closure.specs.Weights.{first_closed, last_closed}
 use Rattle.model_closure.specs.code.Table.{weight_row}
-use Rattle.model_closure.specs.laws.WeightLaws.{table-row}
-use Rattle.model_closure.specs.examples.Rows.{row_within}
+use Rattle.model_closure.proofs.laws.WeightLaws.{table-row}
+use Rattle.model_closure.proofs.examples.Rows.{row_within}
 use Rattle.number_folds.specs.code.Code.{most_factors}
 use Rattle.model_log_force.specs.declared.Year.{Year}
 use Rattle.model_cells.specs.declared.Fitted.{Fitted}

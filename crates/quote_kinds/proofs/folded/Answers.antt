@@ -12,7 +12,7 @@ use Rattle.number_exponential.specs.declared.Ends.{Ends}
 use Rattle.number_exponential.specs.Units.{grid_of}
 use Rattle.number_exponential.specs.code.Flag.{unit_by, grid_by}
 use Rattle.number_folds.specs.code.Code.{AtMost}
-use Rattle.number_folds.specs.laws.Bounds.{survival-at-most}
+use Rattle.number_folds.proofs.laws.Bounds.{survival-at-most}
 use Rattle.model_force.specs.Force.{death_of}
 use Rattle.quote_paths.specs.Values.{fold_over}
 use Rattle.quote_paths.specs.declared.Fold.{Fold}

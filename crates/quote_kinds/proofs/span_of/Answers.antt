@@ -8,7 +8,7 @@ use lib.IntN.{ℤ, pos, nat_abs, ◌-ℤ◌}
 use mir.Syntax.{w64}
 use mir.Val.{SFits}
 use mir.Facts.{to_z-of_z}
-use Rattle.number_whole.specs.laws.Bound.{bits, under-pos, under-sub, fits}
+use Rattle.number_whole.proofs.laws.Bound.{bits, under-pos, under-sub, fits}
 use Rattle.quote_calendar.specs.Calendar.{is_day, date_year}
 use Rattle.quote_calendar.specs.laws.Days.{day-year}
 use Rattle.quote_kinds.specs.Kinds.{span_of}

@@ -1,6 +1,6 @@
 -- `between` meets its contract by the two tests.
 use mir.Facts.{to_z-of_z}
-use Rattle.number_whole.specs.laws.OrderTests.{below-not-least, not-below-least}
+use Rattle.number_whole.proofs.laws.OrderTests.{below-not-least, not-below-least}
 use Rattle.quote_table_tests.proofs.between.Goals as goal
 
 pub returns-then-v-low : goal.returns-then-v-low

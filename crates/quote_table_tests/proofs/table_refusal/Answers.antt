@@ -9,8 +9,8 @@ use mir.Syntax.{w64}
 use mir.Val.{SFits}
 use mir.Facts.{to_z-of_z}
 use Rattle.number_whole.specs.code.Sizes.{Under}
-use Rattle.number_whole.specs.laws.Bound.{bits, under-lit, under-between, under-add, under-pos, fits, back}
-use Rattle.number_whole.specs.laws.Split.{split, split-neg}
+use Rattle.number_whole.proofs.laws.Bound.{bits, under-lit, under-between, under-add, under-pos, fits, back}
+use Rattle.number_whole.proofs.laws.Split.{split, split-neg}
 use Rattle.number_whole.proofs.Signed.{sum}
 use Rattle.set_params.specs.Limits.{last_start, first_years, last_years}
 use Rattle.set_params.specs.code.Within.{StartWithin}
@@ -21,7 +21,7 @@ use Rattle.quote_paths.specs.declared.Fold.TheVariants.{Death, Survival, Expecta
 use Rattle.quote_kinds.specs.declared.Rule.{Rule}
 use Rattle.quote_kinds.specs.Kinds.{most_span, longest_span, span_of}
 use Rattle.quote_table_tests.specs.TableTests.{between, age_in_table, year_in_table, date_in_table, span_in_table, rate_in_table, first_failed, table_tests}
-use Rattle.quote_table_tests.specs.laws.TableLaws.{within, dated-day, year-small}
+use Rattle.quote_table_tests.proofs.laws.TableLaws.{within, dated-day, year-small}
 use Rattle.quote_table_tests.proofs.table_refusal.Goals as goal
 use Rattle.quote_table_tests.proofs.table_refusal.Tie as tie
 use Rattle.quote_table_tests.proofs.table_refusal.Lts as lts

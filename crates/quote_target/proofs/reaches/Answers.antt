@@ -5,7 +5,7 @@ use Prim.Native.Nat.{ℕ}
 use lib.Dec.{leb}
 use lib.IntN.{ℤ, pos, nat_abs}
 use mir.Facts.{to_z-of_z}
-use Rattle.number_whole.specs.laws.Sign.{Sign, minus, plain, sign}
+use Rattle.number_whole.proofs.laws.Sign.{Sign, minus, plain, sign}
 use Rattle.quote_kinds.proofs.Casts.{cast-whole}
 use Rattle.quote_target.specs.Target.{reaches}
 use Rattle.quote_target.proofs.reaches.Goals as goal

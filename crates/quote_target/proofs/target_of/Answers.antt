@@ -8,8 +8,8 @@ use Rattle.set_params.specs.declared.Params.{Params}
 use Rattle.quote_target.specs.declared.TargetYear.{TargetYear}
 use Rattle.quote_target.specs.Target.{target_answer}
 use Rattle.quote_target.specs.Target.{Honest}
-use Rattle.quote_target.specs.laws.SoughtLaws.{out-of-limits}
-use Rattle.quote_target.specs.laws.Theorem.{honest}
+use Rattle.quote_target.proofs.laws.SoughtLaws.{out-of-limits}
+use Rattle.quote_target.proofs.laws.Theorem.{honest}
 use Rattle.quote_target.proofs.target_of.Goals as goal
 
 -- an answer that is the definition's is honest

@@ -11,8 +11,8 @@ use mir.Val.{to_z}
 use mir.Facts.{to_z-of_z}
 use lib.IntN.{ℤ, pos, ◌+ℤ◌}
 use mir.Val.{SFits}
-use Rattle.number_whole.specs.laws.Bound.{bits, under-add, under-pos, fits}
-use Rattle.number_whole.specs.laws.Clash.{clash}
+use Rattle.number_whole.proofs.laws.Bound.{bits, under-add, under-pos, fits}
+use Rattle.number_whole.proofs.laws.Clash.{clash}
 use Rattle.number_whole.proofs.Signed.{sum}
 use Rattle.set_params.specs.Limits.{first_years, quote_years}
 use Rattle.set_limits.specs.laws.LimitsLaws.{in-limits-start}
@@ -27,8 +27,8 @@ use Rattle.quote_target.specs.Target.{period_ends, period_in_range, year_tells, 
 use Rattle.quote_target.specs.declared.TargetYear.{TargetYear}
 use Rattle.number_exponential.specs.declared.Ends.{Ends}
 use Rattle.set_params.specs.declared.Params.{Params}
-use Rattle.quote_target.specs.laws.PeriodLaws.{start_under, period_quote, period-answer}
-use Rattle.quote_target.specs.laws.SoughtLaws.{sought-back, range_back, range-out, no-such-age, out_of_range, all-in-range}
+use Rattle.quote_target.proofs.laws.PeriodLaws.{start_under, period_quote, period-answer}
+use Rattle.quote_target.proofs.laws.SoughtLaws.{sought-back, range_back, range-out, no-such-age, out_of_range, all-in-range}
 use Rattle.quote_target.proofs.target_within.Given as goal
 
 abbrev pub invariant-loop-n : goal.invariant-loop-n

@@ -7,11 +7,11 @@ use Rattle.number_exponential.specs.code.Flag.{unit_by, grid_by}
 use Rattle.number_exponential.specs.declared.Ends.{Ends}
 use Rattle.number_folds.specs.Folds.{with_factor}
 use Rattle.number_folds.specs.code.Code.{AtMost}
-use Rattle.number_folds.specs.laws.Bounds.{with-factor-at-most}
+use Rattle.number_folds.proofs.laws.Bounds.{with-factor-at-most}
 use Rattle.model_force.specs.Force.{death_of}
 use Rattle.quote_couple_kinds.specs.declared.Status.{Status}
 use Rattle.quote_two_lives.specs.TwoLives.{status_chance}
-use Rattle.quote_two_lives.specs.laws.Sizes.{death-at-most}
+use Rattle.quote_two_lives.proofs.laws.Sizes.{death-at-most}
 use Rattle.quote_two_lives.proofs.status_chance.Goals as goal
 
 -- the two death chances

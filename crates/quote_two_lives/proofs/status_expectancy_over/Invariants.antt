@@ -6,7 +6,7 @@ use lib.ListN.{length, take}
 use Rattle.number_exponential.specs.Grid.{Grid}
 use Rattle.number_exponential.specs.Units.{ten_trillionths, grid_of}
 use Rattle.number_exponential.specs.code.Flag.{unit_by, grid_by}
-use Rattle.number_exponential.specs.laws.GridFacts.{unit-most}
+use Rattle.number_exponential.proofs.laws.GridFacts.{unit-most}
 use Rattle.number_folds.specs.Folds.{plus}
 use Rattle.number_folds.specs.code.Code.{AtMost, most_factors}
 use Rattle.number_folds.proofs.Running.{SurvivalTo, survival-none, survival-more, factor-small}

@@ -3,7 +3,7 @@ use borrow.Author.Rules.{rules}
 use mathlib.Core.Path.{ap₂, ◌∙◌}
 use Rattle.number_exponential.specs.Units.{grid_of}
 use Rattle.number_exponential.specs.code.Flag.{unit_by, grid_by}
-use Rattle.number_folds.specs.laws.Bounds.{survival-at-most}
+use Rattle.number_folds.proofs.laws.Bounds.{survival-at-most}
 use Rattle.quote_two_lives.specs.TwoLives.{status_chance, status_over}
 use Rattle.quote_two_lives.proofs.status_over.Goals as goal
 

@@ -6,7 +6,7 @@ use mathlib.Core.Bool.{true}
 use borrow.Author.Rules.{rules}
 use mir.Facts.{to_z-of_z}
 use Rattle.set_limits.specs.InLimits.{in_limits}
-use Rattle.quote_verdicts.specs.laws.Theorem.{refused-honest}
+use Rattle.quote_verdicts.proofs.laws.Theorem.{refused-honest}
 use Rattle.quote_verdicts.proofs.Steps.{out-of-limits, malformed-column, answered}
 use Rattle.quote_verdicts.proofs.judge.Goals as goal
 use Rattle.quote_verdicts.proofs.judge.Tie as tie

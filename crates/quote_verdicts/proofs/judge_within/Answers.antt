@@ -13,14 +13,14 @@ use mir.Facts.{to_z-of_z}
 use Rattle.number_exponential.specs.declared.GridUnit.TheVariants.{Coarse}
 use Rattle.number_exponential.specs.Units.{grid_of, billionths}
 use Rattle.number_exponential.specs.code.Flag.{unit_by}
-use Rattle.number_whole.specs.laws.Bound.{bits}
-use Rattle.number_whole.specs.laws.Clash.{clash}
+use Rattle.number_whole.proofs.laws.Bound.{bits}
+use Rattle.number_whole.proofs.laws.Clash.{clash}
 use Rattle.set_params.specs.Set.{year_number}
 use Rattle.set_params.specs.Limits.{last_years}
 use Rattle.set_params.specs.code.Within.{StartWithin}
 use Rattle.set_limits.specs.laws.LimitsLaws.{in-limits-start}
 use Rattle.set_refusal.specs.laws.RefusalLaws.{accepted}
-use Rattle.quote_paths.specs.laws.Answers.{path-years}
+use Rattle.quote_paths.proofs.laws.Answers.{path-years}
 use Rattle.quote_paths.specs.declared.Path.{Path}
 use Rattle.quote_walks.specs.code.Code.{PathWithin}
 use Rattle.quote_factors.specs.code.Code.{FactorsOf}
@@ -28,9 +28,9 @@ use Rattle.quote_kinds.specs.declared.Kind.TheVariants.{Death}
 use Rattle.quote_kinds.specs.declared.Rule.{Rule}
 use Rattle.quote_kinds.specs.Kinds.{rule_of}
 use Rattle.quote_table_tests.specs.TableTests.{first_failed, table_tests}
-use Rattle.quote_table_tests.specs.laws.TableLaws.{InTable, in_table, year-reached}
+use Rattle.quote_table_tests.proofs.laws.TableLaws.{InTable, in_table, year-reached}
 use Rattle.quote_along.proofs.Value.{path-chances}
-use Rattle.quote.specs.laws.Tests.{Counted, counted, path-first}
+use Rattle.quote.proofs.laws.Tests.{Counted, counted, path-first}
 use Rattle.quote.proofs.Steps.{years-under}
 use Rattle.quote_verdicts.specs.Verdict.{column_ages, year_cells}
 use Rattle.quote_verdicts.proofs.Steps.{year-out, cell_out, verdict-by}

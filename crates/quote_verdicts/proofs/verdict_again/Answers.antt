@@ -7,7 +7,7 @@ use lib.IntN.{pos}
 use mir.Syntax.{w64}
 use mir.Val.{SFits}
 use mir.Facts.{to_z-of_z}
-use Rattle.number_whole.specs.laws.Bound.{under-pos, fits}
+use Rattle.number_whole.proofs.laws.Bound.{under-pos, fits}
 use Rattle.set_refusal.specs.declared.Refusal.{Refusal}
 use Rattle.quote_kinds.specs.declared.Kind.TheVariants.{Death}
 use Rattle.quote_along.specs.declared.Quote.{Quote}

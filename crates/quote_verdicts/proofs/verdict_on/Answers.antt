@@ -12,7 +12,7 @@ use lib.ListN.{length}
 use mir.Syntax.{w64}
 use mir.Val.{to_z}
 use mir.Facts.{to_z-of_z}
-use Rattle.number_whole.specs.laws.Bound.{bits}
+use Rattle.number_whole.proofs.laws.Bound.{bits}
 use Rattle.number_exponential.specs.declared.Ends.{Ends}
 use Rattle.number_exact.specs.declared.Figure.{Figure}
 use Rattle.number_exact.specs.Figure.{is_open}
@@ -23,7 +23,7 @@ use Rattle.quote.specs.Demand.{shown_of}
 use Rattle.quote_verdicts.specs.declared.Verdict.{Verdict}
 use Rattle.quote_verdicts.specs.Verdict.{column_ages, figure_here, entry_at, verdict_to}
 use Rattle.quote_verdicts.specs.code.Code.{age_verdict, joined, figure_in, figure_kept}
-use Rattle.quote_verdicts.specs.laws.VerdictLaws.{verdict-none, verdict-more}
+use Rattle.quote_verdicts.proofs.laws.VerdictLaws.{verdict-none, verdict-more}
 use Rattle.quote_verdicts.proofs.verdict_on.Goals as goal
 use Rattle.quote_verdicts.proofs.verdict_on.Goals.{then-is_open, else-is_open}
 use Rattle.quote_verdicts.proofs.verdict_on.Tie as tie

@@ -4,11 +4,11 @@ use mathlib.Core.List.{List}
 use Prim.Native.Nat.{ℕ, ◌+◌, ◌-◌, ◌<◌}
 use native.Mathlib.Omega.{arith}
 use lib.ListN.{length}
-use Rattle.text_lines.specs.laws.LineLaws.{place-within}
-use Rattle.run_answer_text.specs.laws.LineLaws.{Bounded}
+use Rattle.text_lines.proofs.laws.LineLaws.{place-within}
+use Rattle.run_answer_text.proofs.laws.LineLaws.{Bounded}
 use Rattle.run_line.specs.Line.{line_answer, longest_line}
-use Rattle.run_line.specs.laws.ReplyLaws.{line-bounded}
-use Rattle.run.specs.laws.AnswerLaws.{Going, line_at, line-here, going-none, going-room, going_more, going-all}
+use Rattle.run_line.proofs.laws.ReplyLaws.{line-bounded}
+use Rattle.run.proofs.laws.AnswerLaws.{Going, line_at, line-here, going-none, going-room, going_more, going-all}
 use Rattle.run.proofs.put_answers.Goals as goal
 
 pub loop-next-init : goal.loop-next-init

@@ -10,9 +10,9 @@ use Rattle.run_sheets.specs.declared.Front.{Front}
 use Rattle.run_sheets.specs.declared.Sheets.{Sheets}
 use Rattle.run_sheets.specs.Front.{front_of}
 use Rattle.run_sheets.specs.laws.FrontLaws.{Usable, front-usable}
-use Rattle.run_line.specs.laws.ReplyLaws.{longest-between}
+use Rattle.run_line.proofs.laws.ReplyLaws.{longest-between}
 use Rattle.run.specs.Run.{sheets_by}
-use Rattle.run.specs.laws.RunLaws.{lines-refused, lines-answered}
+use Rattle.run.proofs.laws.RunLaws.{lines-refused, lines-answered}
 use Rattle.run.proofs.put_lines.Goals as goal
 
 usable : (sheets : Sheets) (input : List ℕ) {front : Front} → front ≡ front_of sheets input → Usable input front

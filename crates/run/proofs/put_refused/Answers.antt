@@ -9,7 +9,7 @@ use Rattle.text_printing.specs.code.Put.{Room, Put}
 use Rattle.text_printing.specs.laws.PutLaws.{put_as, room_as, room-first, room-rest, put-join}
 use Rattle.run_answer_text.specs.AnswerText.{refused_text}
 use Rattle.run.specs.Run.{refused_run}
-use Rattle.run.specs.laws.RunLaws.{not_named, by_name, line-length}
+use Rattle.run.proofs.laws.RunLaws.{not_named, by_name, line-length}
 use Rattle.run.proofs.put_refused.Goals as goal
 use Rattle.run.proofs.put_refused.Goals.{Start}
 

@@ -7,7 +7,7 @@ use Prim.Native.Nat.{◌≤◌}
 use borrow.Author.Tests.{not-true, not-false, leb-true, leb-false}
 use lib.ListN.{length}
 use Rattle.run.specs.Run.{run_of, run_room}
-use Rattle.run.specs.laws.IntoLaws.{into-short, into-put}
+use Rattle.run.proofs.laws.IntoLaws.{into-short, into-put}
 use Rattle.run.proofs.run.Goals as goal
 
 pub returns-then-not-has_room : goal.returns-then-not-has_room

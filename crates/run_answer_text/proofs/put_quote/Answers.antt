@@ -4,7 +4,7 @@ use Rattle.text_tokens.specs.Text.{bytes_of}
 use Rattle.text_printing.specs.code.Put.{Put}
 use Rattle.text_printing.specs.laws.PutLaws.{put_of, Three, three-first, three-second, three_third, three-put}
 use Rattle.run_figure_text.specs.FigureText.{shown_text}
-use Rattle.run_figure_text.specs.laws.FigureTextLaws.{short-printable}
+use Rattle.run_figure_text.proofs.laws.FigureTextLaws.{short-printable}
 use Rattle.run_answer_text.specs.AnswerText.{ends_text, quote_text}
 use Rattle.run_answer_text.proofs.put_quote.Goals as goal
 use Rattle.run_answer_text.proofs.put_quote.Goals.{After-put_ends-place, Start, After-put_shown-end}

@@ -12,7 +12,7 @@ use native.Mathlib.Omega.{arith}
 use lib.ListN.{length, take, drop}
 use Rattle.text_tokens.specs.Text.{and_then}
 use Rattle.text_tokens.specs.laws.Steps.{goes, stops}
-use Rattle.text_lines.specs.laws.LineLaws.{line-take, place-within}
+use Rattle.text_lines.proofs.laws.LineLaws.{line-take, place-within}
 use Rattle.run_column_text.specs.Column.{column_lines, column_of}
 use Rattle.run_column_text.specs.code.Code.{list_read, with_row}
 use Rattle.run_column_text.specs.laws.RowLaws.{row-long, line_at, column_from, from_start, from_step, from_end, from_past}

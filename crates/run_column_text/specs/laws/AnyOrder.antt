@@ -3,7 +3,7 @@
 use Rattle.std.specs.Prelude.{Bool, true, false, cond, ◌&&◌, List, [], ◌∷◌, ℕ, eqb, ℤ, length}
 use Rattle.std.specs.Int.Signed.{lt_z}
 use Rattle.number_whole.specs.Listed.{listed}
-use Rattle.number_whole.specs.laws.Table.{every}
+use Rattle.number_whole.proofs.laws.Table.{every}
 use Rattle.text_tokens.specs.Text.{Parse, malformed, taken, and_then}
 use Rattle.quote_table_tests.specs.TableTests.{age_in_table}
 use Rattle.run_column_text.specs.declared.Entry.{Entry}

@@ -3,11 +3,11 @@
 use Rattle.std.specs.Prelude.{◌≡◌, refl, Bool, true, false, cond, ◌&&◌, List, [], ◌∷◌, ℕ, suc, ◌+◌, ℤ, pos, negsuc, length}
 use Rattle.std.proofs.Common.{ap, ◌∙◌, arith, eqb-true, eq-eqb}
 use Rattle.std.proofs.lemmas.List.{length-map}
-use Rattle.number_whole.specs.laws.Clash.{clash}
+use Rattle.number_whole.proofs.laws.Clash.{clash}
 use Rattle.text_tokens.specs.Text.{malformed, taken}
 use Rattle.text_tokens.specs.laws.Steps.{goes}
 use Rattle.text_tokens.specs.laws.NumberTrip.{malformed-not-taken}
-use Rattle.sheet.specs.laws.SheetTrip.{then-taken}
+use Rattle.sheet.proofs.laws.SheetTrip.{then-taken}
 use Rattle.text_lines.specs.Lines.{lines}
 use Rattle.run_column_text.specs.declared.Entry.{Entry}
 use Rattle.run_column_text.specs.Column.{column_lines, read_entry, read_entries, entries_of, is_age, upward, by_age, column_of}

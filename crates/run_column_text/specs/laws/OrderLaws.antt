@@ -12,13 +12,13 @@ use Rattle.std.proofs.Math.Dec.{eqb}
 use Rattle.std.proofs.Math.ListN.{length}
 use Rattle.std.specs.Int.Signed.{lt_z}
 use Rattle.number_whole.specs.Listed.{listed}
-use Rattle.number_whole.specs.laws.Table.{every, at, listed-length, listed_at}
+use Rattle.number_whole.proofs.laws.Table.{every, at, listed-length, listed_at}
 use Rattle.text_tokens.specs.Text.{malformed, taken}
 use Rattle.text_tokens.specs.laws.Steps.{goes}
 use Rattle.text_tokens.specs.laws.NumberTrip.{malformed-not-taken}
 use Rattle.model_closure.specs.Weights.{last_closed}
 use Rattle.quote_table_tests.specs.TableTests.{age_in_table}
-use Rattle.quote_table_tests.specs.laws.TableLaws.{within}
+use Rattle.quote_table_tests.proofs.laws.TableLaws.{within}
 use Rattle.run_column_text.specs.declared.Entry.{Entry}
 use Rattle.run_column_text.specs.Column.{column_lines, entries_of, is_age, upward, by_age, column_of}
 use Rattle.run_column_text.specs.laws.RowLaws.{steps_in}

@@ -10,7 +10,7 @@ use Rattle.text_tokens.specs.laws.DecimalLaws.{text-small}
 use Rattle.text_tokens.specs.laws.Steps.{goes}
 use Rattle.text_tokens.specs.laws.FixedLaws.{fixed_reads}
 use Rattle.run_figure_text.specs.FigureText.{last_digits, steps_text}
-use Rattle.run_figure_text.specs.laws.ReadingLaws.{last-reads, text-apart}
+use Rattle.run_figure_text.proofs.laws.ReadingLaws.{last-reads, text-apart}
 use Rattle.run_column_text.specs.Column.{wholes, decimals, read_q}
 use Rattle.run_column_text.specs.code.Code.{most_steps}
 

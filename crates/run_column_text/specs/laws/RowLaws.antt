@@ -10,9 +10,9 @@ use Rattle.std.proofs.Math.ListN.{length}
 use Rattle.std.proofs.Math.Seq.{append_snoc, take_all}
 use Rattle.text_tokens.specs.Text.{bytes_of, Parse, malformed, taken, take_text, and_then}
 use Rattle.text_tokens.specs.laws.NumberTrip.{malformed-not-taken}
-use Rattle.sheet.specs.laws.SheetTrip.{then-taken}
+use Rattle.sheet.proofs.laws.SheetTrip.{then-taken}
 use Rattle.text_lines.specs.Lines.{first_line, after_line, lines}
-use Rattle.text_lines.specs.laws.LineLaws.{after-drop, lines_none, lines-first}
+use Rattle.text_lines.proofs.laws.LineLaws.{after-drop, lines_none, lines-first}
 use Rattle.run_query.specs.Query.{read_field}
 use Rattle.run_column_text.specs.declared.Entry.{Entry}
 use Rattle.run_column_text.specs.Column.{column_lines, read_entry, read_entries, entries_of, is_age, upward, by_age, column_of}

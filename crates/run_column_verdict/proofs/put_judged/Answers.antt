@@ -1,6 +1,6 @@
 -- `put_judged` meets its contract: a verdict's number into the place, or a refusal's number.
 use borrow.Author.Rules.{rules}
-use Rattle.run_column_verdict.specs.laws.VerdictLaws.{put-verdict, put_refused}
+use Rattle.run_column_verdict.proofs.laws.VerdictLaws.{put-verdict, put_refused}
 use Rattle.run_column_verdict.proofs.put_judged.Goals as goal
 
 pub returns-in-Of : goal.returns-in-Of

@@ -2,7 +2,7 @@
 use borrow.Author.Rules.{rules}
 use native.Mathlib.Omega.{arith}
 use mir.Facts.{to_z-of_z}
-use Rattle.run_column_verdict.specs.laws.VerdictLaws.{verdict-refused, verdict-given}
+use Rattle.run_column_verdict.proofs.laws.VerdictLaws.{verdict-refused, verdict-given}
 use Rattle.run_column_verdict.proofs.sheet_verdict.Goals as goal
 
 pub returns-then-refusal_number-ne0 : goal.returns-then-refusal_number-ne0

@@ -9,7 +9,7 @@ use Rattle.run_column_text.specs.code.Code.{list_read}
 use Rattle.quote_verdicts.specs.Verdict.{judged}
 use Rattle.quote_verdicts.specs.code.Code.{column_read}
 use Rattle.run_column_verdict.specs.ColumnVerdict.{column_verdict, HonestOn}
-use Rattle.run_column_verdict.specs.laws.ColumnTheorem.{honest-on}
+use Rattle.run_column_verdict.proofs.laws.ColumnTheorem.{honest-on}
 use Rattle.run_column_verdict.proofs.verdict_on.Goals as goal
 
 -- what was read, in either's words

@@ -5,7 +5,7 @@ use Prim.Native.Nat.{ℕ}
 use Rattle.text_tokens.specs.Text.{bytes_of}
 use Rattle.text_printing.specs.laws.PutLaws.{put_of, Three, three-first, three-second, three_third, three-put}
 use Rattle.run_figure_text.specs.FigureText.{shown_text}
-use Rattle.run_figure_text.specs.laws.FigureTextLaws.{short-printable}
+use Rattle.run_figure_text.proofs.laws.FigureTextLaws.{short-printable}
 use Rattle.run_answer_text.specs.AnswerText.{unit_text}
 use Rattle.run_compare_text.specs.CompareText.{values_text, pair_text}
 use Rattle.run_compare_text.proofs.put_pair.Goals as goal

@@ -3,9 +3,9 @@ use Rattle.std.specs.Prelude.{ℕ, ◌+◌, ◌≤◌, ◌<◌, length}
 use Rattle.std.proofs.Common.{arith, length-append}
 use Rattle.text_tokens.specs.Text.{bytes_of}
 use Rattle.run_figure_text.specs.code.Sizes.{few_digits}
-use Rattle.run_figure_text.specs.laws.FigureTextLaws.{shown-length}
+use Rattle.run_figure_text.proofs.laws.FigureTextLaws.{shown-length}
 use Rattle.run_answer_text.specs.AnswerText.{end_digits}
-use Rattle.run_answer_text.specs.laws.Lengths.{refused-length, end-length, unit-length}
+use Rattle.run_answer_text.proofs.laws.Lengths.{refused-length, end-length, unit-length}
 use Rattle.quote_compare.specs.declared.Excess.{Excess}
 use Rattle.quote_compare.specs.declared.Values.{Values}
 use Rattle.quote_compare.specs.declared.Values.TheVariants.{Below, Above, Near}

@@ -9,8 +9,8 @@ use Rattle.run_answer_text.specs.AnswerText.{end_digits}
 use Rattle.run_answer_text.specs.code.Sizes.{SizedAnswer}
 use Rattle.quote_compare.specs.Compare.{excess, most_apart, values_of, finer, ends_in, pair_of, comparison_of}
 use Rattle.quote_compare.specs.code.Sizes.{SmallAnswer}
-use Rattle.quote_compare.specs.laws.SmallLaws.{ends-small}
-use Rattle.quote_compare.specs.laws.CompareLaws.{values-below, values-above, values-near, apart-second, apart-first}
+use Rattle.quote_compare.proofs.laws.SmallLaws.{ends-small}
+use Rattle.quote_compare.proofs.laws.CompareLaws.{values-below, values-above, values-near, apart-second, apart-first}
 use Rattle.run_compare_text.specs.code.Sizes.{SizedExcess, SizedValues, SizedComparison}
 
 -- units are a difference of two ends, and so no greater than an end

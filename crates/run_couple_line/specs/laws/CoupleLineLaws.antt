@@ -7,15 +7,15 @@ use Rattle.quote_kinds.specs.Kinds.{rule_of}
 use Rattle.quote_couple_kinds.specs.CoupleKinds.{single_of}
 use Rattle.quote_along.specs.declared.Answer.{Answer}
 use Rattle.quote_along.specs.declared.Answer.TheVariants.{Quoted, Refused}
-use Rattle.quote_couple.specs.laws.SmallLaws.{couple-small}
+use Rattle.quote_couple.proofs.laws.SmallLaws.{couple-small}
 use Rattle.run_couple_query.specs.declared.CoupleQuery.{CoupleQuery}
 use Rattle.run_couple_query.specs.CoupleQuery.{read_couple}
 use Rattle.run_couple_query.specs.laws.CoupleQueryLaws.{couple_text, couple-text, couple-least, couple-most}
 use Rattle.run_answer_text.specs.AnswerText.{kind_decimals, answer_text, without_feed}
 use Rattle.run_answer_text.specs.code.Sizes.{SizedAnswer}
-use Rattle.run_answer_text.specs.laws.SizeLaws.{small-sized}
-use Rattle.run_answer_text.specs.laws.Lengths.{decimals-few, answer_bytes, answer-length}
-use Rattle.run_answer_text.specs.laws.LineLaws.{Bounded, Lengths, ReadsText, echoed, text-lengths, answered-bounded}
+use Rattle.run_answer_text.proofs.laws.SizeLaws.{small-sized}
+use Rattle.run_answer_text.proofs.laws.Lengths.{decimals-few, answer_bytes, answer-length}
+use Rattle.run_answer_text.proofs.laws.LineLaws.{Bounded, Lengths, ReadsText, echoed, text-lengths, answered-bounded}
 use Rattle.run_couple_line.specs.CoupleLine.{query_couple, couple_reply, couple_line, most_couple}
 
 -- ---- a query's line

@@ -7,7 +7,7 @@ use Rattle.text_tokens.specs.Number.{most_digits, is_digit, number_text}
 use Rattle.text_tokens.specs.laws.TextLaws.{take_text-split, take_text-whole}
 use Rattle.text_tokens.specs.laws.DecimalLaws.{number-length}
 use Rattle.text_tokens.specs.laws.Steps.{goes}
-use Rattle.sheet.specs.laws.SheetTrip.{then-taken}
+use Rattle.sheet.proofs.laws.SheetTrip.{then-taken}
 use Rattle.quote_couple_kinds.specs.declared.CoupleKind.{CoupleKind}
 use Rattle.quote_couple_kinds.specs.declared.CoupleKind.TheVariants.{JointLife, LastSurvivor, JointExpectancy, LastExpectancy}
 use Rattle.run_query.specs.Query.{read_word, read_field}

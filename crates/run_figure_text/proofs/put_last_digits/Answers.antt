@@ -1,6 +1,6 @@
 -- `put_last_digits` meets its contract: each turn writes one more of the last digits, before those that are written.
 use native.Mathlib.Omega.{arith}
-use Rattle.run_figure_text.specs.laws.FigureTextLaws.{last-length}
+use Rattle.run_figure_text.proofs.laws.FigureTextLaws.{last-length}
 use Rattle.run_figure_text.proofs.Tail.{Tail, tail_none, tail-room, tail_more, tail-put}
 use Rattle.run_figure_text.proofs.put_last_digits.Goals as goal
 

@@ -1,5 +1,5 @@
 use native.Mathlib.Omega.{arith}
-use Rattle.run_figure_text.specs.laws.FigureTextLaws.{last-length}
+use Rattle.run_figure_text.proofs.laws.FigureTextLaws.{last-length}
 use Rattle.run_figure_text.proofs.Tail.{Tail, tail_none, tail-room, tail_more, tail-put}
 use Rattle.run_figure_text.proofs.put_last_digits.Given as goal
 

@@ -2,7 +2,7 @@
 use mathlib.Core.Path.{◌≡◌, refl, ap, ◌∙◌}
 use Prim.Native.Nat.{ℕ, suc, ◌-◌, ◌/◌, ◌^◌}
 use native.Mathlib.Omega.{arith}
-use Rattle.run_figure_text.specs.laws.FigureTextLaws.{tenth-without}
+use Rattle.run_figure_text.proofs.laws.FigureTextLaws.{tenth-without}
 use Rattle.run_figure_text.proofs.without_last.Goals as goal
 
 pub loop-left-preserved : goal.loop-left-preserved

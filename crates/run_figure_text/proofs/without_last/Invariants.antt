@@ -1,7 +1,7 @@
 use mathlib.Core.Path.{◌≡◌, refl, ap, ◌∙◌}
 use Prim.Native.Nat.{ℕ, suc, ◌-◌, ◌/◌, ◌^◌}
 use native.Mathlib.Omega.{arith}
-use Rattle.run_figure_text.specs.laws.FigureTextLaws.{tenth-without}
+use Rattle.run_figure_text.proofs.laws.FigureTextLaws.{tenth-without}
 use Rattle.run_figure_text.proofs.without_last.Given as goal
 
 abbrev pub invariant-loop-left : goal.invariant-loop-left

@@ -7,7 +7,7 @@ use Rattle.text_tokens.specs.Text.{malformed, taken}
 use Rattle.run_query.specs.Query.{read_query}
 use Rattle.run_query.specs.code.Code.{query_read}
 use Rattle.run_line.specs.Line.{reply}
-use Rattle.run_line.specs.laws.ReplyLaws.{query-lengths, query-bounded}
+use Rattle.run_line.proofs.laws.ReplyLaws.{query-lengths, query-bounded}
 use Rattle.run_answer_text.proofs.LineSteps.{Answering, answering, refusal-room, refusal-put, echo-room, reply-room, reply-put}
 use Rattle.run_line.proofs.put_query.Goals as goal
 use Rattle.run_line.proofs.put_query.Goals.{Start}

@@ -8,7 +8,7 @@ use Rattle.run_answer_text.specs.code.Sizes.{SizedAnswer}
 use Rattle.run_compare_text.specs.CompareText.{comparison_text}
 use Rattle.run_compare_text.specs.code.Sizes.{SizedComparison}
 use Rattle.run_line.specs.Line.{reply}
-use Rattle.run_line.specs.laws.ReplyLaws.{query-small, query-sized, reply-quotes, reply-compare}
+use Rattle.run_line.proofs.laws.ReplyLaws.{query-small, query-sized, reply-quotes, reply-compare}
 use Rattle.run_line.proofs.put_reply.Goals as goal
 
 -- ---- an answer

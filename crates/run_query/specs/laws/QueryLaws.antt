@@ -2,14 +2,14 @@
 -- one line, and each line one query. And how long a query's text is.
 use Rattle.std.specs.Prelude.{Bool, true, false, cond, ◌≡◌, refl, ℕ, ◌+◌, ◌^◌, ◌≤◌, ◌<◌, List, [], ◌∷◌, ◌++◌, T, ℤ, nat_abs, length}
 use Rattle.std.proofs.Common.{ap, ◌∙◌, arith, append_assoc, append-nil, length-append}
-use Rattle.number_whole.specs.laws.Clash.{clash}
+use Rattle.number_whole.proofs.laws.Clash.{clash}
 use Rattle.text_tokens.specs.Text.{bytes_of, Parse, malformed, taken, take_text, and_then}
 use Rattle.text_tokens.specs.Number.{most_digits, is_digit, number_text}
 use Rattle.text_tokens.specs.laws.TextLaws.{take_text-split, take_text-whole}
 use Rattle.text_tokens.specs.laws.DecimalLaws.{number-length}
 use Rattle.text_tokens.specs.laws.Steps.{goes}
 use Rattle.text_tokens.specs.laws.NumberTrip.{no_digit_first, malformed-not-taken, number-reads, number-read}
-use Rattle.sheet.specs.laws.SheetTrip.{then-taken}
+use Rattle.sheet.proofs.laws.SheetTrip.{then-taken}
 use Rattle.quote_kinds.specs.declared.Kind.{Kind}
 use Rattle.quote_kinds.specs.declared.Kind.TheVariants.{Death, CohortSurvival, PeriodSurvival, CohortExpectancy, PeriodExpectancy}
 use Rattle.quote_kinds.specs.declared.Kind.TheVariants.{CohortAnnuity, PeriodAnnuity, Day}

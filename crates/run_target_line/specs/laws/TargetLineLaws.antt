@@ -2,7 +2,7 @@
 use Rattle.std.specs.Prelude.{◌≡◌, refl, List, ℕ, ◌+◌, ◌^◌, ◌≤◌, ◌<◌, T, ℤ, pos, ◌+ℤ◌, nat_abs, length}
 use Rattle.std.proofs.Common.{arith, length-append}
 use Rattle.number_whole.specs.code.Sizes.{Under}
-use Rattle.number_whole.specs.laws.Bound.{under-add, under-pos}
+use Rattle.number_whole.proofs.laws.Bound.{under-add, under-pos}
 use Rattle.text_tokens.specs.Text.{bytes_of, taken}
 use Rattle.text_tokens.specs.Number.{most_digits, number_text}
 use Rattle.text_tokens.specs.laws.DecimalLaws.{number-length}
@@ -13,10 +13,10 @@ use Rattle.set_limits.specs.laws.LimitsLaws.{in-limits-start}
 use Rattle.quote_target.specs.declared.TargetYear.{TargetYear}
 use Rattle.quote_target.specs.declared.TargetYear.TheVariants.{Reached, Open, Never, Refused}
 use Rattle.quote_target.specs.Target.{target_answer}
-use Rattle.quote_target.specs.laws.Theorem.{honest}
-use Rattle.quote_target.specs.laws.PeriodLaws.{start_under}
-use Rattle.run_answer_text.specs.laws.Lengths.{refused-length}
-use Rattle.run_answer_text.specs.laws.LineLaws.{Bounded, Lengths, ReadsText, text-lengths, answered-bounded}
+use Rattle.quote_target.proofs.laws.Theorem.{honest}
+use Rattle.quote_target.proofs.laws.PeriodLaws.{start_under}
+use Rattle.run_answer_text.proofs.laws.Lengths.{refused-length}
+use Rattle.run_answer_text.proofs.laws.LineLaws.{Bounded, Lengths, ReadsText, text-lengths, answered-bounded}
 use Rattle.run_target_line.specs.declared.TargetQuery.{TargetQuery}
 use Rattle.run_target_line.specs.TargetLine.{read_target, year_text, found_text, target_reply, target_line, most_target}
 use Rattle.run_target_line.specs.code.Code.{SizedFound}

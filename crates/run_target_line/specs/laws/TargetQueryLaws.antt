@@ -6,7 +6,7 @@ use Rattle.text_tokens.specs.Text.{bytes_of, taken}
 use Rattle.text_tokens.specs.Number.{most_digits, is_digit, number_text}
 use Rattle.text_tokens.specs.laws.DecimalLaws.{number-length}
 use Rattle.text_tokens.specs.laws.Steps.{goes}
-use Rattle.sheet.specs.laws.SheetTrip.{then-taken}
+use Rattle.sheet.proofs.laws.SheetTrip.{then-taken}
 use Rattle.run_query.specs.Query.{read_field}
 use Rattle.run_query.specs.laws.QueryLaws.{field-reads, field-read, ended-taken, ended-reads}
 use Rattle.run_target_line.specs.declared.TargetQuery.{TargetQuery}

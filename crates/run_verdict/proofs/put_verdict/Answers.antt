@@ -15,15 +15,15 @@ use Rattle.text_printing.specs.laws.PutLaws.{put_as, room_as}
 use Rattle.set_refusal.specs.declared.Refusal.{Refusal}
 use Rattle.set_refusal.specs.Refusals.{refusal_number}
 use Rattle.run_answer_text.specs.AnswerText.{refusal_line}
-use Rattle.run_answer_text.specs.laws.Lengths.{refusal-length}
+use Rattle.run_answer_text.proofs.laws.Lengths.{refusal-length}
 use Rattle.run_sheets.specs.declared.Front.{Front}
 use Rattle.run_sheets.specs.laws.FrontLaws.{rest_from}
 use Rattle.run_column_verdict.specs.ColumnVerdict.{column_verdict}
 use Rattle.run_verdict_text.specs.VerdictText.{verdict_line, most_verdict}
 use Rattle.run_verdict.specs.VerdictRun.{read_year, verdict_run}
 use Rattle.run_verdict.specs.code.Code.{PlaceIn}
-use Rattle.run_verdict.specs.laws.YearLaws.{year-small}
-use Rattle.run_verdict.specs.laws.RunLaws.{run-malformed, run-refused, run-judged, run-most}
+use Rattle.run_verdict.proofs.laws.YearLaws.{year-small}
+use Rattle.run_verdict.proofs.laws.RunLaws.{run-malformed, run-refused, run-judged, run-most}
 use Rattle.run_verdict.proofs.put_verdict.Goals as goal
 
 -- ---- there is room, for the line and for any refusal

@@ -13,7 +13,7 @@ use Rattle.text_tokens.specs.laws.Steps.{goes, stops}
 use Rattle.text_tokens.specs.laws.TextLaws.{text-found, text-missing, text-room}
 use Rattle.text_tokens.specs.laws.ReadLaws.{lacks, has, held, read-malformed, read_taken}
 use Rattle.run_verdict.specs.VerdictRun.{read_year}
-use Rattle.run_verdict.specs.laws.YearLaws.{with_feed, year-steps}
+use Rattle.run_verdict.proofs.laws.YearLaws.{with_feed, year-steps}
 use Rattle.run_verdict.proofs.year_at.Goals as goal
 
 -- ---- the needs

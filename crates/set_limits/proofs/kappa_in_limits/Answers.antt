@@ -18,7 +18,7 @@ use Rattle.number_exponential.specs.code.Flag.{unit_by}
 use Rattle.set_params.specs.declared.Dynamics.{Dynamics}
 use Rattle.set_params.specs.Limits.{last_years}
 use Rattle.set_series.specs.Series.{kappa_in}
-use Rattle.set_series.specs.laws.Finer.{in_grid-coarse}
+use Rattle.set_series.proofs.laws.Finer.{in_grid-coarse}
 use Rattle.set_limits.specs.InLimits.{all_below, ends_in_limits, kappa_in_limits}
 use Rattle.set_limits.specs.laws.LimitsLaws.{all-out, ends-within}
 use Rattle.set_limits.proofs.kappa_in_limits.Goals as goal

@@ -9,7 +9,7 @@ use lib.IntN.{ℤ, pos, ◌+ℤ◌, ◌*ℤ◌}
 use mir.Syntax.{w64}
 use mir.Val.{SFits, to_z, of_z}
 use Rattle.number_whole.specs.code.Sizes.{Under}
-use Rattle.number_whole.specs.laws.Bound.{under-lit, under-add, under-mul, fits, back}
+use Rattle.number_whole.proofs.laws.Bound.{under-lit, under-add, under-mul, fits, back}
 use Rattle.set_params.specs.declared.Params.{Params}
 use Rattle.set_params.specs.Limits.{a_limit, theta_limit, period_limit, kappa_limit, last_years, within}
 use Rattle.set_limits.specs.InLimits.{series_in_limits}

@@ -6,9 +6,9 @@ use lib.IntN.{pos}
 use lib.Signed.{le_z}
 use mir.Syntax.{w64}
 use mir.Facts.{to_z-of_z}
-use Rattle.number_whole.specs.laws.Bound.{bits}
-use Rattle.number_whole.specs.laws.Order.{pos-nonneg}
-use Rattle.number_whole.specs.laws.OrderTests.{below-not-least, not-below-least}
+use Rattle.number_whole.proofs.laws.Bound.{bits}
+use Rattle.number_whole.proofs.laws.Order.{pos-nonneg}
+use Rattle.number_whole.proofs.laws.OrderTests.{below-not-least, not-below-least}
 use Rattle.set_params.specs.Limits.{first_start}
 use Rattle.set_limits.specs.InLimits.{last_start_of, constant_limit_of, table_in_limits}
 use Rattle.set_limits.proofs.table_in_limits.Goals as goal

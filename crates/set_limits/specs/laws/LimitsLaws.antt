@@ -6,9 +6,9 @@ use Rattle.std.specs.Float.Ieee.Bits.{is_true}
 use Rattle.std.specs.Float.Ieee.Fits.{and_l, and_r}
 use Rattle.std.specs.Int.Signed.{le_z, le_z_yes}
 use Rattle.number_whole.specs.code.Sizes.{Under, Within}
-use Rattle.number_whole.specs.laws.Split.{split, split-abs}
-use Rattle.number_whole.specs.laws.Bound.{under-lit, under-weaken}
-use Rattle.number_whole.specs.laws.Nested.{nested-within}
+use Rattle.number_whole.proofs.laws.Split.{split, split-abs}
+use Rattle.number_whole.proofs.laws.Bound.{under-lit, under-weaken}
+use Rattle.number_whole.proofs.laws.Nested.{nested-within}
 use Rattle.number_exponential.specs.Grid.{Grid}
 use Rattle.number_exponential.specs.Units.{billionths}
 use Rattle.number_whole.specs.declared.SignedEnds.{SignedEnds}
@@ -21,9 +21,9 @@ use Rattle.set_params.specs.Limits.{level_limit, slope_limit, a_limit, theta_lim
 use Rattle.set_params.specs.Limits.{first_start, last_start, within}
 use Rattle.set_params.specs.code.Within.{AgeWithin, PeriodWithin, DynamicsWithin, SeriesWithin, StartWithin}
 use Rattle.set_series.specs.Series.{kappa}
-use Rattle.set_series.specs.laws.BoundLaws.{kappa-under}
-use Rattle.set_series.specs.laws.WidthLaws.{kappa-wide}
-use Rattle.set_series.specs.laws.Finer.{kappa-nested}
+use Rattle.set_series.proofs.laws.BoundLaws.{kappa-under}
+use Rattle.set_series.proofs.laws.WidthLaws.{kappa-wide}
+use Rattle.set_series.proofs.laws.Finer.{kappa-nested}
 use Rattle.set_limits.specs.InLimits.{all_below, last_start_of, constant_limit_of, table_in_limits, series_in_limits, age_in_limits}
 use Rattle.set_limits.specs.InLimits.{ends_in_limits, kappa_in_limits, in_limits}
 

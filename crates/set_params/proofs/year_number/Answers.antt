@@ -7,8 +7,8 @@ use lib.Signed.{◌≤ℤ◌}
 use mir.Syntax.{w64}
 use mir.Val.{SFits}
 use mir.Facts.{to_z-of_z}
-use Rattle.number_whole.specs.laws.Bound.{bits}
-use Rattle.number_whole.specs.laws.Split.{split, split-sub}
+use Rattle.number_whole.proofs.laws.Bound.{bits}
+use Rattle.number_whole.proofs.laws.Split.{split, split-sub}
 use Rattle.set_params.specs.Set.{year_number}
 use Rattle.set_params.proofs.year_number.Goals as goal
 

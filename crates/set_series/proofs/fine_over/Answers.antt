@@ -10,9 +10,9 @@ use mir.Val.{SFits}
 use mir.Facts.{to_z-of_z}
 use Rattle.number_whole.specs.Division.{floor_div, ceil_div}
 use Rattle.number_whole.specs.code.Sizes.{Under, Divides}
-use Rattle.number_whole.specs.laws.Bound.{bits, fits, fits-floor, fits-ceil, under-lit, under-add, under-mul, under-cond, under-floor, under-ceil, under-floor-to, under-weaken, divides}
-use Rattle.number_whole.specs.laws.Difference.{difference, difference-pos, difference-neg, difference-add, difference-mul, difference-eq}
-use Rattle.number_whole.specs.laws.Shift.{floor-shift, ceil-shift, rest_over, rest_under}
+use Rattle.number_whole.proofs.laws.Bound.{bits, fits, fits-floor, fits-ceil, under-lit, under-add, under-mul, under-cond, under-floor, under-ceil, under-floor-to, under-weaken, divides}
+use Rattle.number_whole.proofs.laws.Difference.{difference, difference-pos, difference-neg, difference-add, difference-mul, difference-eq}
+use Rattle.number_whole.proofs.laws.Shift.{floor-shift, ceil-shift, rest_over, rest_under}
 use Rattle.number_whole.proofs.Signed.{read, read-floor, sum, product, minus}
 use Rattle.number_exponential.specs.Units.{ten_trillionths}
 use Rattle.set_series.specs.Series.{coefficient_unit, in_grid}

@@ -4,12 +4,12 @@ use lib.IntN.{ℤ, pos, ◌*ℤ◌}
 use mir.Syntax.{w64}
 use mir.Val.{SFits}
 use mir.Facts.{to_z-of_z}
-use Rattle.number_whole.specs.laws.Bound.{bits, fits, under-lit, under-mul}
+use Rattle.number_whole.proofs.laws.Bound.{bits, fits, under-lit, under-mul}
 use Rattle.number_whole.proofs.Signed.{product}
 use Rattle.number_exponential.specs.Units.{grid_of}
 use Rattle.number_exponential.specs.code.Flag.{unit_by, grid_by}
 use Rattle.set_series.specs.Series.{in_grid}
-use Rattle.set_series.specs.laws.Finer.{in_grid-coarse}
+use Rattle.set_series.proofs.laws.Finer.{in_grid-coarse}
 use Rattle.set_series.proofs.in_grid.Goals as goal
 use Rattle.set_series.proofs.in_grid.Lts as lts
 use Rattle.set_series.proofs.in_grid.Reads as reads

@@ -7,14 +7,14 @@ use native.Mathlib.Omega.{arith}
 use mir.Syntax.{w64}
 use mir.Val.{to_z}
 use mir.Facts.{to_z-of_z}
-use Rattle.number_whole.specs.laws.Bound.{bits, fits}
+use Rattle.number_whole.proofs.laws.Bound.{bits, fits}
 use Rattle.number_whole.proofs.Signed.{read, both_ends}
 use Rattle.number_exponential.specs.Units.{grid_of}
 use Rattle.number_exponential.specs.code.Flag.{unit_by, grid_by}
-use Rattle.number_exponential.specs.laws.Scales.{under-scaled}
+use Rattle.number_exponential.proofs.laws.Scales.{under-scaled}
 use Rattle.set_series.specs.Series.{in_grid, kappa_in}
 use Rattle.set_series.specs.code.Within.{number_limit}
-use Rattle.set_series.specs.laws.BoundLaws.{in_grid-under}
+use Rattle.set_series.proofs.laws.BoundLaws.{in_grid-under}
 use Rattle.set_series.proofs.kappa_at.Goals as goal
 
 pub in_grid-first-requires : goal.in_grid-first-requires

@@ -10,20 +10,20 @@ use mir.Syntax.{w64}
 use mir.Val.{SFits}
 use Rattle.number_whole.specs.Division.{floor_div, ceil_div}
 use Rattle.number_whole.specs.code.Sizes.{Under, Within}
-use Rattle.number_whole.specs.laws.Bound.{bits, fits, back, under-weaken}
+use Rattle.number_whole.proofs.laws.Bound.{bits, fits, back, under-weaken}
 use Rattle.number_whole.specs.declared.SignedEnds.{SignedEnds}
 use Rattle.number_whole.specs.SignedEnds.{least_product, greatest_product, outward}
 use Rattle.number_whole.proofs.Signed.{read, sum, both_ends}
 use Rattle.number_exponential.specs.declared.GridUnit.{GridUnit}
-use Rattle.number_exponential.specs.laws.Scales.{scale-most, under-scaled}
+use Rattle.number_exponential.proofs.laws.Scales.{scale-most, under-scaled}
 use Rattle.number_exponential.specs.Units.{grid_of}
 use Rattle.number_exponential.specs.code.Flag.{unit_by, grid_by}
 use Rattle.set_params.specs.declared.Dynamics.{Dynamics}
 use Rattle.set_params.specs.Limits.{kappa_limit, constant_limit}
 use Rattle.set_params.specs.code.Within.{DynamicsWithin}
 use Rattle.set_series.specs.Series.{coefficient_unit, in_grid, kappa_step}
-use Rattle.set_series.specs.laws.BoundLaws.{in_grid-under, product-under, kappa_step-under}
-use Rattle.set_series.specs.laws.Mixed.{end_by, least-over, greatest-over, none-added}
+use Rattle.set_series.proofs.laws.BoundLaws.{in_grid-under, product-under, kappa_step-under}
+use Rattle.set_series.proofs.laws.Mixed.{end_by, least-over, greatest-over, none-added}
 use Rattle.set_series.specs.code.Within.{mixed_over, MixedWithin}
 use Rattle.set_series.proofs.Chosen.{chosen-under, chosen-read}
 use Rattle.set_series.proofs.kappa_step.Goals as goal

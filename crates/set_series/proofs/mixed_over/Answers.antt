@@ -11,13 +11,13 @@ use mir.Val.{SFits}
 use mir.Facts.{to_z-of_z}
 use Rattle.number_whole.specs.Division.{floor_div, ceil_div}
 use Rattle.number_whole.specs.code.Sizes.{Under, Divides}
-use Rattle.number_whole.specs.laws.Bound.{bits, fits, under-pos, under-add, under-mul, under-weaken, divides}
+use Rattle.number_whole.proofs.laws.Bound.{bits, fits, under-pos, under-add, under-mul, under-weaken, divides}
 use Rattle.number_whole.proofs.Signed.{sum, product}
 use Rattle.number_exponential.specs.Units.{billionths, grid_of}
 use Rattle.number_exponential.specs.code.Flag.{unit_by, grid_by}
 use Rattle.set_params.specs.Limits.{kappa_limit}
 use Rattle.set_series.specs.Series.{coefficient_unit, in_grid}
-use Rattle.set_series.specs.laws.Finer.{in_grid-coarse}
+use Rattle.set_series.proofs.laws.Finer.{in_grid-coarse}
 use Rattle.set_series.specs.code.Within.{mixed_over, mixed_limit, MixedWithin}
 use Rattle.set_series.proofs.mixed_over.Goals as goal
 

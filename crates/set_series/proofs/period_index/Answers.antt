@@ -5,10 +5,10 @@ use lib.IntN.{pos, ◌*ℤ◌}
 use mir.Syntax.{w64}
 use mir.Val.{SFits}
 use mir.Facts.{to_z-of_z}
-use Rattle.number_whole.specs.laws.Bound.{bits, fits, back, under-pos, under-mul}
+use Rattle.number_whole.proofs.laws.Bound.{bits, fits, back, under-pos, under-mul}
 use Rattle.number_whole.proofs.Signed.{sum, product}
 use Rattle.set_series.specs.Series.{period_in}
-use Rattle.set_series.specs.laws.BoundLaws.{period-under}
+use Rattle.set_series.proofs.laws.BoundLaws.{period-under}
 use Rattle.set_series.proofs.period_index.Goals as goal
 
 year : (s : goal.Start) → SFits w64 (pos s.args.n)

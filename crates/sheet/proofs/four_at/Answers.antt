@@ -1,6 +1,6 @@
 -- `four_at` meets its contract: the four lines one after another, each read or malformed.
 use mathlib.Core.Path.{sym}
-use Rattle.sheet.specs.laws.FourLaws.{four-malformed₀, four-malformed₁, four-malformed₂, four-malformed₃, four-taken}
+use Rattle.sheet.proofs.laws.FourLaws.{four-malformed₀, four-malformed₁, four-malformed₂, four-malformed₃, four-taken}
 use Rattle.text_tokens.specs.laws.ReadLaws.{held, read-malformed, read_taken}
 use borrow.Author.Rules.{rules}
 use Rattle.sheet.proofs.four_at.Goals as goal

@@ -13,7 +13,7 @@ use Rattle.set_params.specs.Set.{ages, age_of}
 use Rattle.set_params.specs.laws.SetLaws.{four-age}
 use Rattle.set_params.specs.code.Within.{AgeWithin}
 use Rattle.set_limits.specs.laws.LimitsLaws.{in-limits-age}
-use Rattle.sheet.specs.laws.SheetTrip.{sheet-length}
+use Rattle.sheet.proofs.laws.SheetTrip.{sheet-length}
 use Rattle.sheet_length.specs.code.Parts.{start_text, age_text, ages_text}
 use Rattle.sheet_length.specs.laws.PartsLaws.{front_length, ages-none, ages-step, ages-grow, sheet-sum}
 use Rattle.sheet_length.specs.laws.Held.{SeriesHeld, series-held}

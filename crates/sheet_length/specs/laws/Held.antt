@@ -3,8 +3,8 @@ use Rattle.std.specs.Prelude.{◌≡◌, ℕ, ◌^◌, ◌<◌, T, leb, ℤ, pos
 use Rattle.std.proofs.Common.{arith, leb→le, to_z, of_z}
 use Rattle.std.specs.Int.{w64}
 use Rattle.number_whole.specs.code.Sizes.{Under}
-use Rattle.number_whole.specs.laws.Bound.{under-weaken, back}
-use Rattle.number_whole.specs.laws.Split.{split}
+use Rattle.number_whole.proofs.laws.Bound.{under-weaken, back}
+use Rattle.number_whole.proofs.laws.Split.{split}
 use Rattle.text_tokens.specs.Number.{most_digits}
 use Rattle.set_params.specs.declared.Params.{Params}
 use Rattle.set_params.specs.declared.Age.{Age}

@@ -9,7 +9,7 @@ use Rattle.set_params.specs.declared.Table.TheVariants.{Ag2014, LiLee}
 use Rattle.set_params.specs.declared.Age.{Age}
 use Rattle.set_params.specs.Set.{ages, age_of}
 use Rattle.sheet.specs.Sheet.{for_ages, age_keys, if_li_lee, keys, age_values, values, line_text, lines_text, table_text, sex_text, sheet_text}
-use Rattle.sheet.specs.laws.SheetTrip.{sex-length}
+use Rattle.sheet.proofs.laws.SheetTrip.{sex-length}
 use Rattle.sheet_length.specs.code.Parts.{line_length, series_text, start_text, age_text, ages_text}
 
 -- ---- lines, and then lines

@@ -15,9 +15,9 @@ use Rattle.text_tokens.specs.laws.DecimalLaws.{decimal-last, decimal-more, by_si
 use Rattle.text_tokens.specs.laws.NumberTrip.{malformed-not-taken}
 use Rattle.text_tokens.specs.laws.TextLaws.{text-found, text-missing}
 use Rattle.text_lines.specs.Lines.{line_feed, first_lines}
-use Rattle.text_lines.specs.laws.AfterLines.{after_lines}
-use Rattle.text_lines.specs.laws.LineLaws.{lines_split, lines-within}
-use Rattle.text_lines.specs.laws.CutLaws.{above, Cuts, above-append, cuts-none, cuts-line}
+use Rattle.text_lines.proofs.laws.AfterLines.{after_lines}
+use Rattle.text_lines.proofs.laws.LineLaws.{lines_split, lines-within}
+use Rattle.text_lines.proofs.laws.CutLaws.{above, Cuts, above-append, cuts-none, cuts-line}
 use Rattle.set_params.specs.declared.Params.{Params}
 use Rattle.set_params.specs.declared.Table.{Table}
 use Rattle.set_params.specs.declared.Table.TheVariants.{Ag2014, LiLee}
@@ -26,8 +26,8 @@ use Rattle.set_params.specs.declared.Sex.TheVariants.{M, F}
 use Rattle.set_refusal.specs.declared.Refusal.TheVariants.{Malformed}
 use Rattle.sheet.specs.Sheet.{most_bytes, sheet_lines, for_ages, age_keys, if_li_lee, keys, values, line_text, lines_text, table_text}
 use Rattle.sheet.specs.Sheet.{sex_text, sheet_text, read_front, nothing_after, read_set, refused, reading_of, read_sheet}
-use Rattle.sheet.specs.laws.SetTrip.{keys_length, values_length}
-use Rattle.sheet.specs.laws.SheetTrip.{front_reads, front_read, set_reads, sheet-length}
+use Rattle.sheet.proofs.laws.SetTrip.{keys_length, values_length}
+use Rattle.sheet.proofs.laws.SheetTrip.{front_reads, front_read, set_reads, sheet-length}
 use Rattle.sheet_set.specs.declared.SetRead.{SetRead}
 use Rattle.sheet_set.specs.code.Ages.{set_read}
 use Rattle.sheet_reader.specs.Front.{table_at, front_lines, sheet_of, sheet_end}

@@ -1,6 +1,6 @@
 -- `read_then_write` meets its contract, from what the reader and the writer ensure.
 use mathlib.Core.Path.{sym, ◌∙◌}
-use Rattle.sheet_round_trip.specs.laws.TripLaws.{not-copied, copy}
+use Rattle.sheet_round_trip.proofs.laws.TripLaws.{not-copied, copy}
 use borrow.Author.Rules.{rules}
 use Rattle.sheet_round_trip.proofs.read_then_write.Goals as goal
 

@@ -2,7 +2,7 @@
 use mathlib.Core.Path.{sym, ◌∙◌}
 use lib.Seq.{length-take-le}
 use Rattle.set_params.specs.code.Runs.{Whole}
-use Rattle.sheet_round_trip.specs.laws.TripLaws.{written-within, read-back}
+use Rattle.sheet_round_trip.proofs.laws.TripLaws.{written-within, read-back}
 use borrow.Author.Rules.{rules}
 use Rattle.sheet_round_trip.proofs.write_then_read.Goals as goal
 

@@ -9,7 +9,7 @@ use lib.ListN.{drop}
 use Rattle.set_params.specs.Set.{ages}
 use Rattle.sheet_set.specs.laws.RunLaws.{AgesRead, ages-start, ages-next, ages-malformed, ages-end}
 use Rattle.text_tokens.specs.laws.ReadLaws.{held}
-use Rattle.sheet.specs.laws.ResultLaws.{four-malformed, four-taken}
+use Rattle.sheet.proofs.laws.ResultLaws.{four-malformed, four-taken}
 use Rattle.sheet_set.proofs.ages_at.Goals as goal
 
 pub loop-x-init : goal.loop-x-init

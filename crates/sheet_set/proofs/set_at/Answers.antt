@@ -10,7 +10,7 @@ use Rattle.text_tokens.specs.Text.{bytes_of}
 use Rattle.text_tokens.specs.laws.ReadLaws.{held}
 use Rattle.sheet.specs.Sheet.{read_lines}
 use Rattle.sheet.specs.code.Lines.{four_read}
-use Rattle.sheet.specs.laws.ResultLaws.{four-malformed, four-taken}
+use Rattle.sheet.proofs.laws.ResultLaws.{four-malformed, four-taken}
 use Rattle.sheet_set.specs.code.SetLines.{start_read}
 use Rattle.sheet_set.specs.laws.SetLaws.{four_keys, none_read, series-malformed, start-malformed, series-read}
 use Rattle.sheet_set.proofs.Joined.{joined-holds}

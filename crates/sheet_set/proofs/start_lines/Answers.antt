@@ -10,7 +10,7 @@ use Rattle.text_tokens.specs.Text.{bytes_of}
 use Rattle.text_tokens.specs.code.Places.{number_read}
 use Rattle.text_tokens.specs.laws.ReadLaws.{held, read-malformed, read_taken}
 use Rattle.sheet.specs.Sheet.{read_line}
-use Rattle.sheet.specs.laws.FourLaws.{first-malformed, two-malformed, two-taken}
+use Rattle.sheet.proofs.laws.FourLaws.{first-malformed, two-malformed, two-taken}
 use Rattle.sheet_set.specs.code.SetLines.{read_start}
 use Rattle.sheet_set.proofs.Joined.{joined-holds}
 use borrow.Author.Rules.{rules}

@@ -4,7 +4,7 @@ use Rattle.std.proofs.Common.{sym, ap, ◌∙◌, suc-add, zero-add}
 use Rattle.text_tokens.specs.Text.{Parse, malformed, taken, and_then}
 use Rattle.sheet.specs.Sheet.{for_ages, read_line, read_lines}
 use Rattle.text_tokens.specs.laws.Steps.{goes, stops}
-use Rattle.sheet.specs.laws.FourLaws.{after}
+use Rattle.sheet.proofs.laws.FourLaws.{after}
 
 after_none : (q : Parse (List ℤ)) → after [] q ≡ q
 after_none malformed = refl

@@ -9,7 +9,7 @@ use Rattle.set_params.specs.code.Runs.{Whole}
 use Rattle.sheet.specs.Sheet.{for_ages, age_keys, read_lines}
 use Rattle.sheet_set.specs.code.Ages.{run, with_runs, from_ages}
 use Rattle.text_tokens.specs.laws.Steps.{goes, stops}
-use Rattle.sheet.specs.laws.FourLaws.{after}
+use Rattle.sheet.proofs.laws.FourLaws.{after}
 use Rattle.sheet_set.specs.laws.LinesLaws.{lines_then, ages-suc, more-malformed}
 
 -- ---- a run

@@ -12,7 +12,7 @@ use Rattle.set_params.specs.declared.Sex.{Sex}
 use Rattle.set_params.specs.Set.{ages}
 use Rattle.set_params.specs.Limits.{first_start}
 use Rattle.sheet.specs.Sheet.{for_ages, age_keys, if_li_lee, keys, read_lines, completed, run_from, params_of}
-use Rattle.sheet.specs.laws.FourLaws.{after}
+use Rattle.sheet.proofs.laws.FourLaws.{after}
 use Rattle.sheet_set.specs.declared.SetRead.{SetRead}
 use Rattle.sheet_set.specs.code.Ages.{set_read, run, with_runs, from_ages}
 use Rattle.sheet_set.specs.code.SetLines.{from_lines, read_start}

@@ -6,7 +6,7 @@ use native.Mathlib.Omega.{arith}
 use borrow.Author.Rules.{rules}
 use lib.ListN.{length, drop}
 use Rattle.text_lines.specs.Lines.{first_line}
-use Rattle.text_lines.specs.laws.LineLaws.{place-feed, place-more, place_end}
+use Rattle.text_lines.proofs.laws.LineLaws.{place-feed, place-more, place_end}
 use Rattle.text_lines.proofs.line_end.Goals as goal
 
 pub returns-then-bytes-i-eq10 : goal.returns-then-bytes-i-eq10

@@ -6,7 +6,7 @@ use mathlib.Core.List.{List}
 use lib.ListN.{length, drop}
 use lib.Seq.{drop-drop}
 use Rattle.text_lines.specs.Lines.{first_line, after_line, first_lines}
-use Rattle.text_lines.specs.laws.LineLaws.{after-drop, lines-length, place-within}
+use Rattle.text_lines.proofs.laws.LineLaws.{after-drop, lines-length, place-within}
 use Rattle.text_lines.proofs.lines_end.Given as goal
 
 abbrev pub invariant-loop-left : goal.invariant-loop-left

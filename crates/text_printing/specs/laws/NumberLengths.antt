@@ -1,7 +1,7 @@
 -- The texts of numbers: a text is the text of the tenth and one digit more, and how long the texts are.
 use Rattle.std.specs.Prelude.{◌≡◌, refl, List, [], ◌∷◌, ◌++◌, ℕ, zero, suc, ◌+◌, ◌/◌, ◌%◌, ◌^◌, ◌≤◌, ◌<◌, ℤ, pos, negsuc, nat_abs, ◌≤ℤ◌, ◌<ℤ◌}
 use Rattle.std.proofs.Common.{sym, ap, ◌∙◌, pow-suc, arith}
-use Rattle.number_whole.specs.laws.Split.{split}
+use Rattle.number_whole.proofs.laws.Split.{split}
 use Rattle.text_tokens.specs.Number.{zero_digit, minus_sign, most_digits, decimal, unsigned_text, number_text}
 use Rattle.text_tokens.specs.laws.DecimalLaws.{decimal-last, decimal-more, by_size}
 pub use Rattle.text_tokens.specs.laws.DecimalLaws.{text-small, unsigned-length, number-length}

@@ -5,7 +5,7 @@ use Rattle.std.proofs.lemmas.Bool.{eqb-false}
 use Rattle.std.proofs.Math.Arith.{digits_div, digits_mod}
 use Rattle.std.specs.Float.Ieee.Bits.{is_true, is_false}
 use Rattle.std.specs.Float.Ieee.Fits.{and_i, and_l}
-use Rattle.number_whole.specs.laws.Clash.{clash}
+use Rattle.number_whole.proofs.laws.Clash.{clash}
 use Rattle.text_tokens.specs.Text.{Parse, malformed, taken}
 use Rattle.text_tokens.specs.Number.{zero_digit, minus_sign, is_digit, digits, after_digits, value_from, value}
 use Rattle.text_tokens.specs.Number.{no_leading_zero, well_formed, read_unsigned, negated, positive, read_number}

@@ -1,6 +1,0 @@
-pub mod WeightLaws
-pub mod WeightedSum
-pub mod OrdersAgree
-pub mod SumWidth
-pub mod SumNarrow
-pub mod SumBound

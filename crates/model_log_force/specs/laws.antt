@@ -1,6 +1,0 @@
-pub mod HoldsLaws
-pub mod WidthLaws
-pub mod BoundLaws
-pub mod RangeLaws
-pub mod YearLaws
-pub mod Finer

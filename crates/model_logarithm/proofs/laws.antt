@@ -1,0 +1,12 @@
+pub mod Brackets
+pub mod Force
+pub mod GridFacts
+pub mod Half
+pub mod Holds
+pub mod Narrowing
+pub mod Powers
+pub mod Range
+pub mod RunOut
+pub mod Sums
+pub mod Width
+pub mod WidthFacts

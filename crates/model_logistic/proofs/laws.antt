@@ -1,0 +1,11 @@
+pub mod AtMostOne
+pub mod ExpNarrow
+pub mod GridFacts
+pub mod LogisticHolds
+pub mod LogisticNarrow
+pub mod LogisticWidth
+pub mod OrdersAgree
+pub mod RelativeWidth
+pub mod SignedUnits
+pub mod Sizes
+pub mod WidthFacts

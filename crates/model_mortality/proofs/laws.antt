@@ -1,0 +1,12 @@
+pub mod Answered
+pub mod AtMostOne
+pub mod Death
+pub mod Facts
+pub mod GridFacts
+pub mod Holds
+pub mod Narrowing
+pub mod Needed
+pub mod OrderDeath
+pub mod OrdersAgree
+pub mod Whole
+pub mod Width

@@ -1,0 +1,5 @@
+pub mod FigureLaws
+pub mod OneValue
+pub mod Rounding
+pub mod Units
+pub mod ValueLaws

@@ -1,0 +1,16 @@
+pub mod AtMostOne
+pub mod BillionthsFacts
+pub mod Facts
+pub mod GridFacts
+pub mod Holds
+pub mod NearSums
+pub mod OutwardLaws
+pub mod Overlap
+pub mod RunOut
+pub mod Scales
+pub mod Soundness
+pub mod SumLaws
+pub mod Sums
+pub mod Terms
+pub mod Width
+pub mod WidthFacts

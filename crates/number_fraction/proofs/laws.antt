@@ -1,0 +1,9 @@
+pub mod EndsHold
+pub mod FractionLaws
+pub mod FractionTerms
+pub mod Multiples
+pub mod Places
+pub mod RatioLaws
+pub mod RatioTerms
+pub mod Room
+pub mod Scaling

@@ -1,0 +1,17 @@
+pub mod AlternatingLaws
+pub mod AlternatingSums
+pub mod Convolution
+pub mod Cross
+pub mod DoubleSumLaws
+pub mod DoubleSums
+pub mod Factorial
+pub mod Meaning
+pub mod Narrowing
+pub mod OrderLaws
+pub mod Products
+pub mod Stretched
+pub mod SumLaws
+pub mod Sums
+pub mod TermShareLaws
+pub mod TermShares
+pub mod Terms

@@ -1,0 +1,13 @@
+pub mod Above
+pub mod Bound
+pub mod Clash
+pub mod Difference
+pub mod DivisionLaws
+pub mod EndLaws
+pub mod Nested
+pub mod Order
+pub mod OrderTests
+pub mod Shift
+pub mod Sign
+pub mod Split
+pub mod Table

@@ -1,6 +1,0 @@
-pub mod Holds
-pub mod OrdersAgree
-pub mod Narrowing
-pub mod Width
-pub mod Sizes
-pub mod Steps

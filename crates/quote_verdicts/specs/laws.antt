@@ -1,3 +1,0 @@
-pub mod VerdictLaws
-pub mod Figures
-pub mod Theorem

@@ -1,3 +1,0 @@
-pub mod SizeLaws
-pub mod Lengths
-pub mod LineLaws

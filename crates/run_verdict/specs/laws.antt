@@ -1,2 +1,0 @@
-pub mod YearLaws
-pub mod RunLaws

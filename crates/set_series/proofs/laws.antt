@@ -1,0 +1,5 @@
+pub mod BoundLaws
+pub mod Finer
+pub mod Mixed
+pub mod SeriesLaws
+pub mod WidthLaws

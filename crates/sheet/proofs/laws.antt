@@ -1,0 +1,5 @@
+pub mod BySheet
+pub mod FourLaws
+pub mod ResultLaws
+pub mod SetTrip
+pub mod SheetTrip

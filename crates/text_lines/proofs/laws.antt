@@ -1,0 +1,3 @@
+pub mod AfterLines
+pub mod CutLaws
+pub mod LineLaws

@@ -1,3 +1,0 @@
-pub mod AfterLines
-pub mod LineLaws
-pub mod CutLaws
