@@ -1,5 +1,6 @@
 // A published column of q for one year, 121 lines `age=0 q=0.00312` upward from age 0, read from its bytes in one pass.
 #![tactic(auto)]
+
 ghost use Rattle.std.specs.Prelude.{◌≡◌, ◌≤◌, ◌<◌, drop};
 ghost use Rattle.text_tokens.specs.Number.{read_digits};
 ghost use Rattle.run_column_text.specs.Column.{column_lines, decimals, read_q, read_entry, column_of};

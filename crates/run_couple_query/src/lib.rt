@@ -1,5 +1,6 @@
 // A couple's query line, `kind=… age=… age2=… year=… span=…` and a line feed, read from its bytes.
 #![tactic(auto)]
+
 ghost use Rattle.std.specs.Prelude.{◌≡◌, drop};
 ghost use Rattle.run_query.specs.Query.{read_word};
 ghost use Rattle.run_couple_query.specs.CoupleQuery.{couple_word, couples_on_offer, read_couple};

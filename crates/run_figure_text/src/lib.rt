@@ -1,5 +1,6 @@
 // A figure as text: its steps with so many decimals, or `open`.
 #![tactic(auto)]
+
 ghost use Rattle.std.specs.Prelude.{◌≡◌, ◌/◌, ◌^◌};
 ghost use Rattle.text_printing.specs.code.Put.{Room, Put};
 ghost use Rattle.run_figure_text.specs.FigureText.{last_digits, figure_text, shown_text};

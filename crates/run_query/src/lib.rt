@@ -1,6 +1,7 @@
 // A query line, `kind=… age=… year=… span=…`, a survival to a day's with ` date=…` in its place, an annuity's with ` rate=…`, and
 // a line feed, read from its bytes.
 #![tactic(auto)]
+
 ghost use Rattle.std.specs.Prelude.{◌≡◌, drop};
 ghost use Rattle.text_tokens.specs.code.Places.{number_read};
 ghost use Rattle.quote_kinds.specs.Kinds.{takes_rate, with_rate};

@@ -1,5 +1,6 @@
 // Reads the sheets at the front of an input: one, or two that stand one after the other.
 #![tactic(auto)]
+
 ghost use Rattle.std.specs.Prelude.{◌≡◌, cond};
 ghost use Rattle.sheet_reader.specs.Front.{sheet_of, sheet_end};
 ghost use Rattle.run_sheets.specs.Front.{in_turn, by_number, stopped, front_of};

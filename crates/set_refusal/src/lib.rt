@@ -1,5 +1,6 @@
 // The refusals of the papers.
 #![tactic(auto)]
+
 ghost use Rattle.std.specs.Prelude.{◌≡◌};
 ghost use Rattle.set_refusal.specs.Refusals.{refusal_number, lower_refusal};
 

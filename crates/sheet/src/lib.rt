@@ -1,6 +1,7 @@
 // What reading and writing a sheet gives, and the reading of a line and of four in a row. What the bytes of a sheet mean is in
 // specs/.
 #![tactic(auto)]
+
 ghost use Rattle.text_words.specs.code.ShortText.{Sized};
 ghost use Rattle.sheet.specs.code.Lines.{LineOf, FourOf};
 

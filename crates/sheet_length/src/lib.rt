@@ -1,5 +1,6 @@
 // How many bytes the sheet of a parameter set has, part by part.
 #![tactic(auto)]
+
 ghost use Rattle.std.specs.Prelude.{◌≡◌, ◌^◌, ◌<◌, ◌≤◌, T, nat_abs, length};
 ghost use Rattle.text_tokens.specs.Number.{most_digits};
 ghost use Rattle.set_params.specs.Set.{ages};

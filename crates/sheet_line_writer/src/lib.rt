@@ -1,6 +1,7 @@
 // Writes the lines of a sheet into a buffer that the caller lends: the first, the second, those of the series, of the start and c,
 // or of one age.
 #![tactic(auto)]
+
 ghost use Rattle.std.specs.Prelude.{◌≡◌, ◌++◌, ◌^◌, ◌<◌, pos, nat_abs, T};
 ghost use Rattle.text_tokens.specs.Number.{most_digits, unsigned_text};
 ghost use Rattle.set_params.specs.Set.{ages};

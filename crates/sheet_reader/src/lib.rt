@@ -1,5 +1,6 @@
 // Reads a parameter sheet.
 #![tactic(auto)]
+
 ghost use Rattle.std.specs.Prelude.{◌≡◌, cond, [], drop};
 ghost use Rattle.text_tokens.specs.Text.{malformed, taken};
 ghost use Rattle.set_refusal.specs.declared.Refusal.TheVariants.{Malformed};

@@ -1,6 +1,7 @@
 // The sheet's writer and reader, one after the other: a set comes back as it was, and a sheet byte for byte. Proved
 // from their contracts alone.
 #![tactic(auto)]
+
 ghost use Rattle.std.specs.Prelude.{◌≡◌, length};
 ghost use Rattle.sheet.specs.Sheet.{written_buffer};
 ghost use Rattle.sheet_round_trip.specs.Trips.{read_back, copy_answer, copied};

@@ -1,5 +1,6 @@
 // Reads the lines after a parameter sheet's first two into a set: those of the series, of the start and c, and of ages 0 to 90.
 #![tactic(auto)]
+
 ghost use Rattle.std.specs.Prelude.{◌≡◌, false, ◌++◌, ◌<◌, drop};
 ghost use Rattle.text_words.specs.code.ShortText.{Holds};
 ghost use Rattle.text_tokens.specs.Text.{bytes_of};

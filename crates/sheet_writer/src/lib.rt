@@ -1,5 +1,6 @@
 // Writes the one sheet of a parameter set into a buffer that the caller lends.
 #![tactic(auto)]
+
 ghost use Rattle.std.specs.Prelude.{◌≡◌, T, length};
 ghost use Rattle.set_params.specs.Set.{ages};
 ghost use Rattle.set_limits.specs.InLimits.{in_limits};

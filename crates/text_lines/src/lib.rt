@@ -1,5 +1,6 @@
 // Bytes cut into lines: where a line ends, and where so many lines end.
 #![tactic(auto)]
+
 ghost use Rattle.std.specs.Prelude.{◌≡◌, ◌+◌, ◌≤◌, length, drop};
 ghost use Rattle.text_lines.specs.Lines.{first_line, first_lines};
 

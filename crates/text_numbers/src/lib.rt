@@ -1,6 +1,7 @@
 // Reading the numbers of which a sheet and a query line are made. Their digits are counted and worked a word of eight bytes at a
 // time.
 #![tactic(auto)]
+
 ghost use Rattle.std.specs.Prelude.{◌≡◌, ◌≤◌, ◌<◌, map, length, get_or};
 ghost use Rattle.text_words.specs.code.Word.{word_bytes, bytes_in, word_of, Below};
 ghost use Rattle.text_tokens.specs.Number.{digits};

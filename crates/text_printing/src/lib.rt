@@ -1,5 +1,6 @@
 // Writing the texts and numbers of which a sheet is made into a buffer that the caller lends.
 #![tactic(auto)]
+
 ghost use Rattle.std.specs.Prelude.{◌≡◌, ◌+◌, ◌^◌, ◌≤◌, ◌<◌, nat_abs, length};
 ghost use Rattle.text_tokens.specs.Number.{unsigned_text, number_text, most_digits};
 ghost use Rattle.text_printing.specs.code.Overwritten.{overwritten};

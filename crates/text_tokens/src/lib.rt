@@ -1,5 +1,6 @@
 // Reading the texts of which a sheet and a query line are made, a word at a time and byte by byte, and digits byte by byte.
 #![tactic(auto)]
+
 ghost use Rattle.std.specs.Prelude.{◌≡◌, [], ◌∷◌, ◌-◌};
 ghost use Rattle.text_tokens.specs.code.Places.{text_at};
 ghost use Rattle.text_tokens.specs.code.Unsigned.{DigitsRead};

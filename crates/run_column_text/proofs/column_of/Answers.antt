@@ -18,8 +18,6 @@ use Rattle.run_column_text.specs.code.Code.{list_read, with_row}
 use Rattle.run_column_text.specs.laws.RowLaws.{row-long, line_at, column_from, from_start, from_step, from_end, from_past}
 use Rattle.run_column_text.proofs.column_of.Goals as goal
 
--- ---- the place before, seen from the line's end
-
 -- ---- the needs
 
 pub loop-x-init : goal.loop-x-init
@@ -30,15 +28,15 @@ returns-then-not-put_row c =
     let bytes : List ℕ = c.args.bytes.now in
     let end : let l = c.loop-x in c.line_end-end.result ≡ l.at + length (line_at bytes l.at) = c.line_end-end.ensures in
     let slice : let l = c.loop-x in take (c.line_end-end.result - l.at) (drop l.at bytes) ≡ line_at bytes l.at =
-        let l = c.loop-x in
-        let e : c.line_end-end.result - l.at ≡ length (line_at bytes l.at) = omega (arith, end) in
-        rw e (line-take (drop l.at bytes)) in
+    let l = c.loop-x in
+    let e : c.line_end-end.result - l.at ≡ length (line_at bytes l.at) = omega (arith, end) in
+    rw e (line-take (drop l.at bytes)) in
     let step : let l = c.loop-x in let bs = bytes in column_of bs ≡ and_then (with_row l.steps l.x (line_at bs l.at)) (λ t none. column_from bs (l.at + length (line_at bs l.at)) t (suc l.x)) =
-        let l = c.loop-x in
-        l.invariant.whole ∙ from_step bytes l.at l.steps l.x (omega arith) l.invariant.long in
+    let l = c.loop-x in
+    l.invariant.whole ∙ from_step bytes l.at l.steps l.x (omega arith) l.invariant.long in
     let row : (b : Bool) → c.put_row.result ≡ b → let l = c.loop-x in with_row l.steps l.x (line_at bytes l.at) ≡ list_read b c.put_row.new.steps =
     λ b e. let l = c.loop-x in
-        ap (with_row l.steps l.x) (sym slice) ∙ sym c.put_row.ensures ∙ ap (λ (b : Bool). list_read b c.put_row.new.steps) e in
+    ap (with_row l.steps l.x) (sym slice) ∙ sym c.put_row.ensures ∙ ap (λ (b : Bool). list_read b c.put_row.new.steps) e in
     sym (step ∙ stops _ (row false (not-true _ (ap not c.if-not-put_row.true))))
 
 pub loop-x-preserved : goal.loop-x-preserved
@@ -46,18 +44,18 @@ loop-x-preserved c =
     let bytes : List ℕ = c.args.bytes.now in
     let end : let l = c.loop-x in c.line_end-end.result ≡ l.at + length (line_at bytes l.at) = c.line_end-end.ensures in
     let inside : c.line_end-end.result ≤ length bytes =
-        let l = c.loop-x in
-        omega (arith, end, place-within bytes l.at l.invariant.within) in
+    let l = c.loop-x in
+    omega (arith, end, place-within bytes l.at l.invariant.within) in
     let slice : let l = c.loop-x in take (c.line_end-end.result - l.at) (drop l.at bytes) ≡ line_at bytes l.at =
-        let l = c.loop-x in
-        let e : c.line_end-end.result - l.at ≡ length (line_at bytes l.at) = omega (arith, end) in
-        rw e (line-take (drop l.at bytes)) in
+    let l = c.loop-x in
+    let e : c.line_end-end.result - l.at ≡ length (line_at bytes l.at) = omega (arith, end) in
+    rw e (line-take (drop l.at bytes)) in
     let step : let l = c.loop-x in let bs = bytes in column_of bs ≡ and_then (with_row l.steps l.x (line_at bs l.at)) (λ t none. column_from bs (l.at + length (line_at bs l.at)) t (suc l.x)) =
-        let l = c.loop-x in
-        l.invariant.whole ∙ from_step bytes l.at l.steps l.x (omega arith) l.invariant.long in
+    let l = c.loop-x in
+    l.invariant.whole ∙ from_step bytes l.at l.steps l.x (omega arith) l.invariant.long in
     let row : (b : Bool) → c.put_row.result ≡ b → let l = c.loop-x in with_row l.steps l.x (line_at bytes l.at) ≡ list_read b c.put_row.new.steps =
     λ b e. let l = c.loop-x in
-        ap (with_row l.steps l.x) (sym slice) ∙ sym c.put_row.ensures ∙ ap (λ (b : Bool). list_read b c.put_row.new.steps) e in
+    ap (with_row l.steps l.x) (sym slice) ∙ sym c.put_row.ensures ∙ ap (λ (b : Bool). list_read b c.put_row.new.steps) e in
     let l = c.loop-x in
     let put = row true (not-false _ (ap not c.if-not-put_row.false)) in
     record {
@@ -97,6 +95,6 @@ slice_bounds-put_row-end c =
     let bytes : List ℕ = c.args.bytes.now in
     let end : let l = c.loop-x in c.line_end-end.result ≡ l.at + length (line_at bytes l.at) = c.line_end-end.ensures in
     let inside : c.line_end-end.result ≤ length bytes =
-        let l = c.loop-x in
-        omega (arith, end, place-within bytes l.at l.invariant.within) in
+    let l = c.loop-x in
+    omega (arith, end, place-within bytes l.at l.invariant.within) in
     inside

@@ -19,10 +19,6 @@ use Rattle.run_column_text.specs.Column.{read_entry}
 use Rattle.run_column_text.proofs.EntrySteps.{from_q, from_name, age-malformed, age-taken, unsigned-malformed, unsigned-taken}
 use Rattle.run_column_text.proofs.entry_of.Goals as goal
 
--- ---- the places where a part is read, seen from the next
-
--- ---- what each part leaves to be read
-
 -- ---- the needs
 
 pub returns-in_default : goal.returns-in_default

@@ -15,8 +15,6 @@ use Rattle.run_column_text.specs.laws.QLaws.{digits-small}
 use Rattle.run_column_text.proofs.EntrySteps.{from_point, digit-malformed, digit-taken, unsigned-malformed, unsigned-taken}
 use Rattle.run_column_text.proofs.q_at.Goals as goal
 
--- ---- the place where the first digit is read, seen from the point
-
 -- ---- the needs
 
 pub returns-in_default : goal.returns-in_default

@@ -14,8 +14,6 @@ use Rattle.run_query.proofs.WordSteps.{word-found, word-missing}
 use Rattle.run_couple_query.specs.CoupleQuery.{couple_word, couples_on_offer}
 use Rattle.run_couple_query.proofs.couple_kind_at.Goals as goal
 
--- ---- the start, seen from each test
-
 -- ---- the words that are left after the first n
 
 abbrev Left : ℕ → List ℕ → Type 0
@@ -54,8 +52,8 @@ unfolding couples_on_offer couple_word bytes_of
 returns-then-text_at-3 c =
     let left₁ : Left 1 (drop c.args.at c.args.bytes.now) = word-missing _ _ couple_word JointLife _ c.text_at.ensures c.if-text_at.false in
     let left₂ : Left 2 (drop c.args.at c.args.bytes.now) =
-        left₁
-        ∙ word-missing _ _ couple_word LastSurvivor _ c.text_at-2.ensures c.if-text_at-2.false in
+    left₁
+    ∙ word-missing _ _ couple_word LastSurvivor _ c.text_at-2.ensures c.if-text_at-2.false in
     sym
     (left₂
     ∙ word-found _ _ couple_word JointExpectancy _ c.text_at-3.ensures c.if-text_at-3.true)
@@ -68,11 +66,11 @@ unfolding couples_on_offer couple_word bytes_of
 returns-then-text_at-4 c =
     let left₁ : Left 1 (drop c.args.at c.args.bytes.now) = word-missing _ _ couple_word JointLife _ c.text_at.ensures c.if-text_at.false in
     let left₂ : Left 2 (drop c.args.at c.args.bytes.now) =
-        left₁
-        ∙ word-missing _ _ couple_word LastSurvivor _ c.text_at-2.ensures c.if-text_at-2.false in
+    left₁
+    ∙ word-missing _ _ couple_word LastSurvivor _ c.text_at-2.ensures c.if-text_at-2.false in
     let left₃ : Left 3 (drop c.args.at c.args.bytes.now) =
-        left₂
-        ∙ word-missing _ _ couple_word JointExpectancy _ c.text_at-3.ensures c.if-text_at-3.false in
+    left₂
+    ∙ word-missing _ _ couple_word JointExpectancy _ c.text_at-3.ensures c.if-text_at-3.false in
     sym
     (left₃
     ∙ word-found _ _ couple_word LastExpectancy _ c.text_at-4.ensures c.if-text_at-4.true)
@@ -82,12 +80,12 @@ unfolding couples_on_offer couple_word bytes_of
 returns c =
     let left₁ : Left 1 (drop c.args.at c.args.bytes.now) = word-missing _ _ couple_word JointLife _ c.text_at.ensures c.if-text_at.false in
     let left₂ : Left 2 (drop c.args.at c.args.bytes.now) =
-        left₁
-        ∙ word-missing _ _ couple_word LastSurvivor _ c.text_at-2.ensures c.if-text_at-2.false in
+    left₁
+    ∙ word-missing _ _ couple_word LastSurvivor _ c.text_at-2.ensures c.if-text_at-2.false in
     let left₃ : Left 3 (drop c.args.at c.args.bytes.now) =
-        left₂
-        ∙ word-missing _ _ couple_word JointExpectancy _ c.text_at-3.ensures c.if-text_at-3.false in
+    left₂
+    ∙ word-missing _ _ couple_word JointExpectancy _ c.text_at-3.ensures c.if-text_at-3.false in
     let left₄ : Left 4 (drop c.args.at c.args.bytes.now) =
-        left₃
-        ∙ word-missing _ _ couple_word LastExpectancy _ c.text_at-4.ensures c.if-text_at-4.false in
+    left₃
+    ∙ word-missing _ _ couple_word LastExpectancy _ c.text_at-4.ensures c.if-text_at-4.false in
     sym (none _ left₄)

@@ -19,10 +19,6 @@ use Rattle.run_couple_query.proofs.CoupleSteps.{from_span, from_year, from_other
 use Rattle.run_couple_query.proofs.CoupleSteps.{start-malformed, start-taken, kind-malformed, kind-taken}
 use Rattle.run_couple_query.proofs.couple_query_of.Goals as goal
 
--- ---- the places where a part is read, seen from the next
-
--- ---- what each part leaves to be read
-
 -- ---- the needs
 
 pub returns-then-not-text_at : goal.returns-then-not-text_at
@@ -42,8 +38,8 @@ returns-in_default-field_at c =
     let line : List ℕ = c.args.line.now in
     let after-start : let l = line in read_couple l ≡ from_word (drop 5 l) = start-taken _ (text-found _ 0 (bytes_of "kind=") (has c.text_at.ensures (ap not c.if-not-text_at.false))) in
     let after-kind : let l = line in read_couple l ≡ from_age c.in-Of.kind (drop c.in-Of.after_kind l) =
-        after-start
-        ∙ goes _ (kind-taken _ c.couple_kind_at.ensures c.in-Of.is) in
+    after-start
+    ∙ goes _ (kind-taken _ c.couple_kind_at.ensures c.in-Of.is) in
     sym (after-kind ∙ stops _ (read-malformed _ c.field_at.ensures c.in_default-field_at.is))
 
 pub returns-in_default-field_at-2 : goal.returns-in_default-field_at-2
@@ -52,11 +48,11 @@ returns-in_default-field_at-2 c =
     let line : List ℕ = c.args.line.now in
     let after-start : let l = line in read_couple l ≡ from_word (drop 5 l) = start-taken _ (text-found _ 0 (bytes_of "kind=") (has c.text_at.ensures (ap not c.if-not-text_at.false))) in
     let after-kind : let l = line in read_couple l ≡ from_age c.in-Of.kind (drop c.in-Of.after_kind l) =
-        after-start
-        ∙ goes _ (kind-taken _ c.couple_kind_at.ensures c.in-Of.is) in
+    after-start
+    ∙ goes _ (kind-taken _ c.couple_kind_at.ensures c.in-Of.is) in
     let after-age : let l = line in read_couple l ≡ from_other c.in-Of.kind c.in-Number.age (drop c.in-Number.after_age l) =
-        after-kind
-        ∙ goes _ (read_taken _ c.field_at.ensures c.in-Number.is) in
+    after-kind
+    ∙ goes _ (read_taken _ c.field_at.ensures c.in-Number.is) in
     sym (after-age ∙ stops _ (read-malformed _ c.field_at-2.ensures c.in_default-field_at-2.is))
 
 pub returns-in_default-field_at-3 : goal.returns-in_default-field_at-3
@@ -65,14 +61,14 @@ returns-in_default-field_at-3 c =
     let line : List ℕ = c.args.line.now in
     let after-start : let l = line in read_couple l ≡ from_word (drop 5 l) = start-taken _ (text-found _ 0 (bytes_of "kind=") (has c.text_at.ensures (ap not c.if-not-text_at.false))) in
     let after-kind : let l = line in read_couple l ≡ from_age c.in-Of.kind (drop c.in-Of.after_kind l) =
-        after-start
-        ∙ goes _ (kind-taken _ c.couple_kind_at.ensures c.in-Of.is) in
+    after-start
+    ∙ goes _ (kind-taken _ c.couple_kind_at.ensures c.in-Of.is) in
     let after-age : let l = line in read_couple l ≡ from_other c.in-Of.kind c.in-Number.age (drop c.in-Number.after_age l) =
-        after-kind
-        ∙ goes _ (read_taken _ c.field_at.ensures c.in-Number.is) in
+    after-kind
+    ∙ goes _ (read_taken _ c.field_at.ensures c.in-Number.is) in
     let after-other : let l = line in read_couple l ≡ from_year c.in-Of.kind c.in-Number.age c.in-Number-field_at.other (drop c.in-Number-field_at.after_other l) =
-        after-age
-        ∙ goes _ (read_taken _ c.field_at-2.ensures c.in-Number-field_at.is) in
+    after-age
+    ∙ goes _ (read_taken _ c.field_at-2.ensures c.in-Number-field_at.is) in
     sym (after-other ∙ stops _ (read-malformed _ c.field_at-3.ensures c.in_default-field_at-3.is))
 
 pub returns-in_default-field_at-4 : goal.returns-in_default-field_at-4
@@ -81,17 +77,17 @@ returns-in_default-field_at-4 c =
     let line : List ℕ = c.args.line.now in
     let after-start : let l = line in read_couple l ≡ from_word (drop 5 l) = start-taken _ (text-found _ 0 (bytes_of "kind=") (has c.text_at.ensures (ap not c.if-not-text_at.false))) in
     let after-kind : let l = line in read_couple l ≡ from_age c.in-Of.kind (drop c.in-Of.after_kind l) =
-        after-start
-        ∙ goes _ (kind-taken _ c.couple_kind_at.ensures c.in-Of.is) in
+    after-start
+    ∙ goes _ (kind-taken _ c.couple_kind_at.ensures c.in-Of.is) in
     let after-age : let l = line in read_couple l ≡ from_other c.in-Of.kind c.in-Number.age (drop c.in-Number.after_age l) =
-        after-kind
-        ∙ goes _ (read_taken _ c.field_at.ensures c.in-Number.is) in
+    after-kind
+    ∙ goes _ (read_taken _ c.field_at.ensures c.in-Number.is) in
     let after-other : let l = line in read_couple l ≡ from_year c.in-Of.kind c.in-Number.age c.in-Number-field_at.other (drop c.in-Number-field_at.after_other l) =
-        after-age
-        ∙ goes _ (read_taken _ c.field_at-2.ensures c.in-Number-field_at.is) in
+    after-age
+    ∙ goes _ (read_taken _ c.field_at-2.ensures c.in-Number-field_at.is) in
     let after-year : let l = line in read_couple l ≡ from_span c.in-Of.kind c.in-Number.age c.in-Number-field_at.other c.in-Number-field_at-2.year (drop c.in-Number-field_at-2.after_year l) =
-        after-other
-        ∙ goes _ (read_taken _ c.field_at-3.ensures c.in-Number-field_at-2.is) in
+    after-other
+    ∙ goes _ (read_taken _ c.field_at-3.ensures c.in-Number-field_at-2.is) in
     sym (after-year ∙ stops _ (read-malformed _ c.field_at-4.ensures c.in_default-field_at-4.is))
 
 pub returns-then-not-ends_at : goal.returns-then-not-ends_at
@@ -99,29 +95,29 @@ unfolding bytes_of
 returns-then-not-ends_at c =
     let line : List ℕ = c.args.line.now in
     let asked : CoupleQuery =
-        record {
-          kind = c.in-Of.kind;
-          age = c.in-Number.age;
-          other = c.in-Number-field_at.other;
-          year = c.in-Number-field_at-2.year;
-          span = c.in-Number-field_at-3.span;
-        } in
+    record {
+      kind = c.in-Of.kind;
+      age = c.in-Number.age;
+      other = c.in-Number-field_at.other;
+      year = c.in-Number-field_at-2.year;
+      span = c.in-Number-field_at-3.span;
+    } in
     let after-start : let l = line in read_couple l ≡ from_word (drop 5 l) = start-taken _ (text-found _ 0 (bytes_of "kind=") (has c.text_at.ensures (ap not c.if-not-text_at.false))) in
     let after-kind : let l = line in read_couple l ≡ from_age c.in-Of.kind (drop c.in-Of.after_kind l) =
-        after-start
-        ∙ goes _ (kind-taken _ c.couple_kind_at.ensures c.in-Of.is) in
+    after-start
+    ∙ goes _ (kind-taken _ c.couple_kind_at.ensures c.in-Of.is) in
     let after-age : let l = line in read_couple l ≡ from_other c.in-Of.kind c.in-Number.age (drop c.in-Number.after_age l) =
-        after-kind
-        ∙ goes _ (read_taken _ c.field_at.ensures c.in-Number.is) in
+    after-kind
+    ∙ goes _ (read_taken _ c.field_at.ensures c.in-Number.is) in
     let after-other : let l = line in read_couple l ≡ from_year c.in-Of.kind c.in-Number.age c.in-Number-field_at.other (drop c.in-Number-field_at.after_other l) =
-        after-age
-        ∙ goes _ (read_taken _ c.field_at-2.ensures c.in-Number-field_at.is) in
+    after-age
+    ∙ goes _ (read_taken _ c.field_at-2.ensures c.in-Number-field_at.is) in
     let after-year : let l = line in read_couple l ≡ from_span c.in-Of.kind c.in-Number.age c.in-Number-field_at.other c.in-Number-field_at-2.year (drop c.in-Number-field_at-2.after_year l) =
-        after-other
-        ∙ goes _ (read_taken _ c.field_at-3.ensures c.in-Number-field_at-2.is) in
+    after-other
+    ∙ goes _ (read_taken _ c.field_at-3.ensures c.in-Number-field_at-2.is) in
     let after-span : let l = line in read_couple l ≡ ended asked (drop c.in-Number-field_at-3.after_span l) =
-        after-year
-        ∙ goes _ (read_taken _ c.field_at-4.ensures c.in-Number-field_at-3.is) in
+    after-year
+    ∙ goes _ (read_taken _ c.field_at-4.ensures c.in-Number-field_at-3.is) in
     sym (after-span ∙ line-goes-on _ _ (lacks c.ends_at.ensures (ap not c.if-not-ends_at.true)))
 
 pub returns : goal.returns
@@ -129,29 +125,29 @@ unfolding bytes_of
 returns c =
     let line : List ℕ = c.args.line.now in
     let asked : CoupleQuery =
-        record {
-          kind = c.in-Of.kind;
-          age = c.in-Number.age;
-          other = c.in-Number-field_at.other;
-          year = c.in-Number-field_at-2.year;
-          span = c.in-Number-field_at-3.span;
-        } in
+    record {
+      kind = c.in-Of.kind;
+      age = c.in-Number.age;
+      other = c.in-Number-field_at.other;
+      year = c.in-Number-field_at-2.year;
+      span = c.in-Number-field_at-3.span;
+    } in
     let after-start : let l = line in read_couple l ≡ from_word (drop 5 l) = start-taken _ (text-found _ 0 (bytes_of "kind=") (has c.text_at.ensures (ap not c.if-not-text_at.false))) in
     let after-kind : let l = line in read_couple l ≡ from_age c.in-Of.kind (drop c.in-Of.after_kind l) =
-        after-start
-        ∙ goes _ (kind-taken _ c.couple_kind_at.ensures c.in-Of.is) in
+    after-start
+    ∙ goes _ (kind-taken _ c.couple_kind_at.ensures c.in-Of.is) in
     let after-age : let l = line in read_couple l ≡ from_other c.in-Of.kind c.in-Number.age (drop c.in-Number.after_age l) =
-        after-kind
-        ∙ goes _ (read_taken _ c.field_at.ensures c.in-Number.is) in
+    after-kind
+    ∙ goes _ (read_taken _ c.field_at.ensures c.in-Number.is) in
     let after-other : let l = line in read_couple l ≡ from_year c.in-Of.kind c.in-Number.age c.in-Number-field_at.other (drop c.in-Number-field_at.after_other l) =
-        after-age
-        ∙ goes _ (read_taken _ c.field_at-2.ensures c.in-Number-field_at.is) in
+    after-age
+    ∙ goes _ (read_taken _ c.field_at-2.ensures c.in-Number-field_at.is) in
     let after-year : let l = line in read_couple l ≡ from_span c.in-Of.kind c.in-Number.age c.in-Number-field_at.other c.in-Number-field_at-2.year (drop c.in-Number-field_at-2.after_year l) =
-        after-other
-        ∙ goes _ (read_taken _ c.field_at-3.ensures c.in-Number-field_at-2.is) in
+    after-other
+    ∙ goes _ (read_taken _ c.field_at-3.ensures c.in-Number-field_at-2.is) in
     let after-span : let l = line in read_couple l ≡ ended asked (drop c.in-Number-field_at-3.after_span l) =
-        after-year
-        ∙ goes _ (read_taken _ c.field_at-4.ensures c.in-Number-field_at-3.is) in
+    after-year
+    ∙ goes _ (read_taken _ c.field_at-4.ensures c.in-Number-field_at-3.is) in
     rw (
       held c.in-Number.age c.in-Number.known_told-in-Number-1-own.given.0.1,
       held c.in-Number-field_at.other c.in-Number-field_at.known_told-in-Number-field_at-2-1-own.given.0.1,

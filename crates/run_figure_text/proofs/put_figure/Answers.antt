@@ -16,14 +16,6 @@ use Rattle.run_figure_text.specs.FigureText.{last_digits, steps_text, figure_tex
 use Rattle.run_figure_text.specs.code.Sizes.{Printable}
 use Rattle.run_figure_text.proofs.put_figure.Goals as goal
 
--- ---- the place before, seen from each text
-
--- ---- an open figure
-
--- ---- a printed figure: its steps, and their whole part
-
--- ---- its three texts have room, and two of them are written
-
 -- ---- the needs
 
 pub put_text-requires : goal.put_text-requires
@@ -57,8 +49,7 @@ put_number-point-requires c =
     let whole : to_z w64 c.without_last-whole.result ≡ pos (steps / 10 ^ decimals) = to_z_pos w64 (omega (arith, whole-small)) ∙ ap pos c.without_last-whole.ensures in
     let whole-text : number_text (to_z w64 c.without_last-whole.result) ≡ unsigned_text (steps / 10 ^ decimals) = ap number_text whole in
     let steps-text : figure_text decimals c.args.figure ≡ steps_text decimals steps = ap (figure_text decimals) c.in-Printed.is in
-    let texts : Three c.args.buffer.now c.args.at (unsigned_text (steps / 10 ^ decimals)) (bytes_of ".") (last_digits decimals steps) = record { room = room_as steps-text c.requires.1 } in
-    (
+    let texts : Three c.args.buffer.now c.args.at (unsigned_text (steps / 10 ^ decimals)) (bytes_of ".") (last_digits decimals steps) = record { room = room_as steps-text c.requires.1 } in (
       rw whole (omega (arith, whole-small, c.without_last-whole.ensures)),
       (room_as (sym whole-text) (three-first texts)).fits,
     )

@@ -15,8 +15,6 @@ use Rattle.run_query.specs.Query.{word_of, on_offer, read_word}
 use Rattle.run_query.proofs.WordSteps.{word-found, word-missing}
 use Rattle.run_query.proofs.kind_at.Goals as goal
 
--- ---- the start, seen from each test
-
 -- ---- the words that are left after the first n
 
 abbrev Left : ℕ → List ℕ → Type 0
@@ -55,8 +53,8 @@ unfolding on_offer word_of bytes_of
 returns-then-text_at-3 c =
     let left₁ : Left 1 (drop c.args.at c.args.bytes.now) = word-missing _ _ word_of Death _ c.text_at.ensures c.if-text_at.false in
     let left₂ : Left 2 (drop c.args.at c.args.bytes.now) =
-        left₁
-        ∙ word-missing _ _ word_of CohortSurvival _ c.text_at-2.ensures c.if-text_at-2.false in
+    left₁
+    ∙ word-missing _ _ word_of CohortSurvival _ c.text_at-2.ensures c.if-text_at-2.false in
     sym
     (left₂
     ∙ word-found _ _ word_of PeriodSurvival _ c.text_at-3.ensures c.if-text_at-3.true)
@@ -69,11 +67,11 @@ unfolding on_offer word_of bytes_of
 returns-then-text_at-4 c =
     let left₁ : Left 1 (drop c.args.at c.args.bytes.now) = word-missing _ _ word_of Death _ c.text_at.ensures c.if-text_at.false in
     let left₂ : Left 2 (drop c.args.at c.args.bytes.now) =
-        left₁
-        ∙ word-missing _ _ word_of CohortSurvival _ c.text_at-2.ensures c.if-text_at-2.false in
+    left₁
+    ∙ word-missing _ _ word_of CohortSurvival _ c.text_at-2.ensures c.if-text_at-2.false in
     let left₃ : Left 3 (drop c.args.at c.args.bytes.now) =
-        left₂
-        ∙ word-missing _ _ word_of PeriodSurvival _ c.text_at-3.ensures c.if-text_at-3.false in
+    left₂
+    ∙ word-missing _ _ word_of PeriodSurvival _ c.text_at-3.ensures c.if-text_at-3.false in
     sym
     (left₃
     ∙ word-found _ _ word_of CohortExpectancy _ c.text_at-4.ensures c.if-text_at-4.true)
@@ -86,14 +84,14 @@ unfolding on_offer word_of bytes_of
 returns-then-text_at-5 c =
     let left₁ : Left 1 (drop c.args.at c.args.bytes.now) = word-missing _ _ word_of Death _ c.text_at.ensures c.if-text_at.false in
     let left₂ : Left 2 (drop c.args.at c.args.bytes.now) =
-        left₁
-        ∙ word-missing _ _ word_of CohortSurvival _ c.text_at-2.ensures c.if-text_at-2.false in
+    left₁
+    ∙ word-missing _ _ word_of CohortSurvival _ c.text_at-2.ensures c.if-text_at-2.false in
     let left₃ : Left 3 (drop c.args.at c.args.bytes.now) =
-        left₂
-        ∙ word-missing _ _ word_of PeriodSurvival _ c.text_at-3.ensures c.if-text_at-3.false in
+    left₂
+    ∙ word-missing _ _ word_of PeriodSurvival _ c.text_at-3.ensures c.if-text_at-3.false in
     let left₄ : Left 4 (drop c.args.at c.args.bytes.now) =
-        left₃
-        ∙ word-missing _ _ word_of CohortExpectancy _ c.text_at-4.ensures c.if-text_at-4.false in
+    left₃
+    ∙ word-missing _ _ word_of CohortExpectancy _ c.text_at-4.ensures c.if-text_at-4.false in
     sym
     (left₄
     ∙ word-found _ _ word_of PeriodExpectancy _ c.text_at-5.ensures c.if-text_at-5.true)
@@ -106,17 +104,17 @@ unfolding on_offer word_of bytes_of
 returns-then-text_at-6 c =
     let left₁ : Left 1 (drop c.args.at c.args.bytes.now) = word-missing _ _ word_of Death _ c.text_at.ensures c.if-text_at.false in
     let left₂ : Left 2 (drop c.args.at c.args.bytes.now) =
-        left₁
-        ∙ word-missing _ _ word_of CohortSurvival _ c.text_at-2.ensures c.if-text_at-2.false in
+    left₁
+    ∙ word-missing _ _ word_of CohortSurvival _ c.text_at-2.ensures c.if-text_at-2.false in
     let left₃ : Left 3 (drop c.args.at c.args.bytes.now) =
-        left₂
-        ∙ word-missing _ _ word_of PeriodSurvival _ c.text_at-3.ensures c.if-text_at-3.false in
+    left₂
+    ∙ word-missing _ _ word_of PeriodSurvival _ c.text_at-3.ensures c.if-text_at-3.false in
     let left₄ : Left 4 (drop c.args.at c.args.bytes.now) =
-        left₃
-        ∙ word-missing _ _ word_of CohortExpectancy _ c.text_at-4.ensures c.if-text_at-4.false in
+    left₃
+    ∙ word-missing _ _ word_of CohortExpectancy _ c.text_at-4.ensures c.if-text_at-4.false in
     let left₅ : Left 5 (drop c.args.at c.args.bytes.now) =
-        left₄
-        ∙ word-missing _ _ word_of PeriodExpectancy _ c.text_at-5.ensures c.if-text_at-5.false in
+    left₄
+    ∙ word-missing _ _ word_of PeriodExpectancy _ c.text_at-5.ensures c.if-text_at-5.false in
     sym
     (left₅
     ∙ word-found _ _ word_of (CohortAnnuity (pos 0)) _ c.text_at-6.ensures c.if-text_at-6.true)
@@ -129,20 +127,20 @@ unfolding on_offer word_of bytes_of
 returns-then-text_at-7 c =
     let left₁ : Left 1 (drop c.args.at c.args.bytes.now) = word-missing _ _ word_of Death _ c.text_at.ensures c.if-text_at.false in
     let left₂ : Left 2 (drop c.args.at c.args.bytes.now) =
-        left₁
-        ∙ word-missing _ _ word_of CohortSurvival _ c.text_at-2.ensures c.if-text_at-2.false in
+    left₁
+    ∙ word-missing _ _ word_of CohortSurvival _ c.text_at-2.ensures c.if-text_at-2.false in
     let left₃ : Left 3 (drop c.args.at c.args.bytes.now) =
-        left₂
-        ∙ word-missing _ _ word_of PeriodSurvival _ c.text_at-3.ensures c.if-text_at-3.false in
+    left₂
+    ∙ word-missing _ _ word_of PeriodSurvival _ c.text_at-3.ensures c.if-text_at-3.false in
     let left₄ : Left 4 (drop c.args.at c.args.bytes.now) =
-        left₃
-        ∙ word-missing _ _ word_of CohortExpectancy _ c.text_at-4.ensures c.if-text_at-4.false in
+    left₃
+    ∙ word-missing _ _ word_of CohortExpectancy _ c.text_at-4.ensures c.if-text_at-4.false in
     let left₅ : Left 5 (drop c.args.at c.args.bytes.now) =
-        left₄
-        ∙ word-missing _ _ word_of PeriodExpectancy _ c.text_at-5.ensures c.if-text_at-5.false in
+    left₄
+    ∙ word-missing _ _ word_of PeriodExpectancy _ c.text_at-5.ensures c.if-text_at-5.false in
     let left₆ : Left 6 (drop c.args.at c.args.bytes.now) =
-        left₅
-        ∙ word-missing _ _ word_of (CohortAnnuity (pos 0)) _ c.text_at-6.ensures c.if-text_at-6.false in
+    left₅
+    ∙ word-missing _ _ word_of (CohortAnnuity (pos 0)) _ c.text_at-6.ensures c.if-text_at-6.false in
     sym
     (left₆
     ∙ word-found _ _ word_of (PeriodAnnuity (pos 0)) _ c.text_at-7.ensures c.if-text_at-7.true)
@@ -156,23 +154,23 @@ unfolding on_offer word_of bytes_of
 returns-then-text_at-8 c =
     let left₁ : Left 1 (drop c.args.at c.args.bytes.now) = word-missing _ _ word_of Death _ c.text_at.ensures c.if-text_at.false in
     let left₂ : Left 2 (drop c.args.at c.args.bytes.now) =
-        left₁
-        ∙ word-missing _ _ word_of CohortSurvival _ c.text_at-2.ensures c.if-text_at-2.false in
+    left₁
+    ∙ word-missing _ _ word_of CohortSurvival _ c.text_at-2.ensures c.if-text_at-2.false in
     let left₃ : Left 3 (drop c.args.at c.args.bytes.now) =
-        left₂
-        ∙ word-missing _ _ word_of PeriodSurvival _ c.text_at-3.ensures c.if-text_at-3.false in
+    left₂
+    ∙ word-missing _ _ word_of PeriodSurvival _ c.text_at-3.ensures c.if-text_at-3.false in
     let left₄ : Left 4 (drop c.args.at c.args.bytes.now) =
-        left₃
-        ∙ word-missing _ _ word_of CohortExpectancy _ c.text_at-4.ensures c.if-text_at-4.false in
+    left₃
+    ∙ word-missing _ _ word_of CohortExpectancy _ c.text_at-4.ensures c.if-text_at-4.false in
     let left₅ : Left 5 (drop c.args.at c.args.bytes.now) =
-        left₄
-        ∙ word-missing _ _ word_of PeriodExpectancy _ c.text_at-5.ensures c.if-text_at-5.false in
+    left₄
+    ∙ word-missing _ _ word_of PeriodExpectancy _ c.text_at-5.ensures c.if-text_at-5.false in
     let left₆ : Left 6 (drop c.args.at c.args.bytes.now) =
-        left₅
-        ∙ word-missing _ _ word_of (CohortAnnuity (pos 0)) _ c.text_at-6.ensures c.if-text_at-6.false in
+    left₅
+    ∙ word-missing _ _ word_of (CohortAnnuity (pos 0)) _ c.text_at-6.ensures c.if-text_at-6.false in
     let left₇ : Left 7 (drop c.args.at c.args.bytes.now) =
-        left₆
-        ∙ word-missing _ _ word_of (PeriodAnnuity (pos 0)) _ c.text_at-7.ensures c.if-text_at-7.false in
+    left₆
+    ∙ word-missing _ _ word_of (PeriodAnnuity (pos 0)) _ c.text_at-7.ensures c.if-text_at-7.false in
     sym (left₇ ∙ word-found _ _ word_of Day _ c.text_at-8.ensures c.if-text_at-8.true)
 
 pub returns : goal.returns
@@ -180,24 +178,24 @@ unfolding on_offer word_of bytes_of
 returns c =
     let left₁ : Left 1 (drop c.args.at c.args.bytes.now) = word-missing _ _ word_of Death _ c.text_at.ensures c.if-text_at.false in
     let left₂ : Left 2 (drop c.args.at c.args.bytes.now) =
-        left₁
-        ∙ word-missing _ _ word_of CohortSurvival _ c.text_at-2.ensures c.if-text_at-2.false in
+    left₁
+    ∙ word-missing _ _ word_of CohortSurvival _ c.text_at-2.ensures c.if-text_at-2.false in
     let left₃ : Left 3 (drop c.args.at c.args.bytes.now) =
-        left₂
-        ∙ word-missing _ _ word_of PeriodSurvival _ c.text_at-3.ensures c.if-text_at-3.false in
+    left₂
+    ∙ word-missing _ _ word_of PeriodSurvival _ c.text_at-3.ensures c.if-text_at-3.false in
     let left₄ : Left 4 (drop c.args.at c.args.bytes.now) =
-        left₃
-        ∙ word-missing _ _ word_of CohortExpectancy _ c.text_at-4.ensures c.if-text_at-4.false in
+    left₃
+    ∙ word-missing _ _ word_of CohortExpectancy _ c.text_at-4.ensures c.if-text_at-4.false in
     let left₅ : Left 5 (drop c.args.at c.args.bytes.now) =
-        left₄
-        ∙ word-missing _ _ word_of PeriodExpectancy _ c.text_at-5.ensures c.if-text_at-5.false in
+    left₄
+    ∙ word-missing _ _ word_of PeriodExpectancy _ c.text_at-5.ensures c.if-text_at-5.false in
     let left₆ : Left 6 (drop c.args.at c.args.bytes.now) =
-        left₅
-        ∙ word-missing _ _ word_of (CohortAnnuity (pos 0)) _ c.text_at-6.ensures c.if-text_at-6.false in
+    left₅
+    ∙ word-missing _ _ word_of (CohortAnnuity (pos 0)) _ c.text_at-6.ensures c.if-text_at-6.false in
     let left₇ : Left 7 (drop c.args.at c.args.bytes.now) =
-        left₆
-        ∙ word-missing _ _ word_of (PeriodAnnuity (pos 0)) _ c.text_at-7.ensures c.if-text_at-7.false in
+    left₆
+    ∙ word-missing _ _ word_of (PeriodAnnuity (pos 0)) _ c.text_at-7.ensures c.if-text_at-7.false in
     let left₈ : Left 8 (drop c.args.at c.args.bytes.now) =
-        left₇
-        ∙ word-missing _ _ word_of Day _ c.text_at-8.ensures c.if-text_at-8.false in
+    left₇
+    ∙ word-missing _ _ word_of Day _ c.text_at-8.ensures c.if-text_at-8.false in
     sym (none _ left₈)

@@ -17,10 +17,6 @@ use Rattle.run_query.proofs.QuerySteps.{from_rate, from_term, from_year, from_ag
 use Rattle.run_query.proofs.QuerySteps.{start-malformed, start-taken, line-ended, line-goes-on, kind-malformed, kind-taken}
 use Rattle.run_query.proofs.query_of.Goals as goal
 
--- ---- the places where a part is read, seen from the next
-
--- ---- what each part leaves to be read
-
 -- ---- the needs
 
 pub returns-then-not-text_at : goal.returns-then-not-text_at
@@ -40,8 +36,8 @@ returns-in_default-field_at c =
     let line : List ℕ = c.args.line.now in
     let after-start : let l = line in read_query l ≡ from_word (drop 5 l) = start-taken _ (text-found _ 0 (bytes_of "kind=") (has c.text_at.ensures (ap not c.if-not-text_at.false))) in
     let after-word : let l = line in read_query l ≡ from_age c.in-Of.word (drop c.in-Of.after_word l) =
-        after-start
-        ∙ goes _ (kind-taken _ c.kind_at.ensures c.in-Of.is) in
+    after-start
+    ∙ goes _ (kind-taken _ c.kind_at.ensures c.in-Of.is) in
     sym (after-word ∙ stops _ (read-malformed _ c.field_at.ensures c.in_default-field_at.is))
 
 pub returns-in_default-field_at-2 : goal.returns-in_default-field_at-2
@@ -50,11 +46,11 @@ returns-in_default-field_at-2 c =
     let line : List ℕ = c.args.line.now in
     let after-start : let l = line in read_query l ≡ from_word (drop 5 l) = start-taken _ (text-found _ 0 (bytes_of "kind=") (has c.text_at.ensures (ap not c.if-not-text_at.false))) in
     let after-word : let l = line in read_query l ≡ from_age c.in-Of.word (drop c.in-Of.after_word l) =
-        after-start
-        ∙ goes _ (kind-taken _ c.kind_at.ensures c.in-Of.is) in
+    after-start
+    ∙ goes _ (kind-taken _ c.kind_at.ensures c.in-Of.is) in
     let after-age : let l = line in read_query l ≡ from_year c.in-Of.word c.in-Number.age (drop c.in-Number.after_age l) =
-        after-word
-        ∙ goes _ (read_taken _ c.field_at.ensures c.in-Number.is) in
+    after-word
+    ∙ goes _ (read_taken _ c.field_at.ensures c.in-Number.is) in
     sym (after-age ∙ stops _ (read-malformed _ c.field_at-2.ensures c.in_default-field_at-2.is))
 
 pub returns-in_default-term_at : goal.returns-in_default-term_at
@@ -63,14 +59,14 @@ returns-in_default-term_at c =
     let line : List ℕ = c.args.line.now in
     let after-start : let l = line in read_query l ≡ from_word (drop 5 l) = start-taken _ (text-found _ 0 (bytes_of "kind=") (has c.text_at.ensures (ap not c.if-not-text_at.false))) in
     let after-word : let l = line in read_query l ≡ from_age c.in-Of.word (drop c.in-Of.after_word l) =
-        after-start
-        ∙ goes _ (kind-taken _ c.kind_at.ensures c.in-Of.is) in
+    after-start
+    ∙ goes _ (kind-taken _ c.kind_at.ensures c.in-Of.is) in
     let after-age : let l = line in read_query l ≡ from_year c.in-Of.word c.in-Number.age (drop c.in-Number.after_age l) =
-        after-word
-        ∙ goes _ (read_taken _ c.field_at.ensures c.in-Number.is) in
+    after-word
+    ∙ goes _ (read_taken _ c.field_at.ensures c.in-Number.is) in
     let after-year : let l = line in read_query l ≡ from_term c.in-Of.word c.in-Number.age c.in-Number-field_at.year (drop c.in-Number-field_at.after_year l) =
-        after-age
-        ∙ goes _ (read_taken _ c.field_at-2.ensures c.in-Number-field_at.is) in
+    after-age
+    ∙ goes _ (read_taken _ c.field_at-2.ensures c.in-Number-field_at.is) in
     sym (after-year ∙ stops _ (read-malformed _ c.term_at.ensures c.in_default-term_at.is))
 
 pub returns-in_default-rate_at : goal.returns-in_default-rate_at
@@ -79,17 +75,17 @@ returns-in_default-rate_at c =
     let line : List ℕ = c.args.line.now in
     let after-start : let l = line in read_query l ≡ from_word (drop 5 l) = start-taken _ (text-found _ 0 (bytes_of "kind=") (has c.text_at.ensures (ap not c.if-not-text_at.false))) in
     let after-word : let l = line in read_query l ≡ from_age c.in-Of.word (drop c.in-Of.after_word l) =
-        after-start
-        ∙ goes _ (kind-taken _ c.kind_at.ensures c.in-Of.is) in
+    after-start
+    ∙ goes _ (kind-taken _ c.kind_at.ensures c.in-Of.is) in
     let after-age : let l = line in read_query l ≡ from_year c.in-Of.word c.in-Number.age (drop c.in-Number.after_age l) =
-        after-word
-        ∙ goes _ (read_taken _ c.field_at.ensures c.in-Number.is) in
+    after-word
+    ∙ goes _ (read_taken _ c.field_at.ensures c.in-Number.is) in
     let after-year : let l = line in read_query l ≡ from_term c.in-Of.word c.in-Number.age c.in-Number-field_at.year (drop c.in-Number-field_at.after_year l) =
-        after-age
-        ∙ goes _ (read_taken _ c.field_at-2.ensures c.in-Number-field_at.is) in
+    after-age
+    ∙ goes _ (read_taken _ c.field_at-2.ensures c.in-Number-field_at.is) in
     let after-term : let l = line in read_query l ≡ from_rate c.in-Of.word c.in-Number.age c.in-Number-field_at.year c.in-Number-term_at.term (drop c.in-Number-term_at.after_term l) =
-        after-year
-        ∙ goes _ (read_taken _ c.term_at.ensures c.in-Number-term_at.is) in
+    after-year
+    ∙ goes _ (read_taken _ c.term_at.ensures c.in-Number-term_at.is) in
     sym (after-term ∙ stops _ (kind-malformed _ c.rate_at.ensures c.in_default-rate_at.is))
 
 pub returns-then-not-ends_at : goal.returns-then-not-ends_at
@@ -97,28 +93,28 @@ unfolding bytes_of
 returns-then-not-ends_at c =
     let line : List ℕ = c.args.line.now in
     let asked : Query =
-        record {
-          kind = c.in-Of-rate_at.kind;
-          age = c.in-Number.age;
-          year = c.in-Number-field_at.year;
-          term = c.in-Number-term_at.term;
-        } in
+    record {
+      kind = c.in-Of-rate_at.kind;
+      age = c.in-Number.age;
+      year = c.in-Number-field_at.year;
+      term = c.in-Number-term_at.term;
+    } in
     let after-start : let l = line in read_query l ≡ from_word (drop 5 l) = start-taken _ (text-found _ 0 (bytes_of "kind=") (has c.text_at.ensures (ap not c.if-not-text_at.false))) in
     let after-word : let l = line in read_query l ≡ from_age c.in-Of.word (drop c.in-Of.after_word l) =
-        after-start
-        ∙ goes _ (kind-taken _ c.kind_at.ensures c.in-Of.is) in
+    after-start
+    ∙ goes _ (kind-taken _ c.kind_at.ensures c.in-Of.is) in
     let after-age : let l = line in read_query l ≡ from_year c.in-Of.word c.in-Number.age (drop c.in-Number.after_age l) =
-        after-word
-        ∙ goes _ (read_taken _ c.field_at.ensures c.in-Number.is) in
+    after-word
+    ∙ goes _ (read_taken _ c.field_at.ensures c.in-Number.is) in
     let after-year : let l = line in read_query l ≡ from_term c.in-Of.word c.in-Number.age c.in-Number-field_at.year (drop c.in-Number-field_at.after_year l) =
-        after-age
-        ∙ goes _ (read_taken _ c.field_at-2.ensures c.in-Number-field_at.is) in
+    after-age
+    ∙ goes _ (read_taken _ c.field_at-2.ensures c.in-Number-field_at.is) in
     let after-term : let l = line in read_query l ≡ from_rate c.in-Of.word c.in-Number.age c.in-Number-field_at.year c.in-Number-term_at.term (drop c.in-Number-term_at.after_term l) =
-        after-year
-        ∙ goes _ (read_taken _ c.term_at.ensures c.in-Number-term_at.is) in
+    after-year
+    ∙ goes _ (read_taken _ c.term_at.ensures c.in-Number-term_at.is) in
     let after-rate : let l = line in read_query l ≡ ended asked (drop c.in-Of-rate_at.after_rate l) =
-        after-term
-        ∙ goes _ (kind-taken _ c.rate_at.ensures c.in-Of-rate_at.is) in
+    after-term
+    ∙ goes _ (kind-taken _ c.rate_at.ensures c.in-Of-rate_at.is) in
     sym (after-rate ∙ line-goes-on _ _ (lacks c.ends_at.ensures (ap not c.if-not-ends_at.true)))
 
 pub returns : goal.returns
@@ -126,28 +122,28 @@ unfolding bytes_of
 returns c =
     let line : List ℕ = c.args.line.now in
     let asked : Query =
-        record {
-          kind = c.in-Of-rate_at.kind;
-          age = c.in-Number.age;
-          year = c.in-Number-field_at.year;
-          term = c.in-Number-term_at.term;
-        } in
+    record {
+      kind = c.in-Of-rate_at.kind;
+      age = c.in-Number.age;
+      year = c.in-Number-field_at.year;
+      term = c.in-Number-term_at.term;
+    } in
     let after-start : let l = line in read_query l ≡ from_word (drop 5 l) = start-taken _ (text-found _ 0 (bytes_of "kind=") (has c.text_at.ensures (ap not c.if-not-text_at.false))) in
     let after-word : let l = line in read_query l ≡ from_age c.in-Of.word (drop c.in-Of.after_word l) =
-        after-start
-        ∙ goes _ (kind-taken _ c.kind_at.ensures c.in-Of.is) in
+    after-start
+    ∙ goes _ (kind-taken _ c.kind_at.ensures c.in-Of.is) in
     let after-age : let l = line in read_query l ≡ from_year c.in-Of.word c.in-Number.age (drop c.in-Number.after_age l) =
-        after-word
-        ∙ goes _ (read_taken _ c.field_at.ensures c.in-Number.is) in
+    after-word
+    ∙ goes _ (read_taken _ c.field_at.ensures c.in-Number.is) in
     let after-year : let l = line in read_query l ≡ from_term c.in-Of.word c.in-Number.age c.in-Number-field_at.year (drop c.in-Number-field_at.after_year l) =
-        after-age
-        ∙ goes _ (read_taken _ c.field_at-2.ensures c.in-Number-field_at.is) in
+    after-age
+    ∙ goes _ (read_taken _ c.field_at-2.ensures c.in-Number-field_at.is) in
     let after-term : let l = line in read_query l ≡ from_rate c.in-Of.word c.in-Number.age c.in-Number-field_at.year c.in-Number-term_at.term (drop c.in-Number-term_at.after_term l) =
-        after-year
-        ∙ goes _ (read_taken _ c.term_at.ensures c.in-Number-term_at.is) in
+    after-year
+    ∙ goes _ (read_taken _ c.term_at.ensures c.in-Number-term_at.is) in
     let after-rate : let l = line in read_query l ≡ ended asked (drop c.in-Of-rate_at.after_rate l) =
-        after-term
-        ∙ goes _ (kind-taken _ c.rate_at.ensures c.in-Of-rate_at.is) in
+    after-term
+    ∙ goes _ (kind-taken _ c.rate_at.ensures c.in-Of-rate_at.is) in
     rw (
       held c.in-Number.age c.in-Number.known_told-in-Number-1-own.given.0.1,
       held c.in-Number-field_at.year c.in-Number-field_at.known_told-in-Number-field_at-2-1-own.given.0.1,

@@ -15,10 +15,6 @@ use Rattle.run_sheets.specs.Front.{in_turn, by_number}
 use Rattle.run_sheets.specs.laws.FrontLaws.{rest_from, two-first, two-second}
 use Rattle.run_sheets.proofs.read_second.Goals as goal
 
--- ---- the second sheet
-
--- ---- whose answer is given
-
 -- ---- the needs
 
 pub returns-then-not-second_given : goal.returns-then-not-second_given
@@ -27,12 +23,12 @@ returns-then-not-second_given c =
     let rest : List ℕ = drop c.args.end input in
     let other : c.read_first-other.result.sheet ≡ sheet_of rest = c.read_first-other.ensures.0 ∙ ap sheet_of (rest_from input _) in
     let given : let s = c.args in let a = refusal_number s.one.refusal in let b = refusal_number c.read_first-other.result.sheet.refusal in c.second_given.result ≡ cond s.numbered (by_number a b) (in_turn a b) =
-        let s = c.args in
-        let a = refusal_number s.one.refusal in
-        let n = c.refusal_number.result in
-        c.second_given.ensures
-        ∙ ap (λ (m : ℕ). cond s.numbered (by_number m n) (in_turn m n)) c.refusal_number-number.ensures
-        ∙ ap (λ (m : ℕ). cond s.numbered (by_number a m) (in_turn a m)) c.refusal_number.ensures in
+    let s = c.args in
+    let a = refusal_number s.one.refusal in
+    let n = c.refusal_number.result in
+    c.second_given.ensures
+    ∙ ap (λ (m : ℕ). cond s.numbered (by_number m n) (in_turn m n)) c.refusal_number-number.ensures
+    ∙ ap (λ (m : ℕ). cond s.numbered (by_number a m) (in_turn a m)) c.refusal_number.ensures in
     c.stop.ensures
     ∙ two-first input c.requires.0 c.requires.1 c.args.numbered other given
     (not-true c.second_given.result (ap not c.if-not-second_given.true))
@@ -52,12 +48,12 @@ returns c =
     let other : c.read_first-other.result.sheet ≡ sheet_of rest = c.read_first-other.ensures.0 ∙ ap sheet_of (rest_from input _) in
     let len : c.read_first-other.result.next ≡ sheet_end rest = c.read_first-other.ensures.1 ∙ ap sheet_end (rest_from input _) in
     let given : let s = c.args in let a = refusal_number s.one.refusal in let b = refusal_number c.read_first-other.result.sheet.refusal in c.second_given.result ≡ cond s.numbered (by_number a b) (in_turn a b) =
-        let s = c.args in
-        let a = refusal_number s.one.refusal in
-        let n = c.refusal_number.result in
-        c.second_given.ensures
-        ∙ ap (λ (m : ℕ). cond s.numbered (by_number m n) (in_turn m n)) c.refusal_number-number.ensures
-        ∙ ap (λ (m : ℕ). cond s.numbered (by_number a m) (in_turn a m)) c.refusal_number.ensures in
+    let s = c.args in
+    let a = refusal_number s.one.refusal in
+    let n = c.refusal_number.result in
+    c.second_given.ensures
+    ∙ ap (λ (m : ℕ). cond s.numbered (by_number m n) (in_turn m n)) c.refusal_number-number.ensures
+    ∙ ap (λ (m : ℕ). cond s.numbered (by_number a m) (in_turn a m)) c.refusal_number.ensures in
     two-second input c.requires.0 c.requires.1 c.args.numbered other given
     (not-false c.second_given.result (ap not c.if-not-second_given.false)) len
 

@@ -7,10 +7,6 @@ use Rattle.sheet_length.specs.laws.PartsLaws.{series-length}
 use Rattle.sheet_length.specs.laws.Held.{SeriesHeld, series-held}
 use Rattle.sheet_length.proofs.series_len.Goals as goal
 
--- ---- the start, seen from each line
-
--- ---- the four values, and how long their lines are
-
 -- ---- the needs
 
 pub line_len-requires : goal.line_len-requires

@@ -19,10 +19,6 @@ use Rattle.sheet_length.specs.laws.PartsLaws.{front_length, ages-none, ages-step
 use Rattle.sheet_length.specs.laws.Held.{SeriesHeld, series-held}
 use Rattle.sheet_length.proofs.sheet_len.Goals as goal
 
--- ---- places in the code
-
--- ---- the loop's turn that reads an age, and the set
-
 -- ---- the needs
 
 pub overflow_add-len : goal.overflow_add-len
@@ -42,9 +38,9 @@ pub overflow_add-len-3 : goal.overflow_add-len-3
 overflow_add-len-3 c =
     let values : SeriesHeld c.args.p = series-held c.args.p c.requires in
     let start : let p = c.args.p in c.start_len.result ≡ length (start_text p.table p.start p.c) =
-        let p = c.args.p in
-        c.start_len.ensures
-        ∙ ap₂ (λ (z w : ℤ). length (start_text p.table z w)) values.start.is values.c.is in
+    let p = c.args.p in
+    c.start_len.ensures
+    ∙ ap₂ (λ (z w : ℤ). length (start_text p.table z w)) values.start.is values.c.is in
     let p = c.args.p in
     omega (arith, c.table_len.ensures, c.series_len.ensures, start, sheet-length p, sheet-sum p)
 
@@ -52,9 +48,9 @@ pub loop-x-init : goal.loop-x-init
 loop-x-init c =
     let values : SeriesHeld c.args.p = series-held c.args.p c.requires in
     let start : let p = c.args.p in c.start_len.result ≡ length (start_text p.table p.start p.c) =
-        let p = c.args.p in
-        c.start_len.ensures
-        ∙ ap₂ (λ (z w : ℤ). length (start_text p.table z w)) values.start.is values.c.is in
+    let p = c.args.p in
+    c.start_len.ensures
+    ∙ ap₂ (λ (z w : ℤ). length (start_text p.table z w)) values.start.is values.c.is in
     omega (arith, c.table_len.ensures, c.series_len.ensures, start, ap length (ages-none c.args.p))
 
 pub age_len-len-requires : goal.age_len-len-requires
@@ -69,8 +65,8 @@ overflow_add-len-in-loop-x c =
     let set : Params = c.args.p in
     let read : c.age_of_runs-age.result ≡ age_of set c.loop-x.x = c.age_of_runs-age.ensures ∙ four-age _ _ in
     let told : c.age_len-len.result ≡ length (age_text (age_of set c.loop-x.x) c.loop-x.x) =
-        let x = c.loop-x.x in
-        c.age_len-len.ensures ∙ ap (λ (a : Age). length (age_text a x)) read in
+    let x = c.loop-x.x in
+    c.age_len-len.ensures ∙ ap (λ (a : Age). length (age_text a x)) read in
     let n = ages-grow set (suc c.loop-x.x) ages (omega arith) in
     omega (arith, told, ages-step set c.loop-x.x, sheet-length set, sheet-sum set)
 
@@ -79,8 +75,8 @@ loop-x-preserved c =
     let set : Params = c.args.p in
     let read : c.age_of_runs-age.result ≡ age_of set c.loop-x.x = c.age_of_runs-age.ensures ∙ four-age _ _ in
     let told : c.age_len-len.result ≡ length (age_text (age_of set c.loop-x.x) c.loop-x.x) =
-        let x = c.loop-x.x in
-        c.age_len-len.ensures ∙ ap (λ (a : Age). length (age_text a x)) read in
+    let x = c.loop-x.x in
+    c.age_len-len.ensures ∙ ap (λ (a : Age). length (age_text a x)) read in
     let x = c.loop-x.x in
     (search rules, rw (add-one x) (omega (arith, told, ages-step set x, c.loop-x.invariant.1)))
 

@@ -12,10 +12,6 @@ use Rattle.sheet_length.specs.laws.Held.{AgeHeld, age-held}
 use Rattle.sheet_line_writer.proofs.Line.{line-room, line-put}
 use Rattle.sheet_line_writer.proofs.put_age.Goals as goal
 
--- ---- the start and the line before, seen from each line
-
--- ---- the four values, the room for their lines, and what each call writes
-
 -- ---- the needs
 
 pub put_age_line-second-requires : goal.put_age_line-second-requires

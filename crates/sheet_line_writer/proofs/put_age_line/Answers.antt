@@ -15,10 +15,6 @@ use Rattle.sheet_line_writer.specs.code.Value.{value_text}
 use Rattle.sheet_line_writer.proofs.Small.{small-as}
 use Rattle.sheet_line_writer.proofs.put_age_line.Goals as goal
 
--- ---- the place before, seen from each text
-
--- ---- the line's three texts have room, and two of them are written
-
 -- ---- the needs
 
 pub put_text-age-requires : goal.put_text-age-requires

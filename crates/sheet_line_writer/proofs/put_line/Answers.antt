@@ -12,8 +12,6 @@ use Rattle.sheet_line_writer.specs.code.Value.{value_text}
 use Rattle.sheet_line_writer.proofs.Small.{small-as}
 use Rattle.sheet_line_writer.proofs.put_line.Goals as goal
 
--- ---- the two texts have room, and they are written
-
 -- ---- the needs
 
 pub put_text-value-requires : goal.put_text-value-requires

@@ -10,10 +10,6 @@ use Rattle.sheet_length.specs.laws.Held.{SeriesHeld, series-held}
 use Rattle.sheet_line_writer.proofs.Line.{line-room, line-put}
 use Rattle.sheet_line_writer.proofs.put_series.Goals as goal
 
--- ---- the start and the line before, seen from each line
-
--- ---- the four values, the room for their lines, and what each call writes
-
 -- ---- the needs
 
 pub put_line-theta-requires : goal.put_line-theta-requires

@@ -17,8 +17,6 @@ use Rattle.sheet_line_writer.proofs.put_start.Goals as goal
 pub returns-in-Ag2014 : goal.returns-in-Ag2014
 returns-in-Ag2014 c = put_as (sym (no_start _ _ c.in-Ag2014.is)) (put-none _ _)
 
--- ---- of LILEE: the two values, the room for their lines, and what each call writes
-
 -- ---- the needs
 
 pub put_line-constant-requires : goal.put_line-constant-requires
@@ -48,8 +46,8 @@ shape_of-buffer c =
     let start-put : let s = c.args in Put s.buffer.now s.at (line_text (bytes_of "start") s.start) c.put_line-constant.new.buffer c.put_line-constant.result = line-put (bytes_of "start") start-held c.put_line-constant.ensures in
     let c-put : let b = c.put_line-constant in Put b.new.buffer b.result (line_text (bytes_of "c") c.args.c) c.put_line.new.buffer c.put_line.result = line-put (bytes_of "c") c-held c.put_line.ensures in
     let whole : let s = c.args in Put s.buffer.now s.at (start_text s.table s.start s.c) c.put_line.new.buffer c.put_line.result =
-        put_as (sym (start-lines _ _ c.in-LiLee.is))
-        (put-join start-put (put_as (sym (append-nil _)) c-put) room) in
+    put_as (sym (start-lines _ _ c.in-LiLee.is))
+    (put-join start-put (put_as (sym (append-nil _)) c-put) room) in
     put-length whole c.requires.2
 
 pub returns-in-LiLee : goal.returns-in-LiLee
@@ -61,6 +59,6 @@ returns-in-LiLee c =
     let start-put : let s = c.args in Put s.buffer.now s.at (line_text (bytes_of "start") s.start) c.put_line-constant.new.buffer c.put_line-constant.result = line-put (bytes_of "start") start-held c.put_line-constant.ensures in
     let c-put : let b = c.put_line-constant in Put b.new.buffer b.result (line_text (bytes_of "c") c.args.c) c.put_line.new.buffer c.put_line.result = line-put (bytes_of "c") c-held c.put_line.ensures in
     let whole : let s = c.args in Put s.buffer.now s.at (start_text s.table s.start s.c) c.put_line.new.buffer c.put_line.result =
-        put_as (sym (start-lines _ _ c.in-LiLee.is))
-        (put-join start-put (put_as (sym (append-nil _)) c-put) room) in
+    put_as (sym (start-lines _ _ c.in-LiLee.is))
+    (put-join start-put (put_as (sym (append-nil _)) c-put) room) in
     whole

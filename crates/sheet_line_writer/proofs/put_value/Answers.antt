@@ -12,10 +12,6 @@ use Rattle.sheet_line_writer.specs.code.Value.{value_text}
 use Rattle.sheet_line_writer.proofs.Small.{small-as}
 use Rattle.sheet_line_writer.proofs.put_value.Goals as goal
 
--- ---- the place before, seen from each text
-
--- ---- the three texts have room, and they are written
-
 -- ---- the needs
 
 pub put_text-number-requires : goal.put_text-number-requires

@@ -12,8 +12,6 @@ use Rattle.sheet_set.specs.laws.SetLaws.{none_read}
 use Rattle.sheet_reader.specs.laws.SheetLaws.{sex-m, sex-f, sex-none}
 use Rattle.sheet_reader.proofs.from_sex.Goals as goal
 
--- ---- which sex's line was found
-
 -- ---- the needs
 
 pub overflow_add-at : goal.overflow_add-at

@@ -16,27 +16,27 @@ pub returns-then-not-got : goal.returns-then-not-got
 unfolding sheet_end front_lines
 returns-then-not-got c =
     let reads : c.reading_of-sheet.result ≡ sheet_of c.args.bytes.now =
-        let f = c.front-got in
-        c.reading_of-sheet.ensures ∙ first-reading _ f.result f.ensures in
+    let f = c.front-got in
+    c.reading_of-sheet.ensures ∙ first-reading _ f.result f.ensures in
     let bytes = c.args.bytes.now in
     (reads, c.lines_end-end.ensures ∙ ap (λ (k : ℕ). length (first_lines k bytes)) c.line_count.ensures)
 
 pub returns-then-got-bytes : goal.returns-then-got-bytes
 returns-then-got-bytes c =
     let reads : c.reading_of-sheet.result ≡ sheet_of c.args.bytes.now =
-        let f = c.front-got in
-        c.reading_of-sheet.ensures ∙ first-reading _ f.result f.ensures in
+    let f = c.front-got in
+    c.reading_of-sheet.ensures ∙ first-reading _ f.result f.ensures in
     let place : let bytes = c.args.bytes.now in sheet_end bytes + (length bytes - c.front-got.result.next) ≡ length bytes =
-        let f = c.front-got in
-        first-place _ f.result f.ensures (not-false _ c.if-not-got.false) in
+    let f = c.front-got in
+    first-place _ f.result f.ensures (not-false _ c.if-not-got.false) in
     (reads, omega (arith, place))
 
 pub returns : goal.returns
 returns c =
     let reads : c.reading_of-sheet.result ≡ sheet_of c.args.bytes.now =
-        let f = c.front-got in
-        c.reading_of-sheet.ensures ∙ first-reading _ f.result f.ensures in
+    let f = c.front-got in
+    c.reading_of-sheet.ensures ∙ first-reading _ f.result f.ensures in
     let place : let bytes = c.args.bytes.now in sheet_end bytes + (length bytes - c.front-got.result.next) ≡ length bytes =
-        let f = c.front-got in
-        first-place _ f.result f.ensures (not-false _ c.if-not-got.false) in
+    let f = c.front-got in
+    first-place _ f.result f.ensures (not-false _ c.if-not-got.false) in
     (reads, omega (arith, place))

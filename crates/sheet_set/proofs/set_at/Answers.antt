@@ -22,13 +22,12 @@ joined-requires c = holds-joins c.before.three.ensures c.three-2.ensures (omega 
 
 pub four_at-requires : goal.four_at-requires
 unfolding bytes_of
-four_at-requires c =
-    (
-      holds-sized c.two.ensures (omega arith),
-      holds-sized (joined-holds c.three.ensures c.three-2.ensures c.joined.ensures) (omega arith),
-      holds-sized c.two-2.ensures (omega arith),
-      holds-sized c.two-3.ensures (omega arith),
-    )
+four_at-requires c = (
+  holds-sized c.two.ensures (omega arith),
+  holds-sized (joined-holds c.three.ensures c.three-2.ensures c.joined.ensures) (omega arith),
+  holds-sized c.two-2.ensures (omega arith),
+  holds-sized c.two-3.ensures (omega arith),
+)
 
 -- ---- what was read: the lines of the series were read or malformed as their keys say
 

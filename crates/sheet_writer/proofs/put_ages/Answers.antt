@@ -29,7 +29,7 @@ put_age-place-requires c =
     let text : let x = c.loop-age.age in age_text c.age_of_runs-four.result x ≡ age_text (age_of c.args.p x) x = ap (λ (a : Age). age_text a c.loop-age.age) read in
     let room : (x : ℕ) → x < ages → let p = c.args.p in Room c.args.buffer.now c.args.at (ages_text p x ++ age_text (age_of p x) x) =
     λ x h. let p = c.args.p in
-        room_as (ages-more p x) (record { fits = omega (arith, c.requires.1.fits, ages-grow p (suc x) ages (omega arith)) }) in
+    room_as (ages-more p x) (record { fits = omega (arith, c.requires.1.fits, ages-grow p (suc x) ages (omega arith)) }) in
     let x = c.loop-age.age in
     let h : x < ages = within in
     let w = subst AgeWithin (sym read) (in-limits-age c.args.p c.requires.0 x h) in
@@ -42,7 +42,7 @@ loop-age-preserved c =
     let text : let x = c.loop-age.age in age_text c.age_of_runs-four.result x ≡ age_text (age_of c.args.p x) x = ap (λ (a : Age). age_text a c.loop-age.age) read in
     let room : (x : ℕ) → x < ages → let p = c.args.p in Room c.args.buffer.now c.args.at (ages_text p x ++ age_text (age_of p x) x) =
     λ x h. let p = c.args.p in
-        room_as (ages-more p x) (record { fits = omega (arith, c.requires.1.fits, ages-grow p (suc x) ages (omega arith)) }) in
+    room_as (ages-more p x) (record { fits = omega (arith, c.requires.1.fits, ages-grow p (suc x) ages (omega arith)) }) in
     let x = c.loop-age.age in
     let h : x < ages = within in
     let more = put-join c.loop-age.invariant.1 (put_as text c.put_age-place.ensures) (room x h) in

@@ -14,10 +14,6 @@ use Rattle.sheet_length.specs.laws.Held.{SeriesHeld, series-held}
 use Rattle.sheet_length.specs.laws.PartsLaws.{lines_of, sheet-parts}
 use Rattle.sheet_writer.proofs.put_sheet.Goals as goal
 
--- ---- the place before, seen from each part
-
--- ---- what is left to write has room after each part
-
 -- ---- the needs
 
 pub put_table-second-requires : goal.put_table-second-requires

@@ -30,11 +30,10 @@ returns-then-buffer-sheet_len c =
 
 pub put_sheet-end-requires : goal.put_sheet-end-requires
 put_sheet-end-requires c =
-    let in-limits : in_limits c.args.p ≡ true = let t = c.in_limits in sym t.ensures ∙ not-false t.result (ap not c.if-not-in_limits.false) in
-    (
-  rw in-limits tt,
-  record { fits = omega (arith, c.sheet_len.ensures, c.if-buffer-sheet_len.false) },
-)
+    let in-limits : in_limits c.args.p ≡ true = let t = c.in_limits in sym t.ensures ∙ not-false t.result (ap not c.if-not-in_limits.false) in (
+      rw in-limits tt,
+      record { fits = omega (arith, c.sheet_len.ensures, c.if-buffer-sheet_len.false) },
+    )
 
 pub returns : goal.returns
 returns c =

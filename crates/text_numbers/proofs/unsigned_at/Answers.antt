@@ -32,7 +32,7 @@ returns c =
     let read = c.digits_at-run.ensures in
     sym
     (elim c.else-run-gt1.branch [
-      else-run-gt1-via-then-run-gt1+else-bytes-at-eq48 w ↦
-        taken_more read (omega arith) (omega arith) w.if-bytes-at-eq48.false
+      | else-run-gt1-via-then-run-gt1+else-bytes-at-eq48 w ↦
+          taken_more read (omega arith) (omega arith) w.if-bytes-at-eq48.false
       | else-run-gt1-via-else-run-gt1 w ↦ taken-one read (omega arith)
     ])
