@@ -1,6 +1,7 @@
 // A query of two sheets: the bytes of each life's sheet, a kind's word, two ages, a year and a span, to an answer, and the answer as
 // five numbers in places that the caller lends.
 #![tactic(auto)]
+
 ghost use Rattle.std.specs.Prelude.{◌≡◌, length};
 ghost use Rattle.sheet.specs.Sheet.{read_sheet};
 ghost use Rattle.run_couple_query.specs.code.Code.{couple_kind_read};

@@ -1,5 +1,6 @@
 // A parameter set as a list of numbers: a sheet read into such a list, and such a list written as a sheet.
 #![tactic(auto)]
+
 ghost use Rattle.std.specs.Prelude.{◌≡◌, ◌+◌, ◌≤◌, ◌<◌, [], ◌∷◌, length, drop};
 ghost use Rattle.set_refusal.specs.Refusals.{refusal_number};
 ghost use Rattle.sheet.specs.Sheet.{run_from};

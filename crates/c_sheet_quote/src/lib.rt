@@ -1,6 +1,7 @@
 // A query of a sheet: the sheet's bytes, a kind's word, an age, a year and a span, for an annuity a rate, and for a survival to a
 // day a date in place of the word and the span, to an answer, and the answer as five numbers in places that the caller lends.
 #![tactic(auto)]
+
 ghost use Rattle.std.specs.Prelude.{◌≡◌, [], ◌≤◌, length};
 ghost use Rattle.text_tokens.specs.Text.{taken};
 ghost use Rattle.quote_kinds.specs.declared.Kind.TheVariants.{Day};

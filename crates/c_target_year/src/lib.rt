@@ -1,6 +1,7 @@
 // The year a target is reached, by the bytes of a sheet: any bytes, age and target are answered, with two numbers in places that the
 // caller lends, or with one numbered refusal.
 #![tactic(auto)]
+
 ghost use Rattle.std.specs.Prelude.{◌≡◌};
 ghost use Rattle.c_target_year.specs.SheetTarget.{sheet_target, target_no, found_after, year_after};
 

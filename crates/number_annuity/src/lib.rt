@@ -1,5 +1,6 @@
 // The price of an annuity on a grid, as a fold over the factors of a path: one pass over an array of factors.
 #![tactic(auto)]
+
 ghost use Rattle.std.specs.Prelude.{◌≡◌, ◌≤◌, take};
 ghost use Rattle.number_exponential.specs.Units.{ten_trillionths};
 ghost use Rattle.number_exponential.specs.code.Flag.{grid_by};

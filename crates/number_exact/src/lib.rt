@@ -1,6 +1,7 @@
 // A figure from two ends in units: each end is rounded half up to whole steps, and the figure is printed when both give
 // one step.
 #![tactic(auto)]
+
 ghost use Rattle.std.specs.Prelude.{◌≡◌, ◌≤◌, ◌<◌, ◌^◌};
 ghost use Rattle.number_exact.specs.Figure.{half_up, figure_of, is_open};
 

@@ -1,5 +1,6 @@
 // The constants of the exponential on the two grids: e to minus so many half steps.
 #![tactic(auto)]
+
 ghost use Rattle.std.specs.Prelude.{◌≡◌};
 ghost use Rattle.number_exponential.specs.Units.{billionths, ten_trillionths};
 ghost use Rattle.number_exponential.specs.Exponential.{constant_lower};

@@ -3,6 +3,7 @@
 // 0 and 0 on nothing is left to add. What stands below `exp_lower` and `exp_upper` takes a unit that is a constant in each call,
 // so that the compiler makes a loop for each grid.
 #![tactic(auto)]
+
 ghost use Rattle.std.specs.Prelude.{◌≡◌, suc, ◌+◌, ◌-◌, ◌*◌, ◌/◌, ◌≤◌, ◌<◌, min};
 ghost use Rattle.number_exponential.specs.code.Flag.{grid_by};
 ghost use Rattle.number_exponential.specs.Exponential.{step, cutoff_units, exp_lower, exp_upper, exp_between, next_lower, next_upper, sum_lower, sum_upper};

@@ -1,6 +1,7 @@
 // The grids of 10^-9 and of 10^-13 and the exponential of −z on a grid: definitions and laws. The code is in `number_exp_ends`.
 
 #![tactic(auto)]
+
 ghost use Rattle.std.specs.Prelude.{◌≡◌};
 ghost use Rattle.number_exponential.specs.code.Flag.{unit_by, grid_by};
 

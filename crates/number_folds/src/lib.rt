@@ -1,5 +1,6 @@
 // Survival and expectancy on a grid, as folds over the factors of a path: one pass over an array of factors.
 #![tactic(auto)]
+
 ghost use Rattle.std.specs.Prelude.{◌≡◌, take};
 ghost use Rattle.number_exponential.specs.code.Flag.{grid_by};
 ghost use Rattle.number_folds.specs.Folds.{with_factor, survival_over, expectancy_over};

@@ -1,6 +1,7 @@
 // Products over the unit of a grid, and quotients of a product with it, in numbers of 64 bits. On the grid of 10^-13 a product
 // of two ends does not fit, and is taken by parts.
 #![tactic(auto)]
+
 ghost use Rattle.std.specs.Prelude.{◌≡◌, ◌+◌, ◌*◌, ◌/◌, ◌≤◌, ◌<◌};
 ghost use Rattle.number_exponential.specs.Units.{ten_trillionths};
 ghost use Rattle.number_exponential.specs.code.Flag.{grid_by};

@@ -1,5 +1,6 @@
 // The whole run of a program: an input to its output, written into a buffer that the caller lends.
 #![tactic(auto)]
+
 ghost use Rattle.std.specs.Prelude.{◌≡◌, ◌+◌, ◌*◌, ◌≤◌, ◌<◌, T, leb, length};
 ghost use Rattle.set_limits.specs.InLimits.{in_limits};
 ghost use Rattle.text_printing.specs.code.Put.{Put};

@@ -1,5 +1,6 @@
 // What is printed of a query: its line, and what follows it, written into a buffer that the caller lends.
 #![tactic(auto)]
+
 ghost use Rattle.std.specs.Prelude.{◌≡◌, ◌++◌, ◌^◌, ◌<◌, nat_abs, length};
 ghost use Rattle.text_tokens.specs.Number.{most_digits, unsigned_text, number_text};
 ghost use Rattle.text_printing.specs.code.Put.{Room, Put};

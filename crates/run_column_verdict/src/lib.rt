@@ -1,6 +1,7 @@
 // The verdict on a column that somebody published, from its bytes: any year and any bytes are answered, with a verdict or one
 // numbered refusal. By a set, and by the bytes of a sheet, whose answer goes as a number into a place that the caller lends.
 #![tactic(auto)]
+
 ghost use Rattle.std.specs.Prelude.{◌≡◌};
 ghost use Rattle.run_column_verdict.specs.ColumnVerdict.{column_verdict, HonestOn};
 ghost use Rattle.run_column_verdict.specs.ColumnVerdict.{sheet_verdict, verdict_number, verdict_no, verdict_after};

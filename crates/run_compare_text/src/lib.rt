@@ -1,5 +1,6 @@
 // What is printed after a query that two sheets answer, written into a buffer that the caller lends.
 #![tactic(auto)]
+
 ghost use Rattle.std.specs.Prelude.{◌++◌};
 ghost use Rattle.text_printing.specs.code.Put.{Room, Put};
 ghost use Rattle.run_compare_text.specs.CompareText.{excess_text, values_text, pair_text, comparison_text};

@@ -1,5 +1,6 @@
 // The answer to a line of bytes by a program's mode, written into a buffer that the caller lends.
 #![tactic(auto)]
+
 ghost use Rattle.std.specs.Prelude.{◌≡◌, ◌+◌, ◌≤◌, T, length};
 ghost use Rattle.text_printing.specs.code.Put.{Room, Put};
 ghost use Rattle.set_limits.specs.InLimits.{in_limits};

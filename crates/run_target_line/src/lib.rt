@@ -1,6 +1,7 @@
 // A target's line, `age=… target=…` and a line feed, read from its bytes, and the answer to it, written into a buffer that the
 // caller lends.
 #![tactic(auto)]
+
 ghost use Rattle.std.specs.Prelude.{◌≡◌, ◌+◌, ◌^◌, ◌≤◌, ◌<◌, T, nat_abs, length};
 ghost use Rattle.text_tokens.specs.Number.{most_digits};
 ghost use Rattle.text_printing.specs.code.Put.{Room, Put};

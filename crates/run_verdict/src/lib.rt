@@ -1,6 +1,7 @@
 // The whole run of a verdict: a sheet, a year's line and a column to the one line of the answer, written into a buffer that the
 // caller lends.
 #![tactic(auto)]
+
 ghost use Rattle.std.specs.Prelude.{◌≡◌, ◌≤◌, length, drop};
 ghost use Rattle.text_tokens.specs.code.Places.{number_read};
 ghost use Rattle.text_printing.specs.code.Put.{Put};

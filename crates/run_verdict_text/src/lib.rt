@@ -1,5 +1,6 @@
 // What is printed of a verdict: the year, and the verdict's word or a refusal, written into a buffer that the caller lends.
 #![tactic(auto)]
+
 ghost use Rattle.std.specs.Prelude.{◌^◌, ◌<◌, nat_abs};
 ghost use Rattle.text_tokens.specs.Number.{most_digits};
 ghost use Rattle.text_printing.specs.code.Put.{Room, Put};

@@ -1,6 +1,7 @@
 // Whether a parameter set is in its limits: its start and c by its table, the sizes of the series, of each age and of kappa in
 // every year, and the whole.
 #![tactic(auto)]
+
 ghost use Rattle.std.specs.Prelude.{◌≡◌, pos, nat_abs, ◌≤ℤ◌};
 ghost use Rattle.set_params.specs.Limits.{within};
 ghost use Rattle.set_params.specs.code.Within.{DynamicsWithin};

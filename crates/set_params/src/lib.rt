@@ -1,5 +1,6 @@
 // The parameter set of a sheet, and the years of the table.
 #![tactic(auto)]
+
 ghost use Rattle.std.specs.Prelude.{◌≡◌, ◌<◌, pos, ◌≤ℤ◌};
 ghost use Rattle.set_params.specs.Set.{ages, year_number, blank};
 ghost use Rattle.set_params.specs.code.Runs.{four_at};

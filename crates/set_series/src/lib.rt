@@ -1,5 +1,6 @@
 // The time series of a set: K and kappa in each year, counted from the start, kappa on a grid with two signed ends.
 #![tactic(auto)]
+
 ghost use Rattle.std.specs.Prelude.{◌≡◌, ◌*◌, ◌≤◌};
 ghost use Rattle.number_whole.specs.code.Sizes.{Under, Within};
 ghost use Rattle.number_exponential.specs.Units.{ten_trillionths};

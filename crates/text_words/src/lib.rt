@@ -1,5 +1,6 @@
 // Words of eight bytes: read at a place of a slice, compared and taken apart; and texts of at most eight bytes held as words.
 #![tactic(auto)]
+
 ghost use Rattle.std.specs.Prelude.{◌≡◌, [], ◌∷◌, ◌++◌, ◌+◌, ◌<◌, ◌≤◌, length, take, drop};
 ghost use Rattle.text_words.specs.code.Word.{word_bytes, bytes_in};
 ghost use Rattle.text_words.specs.code.ShortText.{Holds, Joins, Tells, text_of};

@@ -28,10 +28,10 @@ loop-x-init c =
     let told = c.struct_told-6-1.given in
     let series = told.1.1.1.1.1 in
     let head : Front (first_ages c.args.p 0) 8 c.args.values.now c.put_four-2.new.values =
-        head-put c.args.p c.put_four.ensures c.put_four-2.ensures
-        (to_z-of_z {w = w64} (search rules) ∙ c.table_number.ensures) (to_z-of_z {w = w64} (search rules) ∙ c.sex_number.ensures)
-        (to_z-of_z {w = w64} (search rules)) (to_z-of_z {w = w64} (search rules)) (to_z-of_z {w = w64} (search rules)) (to_z-of_z {w = w64} (search rules))
-        (to_z-of_z {w = w64} (search rules)) (to_z-of_z {w = w64} (search rules)) in
+    head-put c.args.p c.put_four.ensures c.put_four-2.ensures
+    (to_z-of_z {w = w64} (search rules) ∙ c.table_number.ensures) (to_z-of_z {w = w64} (search rules) ∙ c.sex_number.ensures)
+    (to_z-of_z {w = w64} (search rules)) (to_z-of_z {w = w64} (search rules)) (to_z-of_z {w = w64} (search rules)) (to_z-of_z {w = w64} (search rules))
+    (to_z-of_z {w = w64} (search rules)) (to_z-of_z {w = w64} (search rules)) in
     (omega arith, front_self head)
 
 pub put_four-requires-in-loop-x : goal.put_four-requires-in-loop-x
@@ -39,10 +39,10 @@ put_four-requires-in-loop-x c =
     let told = c.struct_told-6-1.given in
     let series = told.1.1.1.1.1 in
     let head : Front (first_ages c.args.p 0) 8 c.args.values.now c.put_four-2.new.values =
-        head-put c.args.p c.put_four.ensures c.put_four-2.ensures
-        (to_z-of_z {w = w64} (search rules) ∙ c.table_number.ensures) (to_z-of_z {w = w64} (search rules) ∙ c.sex_number.ensures)
-        (to_z-of_z {w = w64} (search rules)) (to_z-of_z {w = w64} (search rules)) (to_z-of_z {w = w64} (search rules)) (to_z-of_z {w = w64} (search rules))
-        (to_z-of_z {w = w64} (search rules)) (to_z-of_z {w = w64} (search rules)) in
+    head-put c.args.p c.put_four.ensures c.put_four-2.ensures
+    (to_z-of_z {w = w64} (search rules) ∙ c.table_number.ensures) (to_z-of_z {w = w64} (search rules) ∙ c.sex_number.ensures)
+    (to_z-of_z {w = w64} (search rules)) (to_z-of_z {w = w64} (search rules)) (to_z-of_z {w = w64} (search rules)) (to_z-of_z {w = w64} (search rules))
+    (to_z-of_z {w = w64} (search rules)) (to_z-of_z {w = w64} (search rules)) in
     let t = c.loop-x-test.true in
     let h = front-length (omega (arith, c.requires)) head in
     let k = front-length (omega (arith, c.requires)) c.loop-x.invariant.1 in
@@ -64,10 +64,10 @@ shape_of-values c =
     let told = c.struct_told-6-1.given in
     let series = told.1.1.1.1.1 in
     let head : Front (first_ages c.args.p 0) 8 c.args.values.now c.put_four-2.new.values =
-        head-put c.args.p c.put_four.ensures c.put_four-2.ensures
-        (to_z-of_z {w = w64} (search rules) ∙ c.table_number.ensures) (to_z-of_z {w = w64} (search rules) ∙ c.sex_number.ensures)
-        (to_z-of_z {w = w64} (search rules)) (to_z-of_z {w = w64} (search rules)) (to_z-of_z {w = w64} (search rules)) (to_z-of_z {w = w64} (search rules))
-        (to_z-of_z {w = w64} (search rules)) (to_z-of_z {w = w64} (search rules)) in
+    head-put c.args.p c.put_four.ensures c.put_four-2.ensures
+    (to_z-of_z {w = w64} (search rules) ∙ c.table_number.ensures) (to_z-of_z {w = w64} (search rules) ∙ c.sex_number.ensures)
+    (to_z-of_z {w = w64} (search rules)) (to_z-of_z {w = w64} (search rules)) (to_z-of_z {w = w64} (search rules)) (to_z-of_z {w = w64} (search rules))
+    (to_z-of_z {w = w64} (search rules)) (to_z-of_z {w = w64} (search rules)) in
     let l = c.loop-x in
     let e : l.x ≡ ages = omega arith in
     let all = front-over 364 head (rw e at l.invariant.1) in
@@ -78,10 +78,10 @@ returns c =
     let told = c.struct_told-6-1.given in
     let series = told.1.1.1.1.1 in
     let head : Front (first_ages c.args.p 0) 8 c.args.values.now c.put_four-2.new.values =
-        head-put c.args.p c.put_four.ensures c.put_four-2.ensures
-        (to_z-of_z {w = w64} (search rules) ∙ c.table_number.ensures) (to_z-of_z {w = w64} (search rules) ∙ c.sex_number.ensures)
-        (to_z-of_z {w = w64} (search rules)) (to_z-of_z {w = w64} (search rules)) (to_z-of_z {w = w64} (search rules)) (to_z-of_z {w = w64} (search rules))
-        (to_z-of_z {w = w64} (search rules)) (to_z-of_z {w = w64} (search rules)) in
+    head-put c.args.p c.put_four.ensures c.put_four-2.ensures
+    (to_z-of_z {w = w64} (search rules) ∙ c.table_number.ensures) (to_z-of_z {w = w64} (search rules) ∙ c.sex_number.ensures)
+    (to_z-of_z {w = w64} (search rules)) (to_z-of_z {w = w64} (search rules)) (to_z-of_z {w = w64} (search rules)) (to_z-of_z {w = w64} (search rules))
+    (to_z-of_z {w = w64} (search rules)) (to_z-of_z {w = w64} (search rules)) in
     let l = c.loop-x in
     let e : l.x ≡ ages = omega arith in
     let all = front-over 364 head (rw e at l.invariant.1) in

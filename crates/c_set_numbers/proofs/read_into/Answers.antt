@@ -10,7 +10,7 @@ returns-then-number-ne0 c =
     let n = c in
     let r = n in
     let m = read-refused c.args.sheet.now c.args.values.now r.read-got.ensures n.refusal_number-number.ensures
-            (λ (e : c.refusal_number-number.result ≡ 0). omega (arith, e, c.if-number-ne0.true)) in
+    (λ (e : c.refusal_number-number.result ≡ 0). omega (arith, e, c.if-number-ne0.true)) in
     record { value = m.0; values_after = m.1 }
 
 pub returns-then-values-lt-SET_LENGTH : goal.returns-then-values-lt-SET_LENGTH

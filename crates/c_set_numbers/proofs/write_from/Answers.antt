@@ -14,7 +14,7 @@ returns-then-not-are_set c =
     let t = c in
     let a = t.are_set in
     let m = write-malformed c.args.values.now c.args.buffer.now c.args.len.now
-            (sym a.ensures ∙ not-true a.result (ap not t.if-not-are_set.true)) c.refusal_number.ensures in
+    (sym a.ensures ∙ not-true a.result (ap not t.if-not-are_set.true)) c.refusal_number.ensures in
     record { value = m.0; buffer_after = m.1.0; len_after = m.1.1 }
 
 pub set_of-requires : goal.set_of-requires
@@ -23,6 +23,6 @@ set_of-requires c = as_many _ (sym c.are_set.ensures ∙ not-false c.are_set.res
 pub returns : goal.returns
 returns c =
     let m = write-told c.args.values.now c.args.buffer.now c.args.len.now
-            (sym c.are_set.ensures ∙ not-false c.are_set.result (ap not c.if-not-are_set.false)) c.set_of.ensures c.write.ensures
-            (c.tell.ensures.value, c.tell.ensures.len_after) in
+    (sym c.are_set.ensures ∙ not-false c.are_set.result (ap not c.if-not-are_set.false)) c.set_of.ensures c.write.ensures
+    (c.tell.ensures.value, c.tell.ensures.len_after) in
     record { value = m.0; buffer_after = m.1.0; len_after = m.1.1 }

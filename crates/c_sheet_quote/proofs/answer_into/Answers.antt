@@ -10,7 +10,7 @@ use Rattle.c_sheet_quote.proofs.answer_into.Goals as goal
 pub returns-in_default : goal.returns-in_default
 returns-in_default c =
     let m = put-malformed c.args.sheet.now c.args.age c.args.year c.args.term c.args.numbers.now
-            (ap (kind_read []) c.in_default.is) c.refusal_number.ensures in
+    (ap (kind_read []) c.in_default.is) c.refusal_number.ensures in
     record { value = m.0; numbers_after = m.1 }
 
 pub returns : goal.returns
@@ -20,7 +20,7 @@ returns c =
     let k = a in
     let f = k.ranges in
     let m = put-taken c.args.sheet.now c.args.age c.args.year c.args.term c.args.numbers.now
-            (ap (kind_read []) k.in-Of.is)
-            (rw (to_z-of_z f.age, to_z-of_z f.year, to_z-of_z f.term) at a.sheet_answer.ensures)
-            (p.put_answer.ensures.value, p.put_answer.ensures.numbers_after) in
+    (ap (kind_read []) k.in-Of.is)
+    (rw (to_z-of_z f.age, to_z-of_z f.year, to_z-of_z f.term) at a.sheet_answer.ensures)
+    (p.put_answer.ensures.value, p.put_answer.ensures.numbers_after) in
     record { value = m.0; numbers_after = m.1 }

@@ -14,6 +14,6 @@ returns c =
     let a = p in
     let f = a.ranges in
     let m = put-taken c.args.sheet.now {k = taken Day []} c.args.age c.args.year c.args.date c.args.numbers.now refl
-            (rw (to_z-of_z f.age, to_z-of_z f.year, to_z-of_z f.date) at a.sheet_answer.ensures)
-            (p.put_answer.ensures.value, p.put_answer.ensures.numbers_after) in
+    (rw (to_z-of_z f.age, to_z-of_z f.year, to_z-of_z f.date) at a.sheet_answer.ensures)
+    (p.put_answer.ensures.value, p.put_answer.ensures.numbers_after) in
     record { value = m.0; numbers_after = m.1 }

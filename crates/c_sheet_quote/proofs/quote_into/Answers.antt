@@ -11,5 +11,5 @@ returns c =
     let start = k in
     let f = start.ranges in
     let m = put-read c.args.sheet.now c.args.word.now c.args.age c.args.year c.args.span k.kind_of.result k.kind_of.ensures c.args.numbers.now
-            (rw (to_z-of_z f.age, to_z-of_z f.year, to_z-of_z f.span) at a.answer_into.ensures.value, rw (to_z-of_z f.age, to_z-of_z f.year, to_z-of_z f.span) at a.answer_into.ensures.numbers_after) in
+    (rw (to_z-of_z f.age, to_z-of_z f.year, to_z-of_z f.span) at a.answer_into.ensures.value, rw (to_z-of_z f.age, to_z-of_z f.year, to_z-of_z f.span) at a.answer_into.ensures.numbers_after) in
     record { value = m.0; numbers_after = m.1 }

@@ -8,6 +8,6 @@ pub returns : goal.returns
 returns c =
     let a = c in
     let f = a.ranges in
-    let m = put_same c.args.found.now c.args.year.now (rw (to_z-of_z f.age, to_z-of_z f.target) at a.sheet_target.ensures) 
-            (c.put_target.ensures.value, (c.put_target.ensures.found_after, c.put_target.ensures.year_after)) in
+    let m = put_same c.args.found.now c.args.year.now (rw (to_z-of_z f.age, to_z-of_z f.target) at a.sheet_target.ensures)
+    (c.put_target.ensures.value, (c.put_target.ensures.found_after, c.put_target.ensures.year_after)) in
     record { value = m.0; found_after = m.1.0; year_after = m.1.1 }

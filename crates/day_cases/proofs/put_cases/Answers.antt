@@ -4,5 +4,3 @@ use Prim.Native.Nat.{◌-◌, ◌≤◌}
 use borrow.Author.Rules.{rules}
 use lib.ListN.{length}
 use Rattle.day_cases.proofs.put_cases.Goals as goal
-
-

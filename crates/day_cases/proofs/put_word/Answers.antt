@@ -5,5 +5,3 @@ use borrow.Author.Rules.{rules}
 use lib.ListN.{length}
 use Rattle.text_words.specs.code.Word.{word_bytes}
 use Rattle.day_cases.proofs.put_word.Goals as goal
-
-

@@ -9,5 +9,5 @@ pub returns : goal.returns
 unfolding program_of
 returns c =
     let m = run-told c.args.input.now c.args.ends c.args.out.now c.args.len.now refl c.run.ensures
-            (c.tell.ensures.value, c.tell.ensures.len_after) in
+    (c.tell.ensures.value, c.tell.ensures.len_after) in
     record { value = m.0; out_after = m.1.0; len_after = m.1.1 }

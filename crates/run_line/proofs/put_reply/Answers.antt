@@ -36,11 +36,11 @@ compare-comparison-requires c =
 pub put_comparison-requires : goal.put_comparison-requires
 put_comparison-requires c =
     let t = reply-compare _ _ _ _ c.decimals_for-decimals.ensures c.answer_to-answer.ensures c.in-Compared.is
-            c.answer_to-other.ensures c.compare-comparison.ensures in
+    c.answer_to-other.ensures c.compare-comparison.ensures in
     (t.1, room_as t.0 c.requires.2)
 
 pub returns-in-Compared : goal.returns-in-Compared
 returns-in-Compared c =
     let t = reply-compare _ _ _ _ c.decimals_for-decimals.ensures c.answer_to-answer.ensures c.in-Compared.is
-            c.answer_to-other.ensures c.compare-comparison.ensures in
+    c.answer_to-other.ensures c.compare-comparison.ensures in
     put_as (sym t.0) c.put_comparison.ensures

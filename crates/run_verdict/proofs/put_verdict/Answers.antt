@@ -67,9 +67,9 @@ put_line-requires c =
     let s = c.args in
     let f : SFits w64 c.in-Number.year = search rules in
     let line = run-judged s.input.now c.read_front-front.ensures (read_taken _ c.year_at.ensures.0 c.in-Number.is) (sym c.refusal_number.ensures ∙ c.if-refusal_number-ne0.false)
-            ∙ ap (verdict_line c.in-Number.year)
-            (sym ((rw (to_z-of_z f) at c.verdict_on-judged.ensures.answered)
-            ∙ ap (column_verdict c.read_front-front.result.first c.in-Number.year) (rest_from s.input.now c.in-Number.next))) in
+    ∙ ap (verdict_line c.in-Number.year)
+    (sym ((rw (to_z-of_z f) at c.verdict_on-judged.ensures.answered)
+    ∙ ap (column_verdict c.read_front-front.result.first c.in-Number.year) (rest_from s.input.now c.in-Number.next))) in
     rw (to_z-of_z f) (year-small _ (read_taken _ c.year_at.ensures.0 c.in-Number.is), room_as line (line-room _ s.input.now c.requires))
 
 pub returns : goal.returns
@@ -77,7 +77,7 @@ returns c =
     let s = c.args in
     let f : SFits w64 c.in-Number.year = search rules in
     let line = run-judged s.input.now c.read_front-front.ensures (read_taken _ c.year_at.ensures.0 c.in-Number.is) (sym c.refusal_number.ensures ∙ c.if-refusal_number-ne0.false)
-            ∙ ap (verdict_line c.in-Number.year)
-            (sym ((rw (to_z-of_z f) at c.verdict_on-judged.ensures.answered)
-            ∙ ap (column_verdict c.read_front-front.result.first c.in-Number.year) (rest_from s.input.now c.in-Number.next))) in
+    ∙ ap (verdict_line c.in-Number.year)
+    (sym ((rw (to_z-of_z f) at c.verdict_on-judged.ensures.answered)
+    ∙ ap (column_verdict c.read_front-front.result.first c.in-Number.year) (rest_from s.input.now c.in-Number.next))) in
     put_as (sym line) (rw (to_z-of_z f) at c.put_line.ensures)
