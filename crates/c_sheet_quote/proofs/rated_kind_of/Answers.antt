@@ -30,7 +30,6 @@ returns c =
     let k = t in
     let w = k in
     let s = w in
-    let g = k.kind.given.0 in
-    ap (λ (r : Kind). taken r (drop g.1.0 s.args.word.now))
-    (c.with_rate.ensures ∙ ap (with_rate g.0) (to_z-of_z s.ranges.rate))
+    ap (λ (r : Kind). taken r (drop k.in-Of.end s.args.word.now))
+    (c.with_rate.ensures ∙ ap (with_rate k.in-Of.kind) (to_z-of_z s.ranges.rate))
     ∙ sym (rate-given _ (steps.kind-taken _ w.word_kind.ensures k.in-Of.is) _ (has t.takes_rate.ensures (ap not c.if-not-takes_rate.false)))
