@@ -1,7 +1,7 @@
-# make: proves every crate and builds the programs. make lib: the library for C and Python, into target/lib. make examples:
-# the programs of examples/, over it. make install PREFIX=...: programs, library, header and Python package below PREFIX. make
-# dist: all of that packed, into target/dist, for a machine without the kit. make test: the whole gate, with the tests outside
-# the proofs. make bench: times of the library and of the program quotes, beside plain C and Arb.
+# make: proves every crate. make programs: builds the programs, into target/bin. make lib: the library for C and Python, into
+# target/lib. make examples: the programs of examples/, over it. make install PREFIX=...: programs, library, header and Python
+# package below PREFIX. make dist: all of that packed, into target/dist, for a machine without the kit. make test: the whole gate,
+# with the tests outside the proofs. make bench: times of the library and of the program quotes, beside plain C and Arb.
 .PHONY: all kit lib programs cases examples install dist test bench clean
 
 LIB := target/lib

@@ -21,7 +21,7 @@ def believed(root):
 def copied(folder):
     """A copy of what the tool reads."""
     shutil.copy(ROOT / "README.md", folder)
-    for part in ("specs", "src"):
+    for part in ("specs", "proofs", "src"):
         for old in (ROOT / "crates").glob(f"*/{part}"):
             shutil.copytree(old, pathlib.Path(folder, "crates", old.parent.name, part))
     return pathlib.Path(folder)
@@ -51,7 +51,7 @@ def main():
     lists = {"Lib.antt", "code.antt", "laws.antt", "examples.antt"}
     hold("no other file stands with the definitions", {path for path in above if pathlib.Path(path).name not in lists} == reached)
 
-    law = "use Rattle.number_exponential.specs.laws.Soundness.{lower-sound}\n"
+    law = "use Rattle.number_exponential.proofs.laws.Soundness.{lower-sound}\n"
     word = "use Rattle.text_printing.specs.code.Put.{Put}\n"
     for what, path, more in (
         ("a law in a definition", "crates/quote_kinds/specs/Kinds.antt", law),

@@ -1,5 +1,5 @@
 // From bytes to digits: the three calls of the C interface that answer a query of a sheet, taken as one. The theorem over any two
-// such calls is in specs/laws/Theorem.antt, and what it is stated over is this function's contract, had from theirs alone.
+// such calls is in proofs/laws/Theorem.antt, and what it is stated over is this function's contract, had from theirs alone.
 #![tactic(auto)]
 
 ghost use Rattle.c_bytes_to_digits.specs.Calls.{asked, Called};
