@@ -11,9 +11,8 @@ use Rattle.c_target_year.proofs.put_target.Goals as goal
 pub returns-in-Reached : goal.returns-in-Reached
 unfolding target_no found_after year_after
 returns-in-Reached c =
-    let k = c in
-    let f : SFits w64 c.in-Reached.year = search rules in
-    let m = put_same c.args.found.now c.args.year.now (sym k.in-Reached.is) (c.refusal_number.ensures, (refl, to_z-of_z f)) in
+    let f : SFits w64 c.in-Reached.named = search rules in
+    let m = put_same c.args.found.now c.args.year.now (sym c.in-Reached.is) (c.refusal_number.ensures, (refl, to_z-of_z f)) in
     record { value = m.0; found_after = m.1.0; year_after = m.1.1 }
 
 pub returns-in-Open : goal.returns-in-Open

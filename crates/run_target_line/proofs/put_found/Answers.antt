@@ -4,6 +4,8 @@ use mir.Facts.{to_z-of_z}
 use mir.Val.{SFits}
 use mir.Syntax.{w64}
 use mathlib.Core.Path.{◌≡◌, sym, ap, subst}
+use mathlib.Core.List.{List}
+use Prim.Native.Nat.{ℕ}
 use Rattle.text_tokens.specs.Text.{bytes_of}
 use Rattle.text_tokens.specs.laws.ReadLaws.{held}
 use Rattle.text_printing.specs.code.Put.{Room}
@@ -12,33 +14,32 @@ use Rattle.quote_target.specs.declared.TargetYear.{TargetYear}
 use Rattle.run_target_line.specs.TargetLine.{found_text}
 use Rattle.run_target_line.specs.code.Code.{SizedFound}
 use Rattle.run_target_line.proofs.put_found.Goals as goal
-use Rattle.run_target_line.proofs.put_found.Goals.{Start}
 
 -- what is required, of the case that was matched
-required : (s : Start) {r : TargetYear} → s.args.found ≡ r
-    → SizedFound r × Room s.args.buffer.now s.args.at (found_text r)
-required s e = (subst SizedFound e s.requires.0, room_as (ap found_text e) s.requires.1)
+required : {found r : TargetYear} {bytes : List ℕ} {at : ℕ} → found ≡ r
+    → SizedFound found × Room bytes at (found_text found) → SizedFound r × Room bytes at (found_text r)
+required e h = (subst SizedFound e h.0, room_as (ap found_text e) h.1)
 
 pub put_year-requires : goal.put_year-requires
 unfolding SizedFound found_text
 put_year-requires c =
     let f : SFits w64 c.in-Reached.year = search rules in
-    rw (to_z-of_z f) (required c.before c.in-Reached.is)
+    rw (to_z-of_z f) (required c.in-Reached.is c.requires)
 
 pub put_text-requires : goal.put_text-requires
 unfolding found_text bytes_of
 put_text-requires c =
-    (required c.before c.in-Open.is).1.fits
+    (required c.in-Open.is c.requires).1.fits
 
 pub put_text-requires-in-Never : goal.put_text-requires-in-Never
 unfolding found_text bytes_of
 put_text-requires-in-Never c =
-    (required c.before c.in-Never.is).1.fits
+    (required c.in-Never.is c.requires).1.fits
 
 pub put_refused-requires : goal.put_refused-requires
 unfolding found_text
 put_refused-requires c =
-    (required c.before c.in-Refused.is).1
+    (required c.in-Refused.is c.requires).1
 
 pub returns-in-Reached : goal.returns-in-Reached
 unfolding found_text
