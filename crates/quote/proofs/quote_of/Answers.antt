@@ -20,5 +20,5 @@ answer_within-requires c =
 pub returns : goal.returns
 returns c =
     let f = c.ranges in
-    let r = rw (to_z-of_z f.age, to_z-of_z f.year, to_z-of_z f.term) at c.answer_within.ensures ∙ for-again _ _ _ _ _ in
-    record { answered = r; honest = (met r).1 }
+    let q = rw (to_z-of_z f.age, to_z-of_z f.year, to_z-of_z f.term) at c.answer_within.ensures ∙ for-again _ _ _ _ _ in
+    record { answered = q; honest = (met q).1 }

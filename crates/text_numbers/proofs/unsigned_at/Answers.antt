@@ -29,10 +29,9 @@ overflow_add-result c =
 
 pub returns : goal.returns
 returns c =
-    let read = c.digits_at-run.ensures in
-    sym
-    (elim c.else-run-gt1.branch [
+    let r = c.digits_at-run.ensures in
+    elim c.else-run-gt1.branch [
       | else-run-gt1-via-then-run-gt1+else-bytes-at-eq48 w ↦
-          taken_more read (omega arith) (omega arith) w.if-bytes-at-eq48.false
-      | else-run-gt1-via-else-run-gt1 w ↦ taken-one read (omega arith)
-    ])
+          sym (taken_more r (omega arith) (omega arith) w.if-bytes-at-eq48.false)
+      | else-run-gt1-via-else-run-gt1 w ↦ sym (taken-one r (omega arith))
+    ]
