@@ -14,7 +14,7 @@ pub put_answer-requires : goal.put_answer-requires
 put_answer-requires c =
     let s = c.args in
     let text : couple_reply s.first s.second s.query ≡ answer_text true c.decimals_for-decimals.result c.couple_to-answer.result
-        = reply-by _ _ _ (c.decimals_for-decimals.ensures ∙ ap (λ (k : Kind). kind_decimals k) c.single_of-single.ensures) c.couple_to-answer.ensures in
+    = reply-by _ _ _ (c.decimals_for-decimals.ensures ∙ ap (λ (k : Kind). kind_decimals k) c.single_of-single.ensures) c.couple_to-answer.ensures in
     let sized : SizedAnswer c.couple_to-answer.result = rw c.couple_to-answer.ensures (couple-sized s.first s.second s.query) in
     (sized, room_as text c.requires.2)
 
@@ -22,5 +22,5 @@ pub returns : goal.returns
 returns c =
     let s = c.args in
     let text : couple_reply s.first s.second s.query ≡ answer_text true c.decimals_for-decimals.result c.couple_to-answer.result
-        = reply-by _ _ _ (c.decimals_for-decimals.ensures ∙ ap (λ (k : Kind). kind_decimals k) c.single_of-single.ensures) c.couple_to-answer.ensures in
+    = reply-by _ _ _ (c.decimals_for-decimals.ensures ∙ ap (λ (k : Kind). kind_decimals k) c.single_of-single.ensures) c.couple_to-answer.ensures in
     put_as (sym text) c.put_answer.ensures
