@@ -1,5 +1,6 @@
 pub mod Answered
 pub mod AtMostOne
+pub mod CellHolds
 pub mod Death
 pub mod Facts
 pub mod GridFacts

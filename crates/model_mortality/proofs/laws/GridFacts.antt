@@ -29,7 +29,7 @@ use Rattle.model_mortality.proofs.laws.Death.{death}
 use Rattle.model_mortality.proofs.laws.OrderDeath.{order_death}
 use Rattle.model_mortality.proofs.laws.Facts.{Fit}
 use Rattle.model_mortality.proofs.laws.Answered.{Answered}
-use Rattle.model_mortality.proofs.laws.Holds.{death-holds}
+use Rattle.model_mortality.proofs.laws.CellHolds.{death-holds}
 use Rattle.model_mortality.proofs.laws.Width.{Narrowed, narrowed-more, young_width, fitted_width, sum_width, old_width, young_death_width, old_death_width}
 use Rattle.model_mortality.proofs.laws.Width.{young-survival-width, old-survival-width, death-narrowed}
 

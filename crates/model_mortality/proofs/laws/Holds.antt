@@ -2,7 +2,7 @@
 -- and a year whose needed cells are in range.
 use Rattle.std.specs.Prelude.{◌≡◌, ℕ, zero, suc, ◌+◌, ◌*◌, ◌≤◌, ◌<◌, ℤ, pos, negsuc, neg_ℤ, nat_abs, ◌+ℤ◌, ◌*ℤ◌, ◌≤ℤ◌}
 use Rattle.std.proofs.Math.Path.{refl}
-use Rattle.std.proofs.Common.{ap, sym, ◌∙◌, le_refl, le_trans, mul-le-mul_right, lit<, lt-ltb, le-ltb}
+use Rattle.std.proofs.Common.{ap, sym, ◌∙◌, le_trans, mul-le-mul_right, lit<, lt-ltb, le-ltb}
 use Rattle.std.proofs.Math.Decide.{dec_lt}
 use native.Mathlib.Omega.{arith}
 use Rattle.std.proofs.Math.IntN.{pos-*ℤ-pos}
@@ -12,11 +12,10 @@ use Rattle.number_whole.proofs.laws.Above.{above}
 use Rattle.number_whole.proofs.laws.Split.{split-abs, split-scale-left}
 use Rattle.number_whole.proofs.laws.Difference.{difference, difference-pos, difference-mul, difference-le}
 use Rattle.number_whole.proofs.laws.Table.{listed_at}
-use Rattle.number_fraction.specs.Ratio.{Ratio, ◌≤/◌, whole/, quotient/, complement, ◌*/◌}
-use Rattle.number_fraction.proofs.laws.RatioLaws.{≤/-trans, quotient/-mono, complement-reverse}
+use Rattle.number_fraction.specs.Ratio.{◌≤/◌, whole/, quotient/}
 use Rattle.number_fraction.specs.Fraction.{Fraction, ◌≤ℚ◌, ◌+ℚ◌, wholeℚ, scaleℚ, quotientℚ, signed, absolute}
 use Rattle.number_fraction.proofs.laws.FractionTerms.{negℚ}
-use Rattle.number_fraction.proofs.laws.FractionLaws.{≤ℚ-trans, signed-≤ℚ, signed-whole, signed-absolute, wholeℚ-≤ℚ, +ℚ-mono, quotientℚ-mono}
+use Rattle.number_fraction.proofs.laws.FractionLaws.{≤ℚ-trans, signed-≤ℚ, signed-whole, signed-absolute, wholeℚ-≤ℚ, +ℚ-mono}
 use Rattle.number_taylor.specs.Order.{least_order}
 use Rattle.number_exponential.specs.Grid.{Grid, in_units}
 use Rattle.number_exponential.specs.Exponential.{exp_between}
@@ -24,7 +23,6 @@ use Rattle.number_exponential.proofs.laws.Facts.{Sound}
 use Rattle.number_exponential.proofs.laws.WidthFacts.{Narrow}
 use Rattle.number_exponential.proofs.laws.Overlap.{Overlap}
 use Rattle.number_exponential.proofs.laws.Holds.{exp-overlap}
-use Rattle.number_exponential.proofs.laws.OutwardLaws.{outward-holds}
 use Rattle.set_params.specs.declared.Params.{Params}
 use Rattle.set_series.proofs.laws.SeriesLaws.{in_grid_ℚ}
 use Rattle.model_log_force.specs.LogForce.{log_force, highest_force}
@@ -41,11 +39,9 @@ use Rattle.model_logistic.proofs.laws.SignedUnits.{in_units_ℚ, SignedOverlap}
 use Rattle.model_closure.specs.Closure.{ends_at, closed_sum}
 use Rattle.model_closure.specs.Exact.{interval_at, exact_closed_sum}
 use Rattle.model_closure.proofs.laws.WeightedSum.{closed_sum-overlap}
-use Rattle.model_force.specs.Force.{negated, death_of}
-use Rattle.model_mortality.specs.Cell.{young_force, fitted_ends, fitted_list, old_force, force, whole_year, force_over, survival}
-use Rattle.model_mortality.proofs.laws.Death.{death}
-use Rattle.model_mortality.specs.Exact.{sheet_unit, exact_m, exact_z, order_young_force, order_fitted, order_fitted_list, order_old_force, order_force, order_force_over, order_survival}
-use Rattle.model_mortality.proofs.laws.OrderDeath.{order_death}
+use Rattle.model_force.specs.Force.{negated}
+use Rattle.model_mortality.specs.Cell.{young_force, fitted_ends, fitted_list, old_force, force}
+use Rattle.model_mortality.specs.Exact.{sheet_unit, exact_m, exact_z, order_young_force, order_fitted, order_fitted_list, order_old_force, order_force}
 use Rattle.model_mortality.proofs.laws.Facts.{Fit}
 use Rattle.model_mortality.proofs.laws.Answered.{Answered}
 use Rattle.model_mortality.proofs.laws.Needed.{young-needed, old-needed}
@@ -223,7 +219,7 @@ module _ (g : Grid) (s : Sound g) (fit : Fit g) where
   -- ---- the force at any age, p and q
 
   module _ (w : Narrow g s) {p : Params} {x n : ℕ} (a : Answered p x n) (j : ℕ) (l : least_order ≤ j) where
-    force-overlap : Overlap g (force g p x n) (order_force p x n j).least (order_force p x n j).most
+    pub force-overlap : Overlap g (force g p x n) (order_force p x n j).least (order_force p x n j).most
     unfolding force order_force
     force-overlap =
         elim (dec_lt x first_closed) [
@@ -232,17 +228,3 @@ module _ (g : Grid) (s : Sound g) (fit : Fit g) where
               let k : first_closed ≤ x = omega arith in
               rw (le-ltb x first_closed k) (old-overlap w p x n j l (old-needed g a k))
         ]
-
-    -- over a part of the year
-    pub survival-holds : (part : Ratio)
-        → Overlap g (survival g p x n part) (order_survival p x n part j).least (order_survival p x n part j).most
-    unfolding survival force_over order_survival order_force_over
-    survival-holds part =
-        exp-overlap g s (force_over part (force g p x n)) ((order_force p x n j).least */ part) ((order_force p x n j).most */ part) j
-        (outward-holds g part.den part.positive part.num part.num part part force-overlap (le_refl _) (le_refl _))
-
-    -- q holds every order's bracket
-    pub death-holds : Overlap g (death g p x n) (order_death p x n j).least (order_death p x n j).most
-    unfolding death death_of order_death in_units complement
-    death-holds =
-        let h = survival-holds whole_year in record { below = complement-reverse h.above; above = complement-reverse h.below }

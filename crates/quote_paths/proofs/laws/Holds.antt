@@ -13,7 +13,7 @@ use Rattle.number_folds.specs.laws.Each.{each-places}
 use Rattle.number_folds.proofs.laws.Holds.{Over, survival-holds, expectancy-holds}
 use Rattle.number_annuity.proofs.laws.Holds.{annuity-holds}
 use Rattle.model_force.specs.Force.{death_of}
-use Rattle.model_mortality.proofs.laws.Holds as cell
+use Rattle.model_mortality.proofs.laws.CellHolds as cell
 use Rattle.quote_paths.specs.Path.{Place, factors, order_factors}
 use Rattle.quote_paths.specs.declared.Fold.{Fold}
 use Rattle.quote_paths.specs.declared.Fold.TheVariants.{Death, Survival, Expectancy, Annuity}
