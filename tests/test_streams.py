@@ -82,7 +82,7 @@ def complaint(what, want, done, error):
         return f"{what}: {len(done.stdout)} bytes of output {done.stdout[:80]!r}, not {len(want)} {want[:80]!r}"
     if done.returncode != 0:
         return f"{what}: exit status {done.returncode}"
-    said = b"" if error is None else f"{error[0]}: {os.strerror(error[1])} (os error {error[1]})\n".encode()
+    said = b"" if error is None else f"{error[0]}: {os.strerror(error[1])}\n".encode()
     return None if done.stderr == said else f"{what}: {done.stderr!r} on standard error, not {said!r}"
 
 

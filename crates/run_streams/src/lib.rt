@@ -17,9 +17,36 @@ pub enum Input {
     Failed,
 }
 
+// Writes an error's words into the bytes; how many it wrote.
+fn told(bytes: &mut [u8], why: io::Error) -> usize
+    ensures { result ≤ length bytes.old }
+{
+    let room = bytes.len();
+    let mut left = bytes;
+    let _ = write!(left, "{why}");
+    room - left.len().min(room)
+}
+
+// How many bytes stand before the number that the library puts behind the system's words.
+fn words(bytes: &[u8]) -> usize
+    ensures { result ≤ length bytes.now }
+{
+    for at in 0..bytes.len() {
+        if bytes[at..].starts_with(b" (os error ") {
+            return at;
+        }
+    }
+    bytes.len()
+}
+
 // Says on standard error what failed and why. Where that fails too, nothing is left to be told.
 fn complain<R: Eprint>(rt: &R, what: &str, why: io::Error) {
-    let _ = eprintln!(rt; "{what}: {why}");
+    let mut space = [0u8; 256];
+    let len = told(&mut space, why);
+    let end = words(&space[..len]);
+    if let Ok(reason) = str::from_utf8(&space[..end]) {
+        let _ = eprintln!(rt; "{what}: {reason}");
+    }
 }
 
 // One read into the bytes.
