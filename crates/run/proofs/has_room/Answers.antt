@@ -13,7 +13,7 @@ returns-in-Lines c =
     let l = c in
     let p = l in
     let s = p.args in
-    c.fits2.ensures ∙ ap (λ (n : ℕ). leb (5 * s.input + n) s.room) l.longest_line.ensures
+    c.fits.ensures ∙ ap (λ (n : ℕ). leb (5 * s.input + n) s.room) l.longest_line.ensures
     ∙ sym (ap (λ (q : Program). leb (run_room q s.input) s.room) p.in-Lines.is)
 
 pub returns-in-Verdict : goal.returns-in-Verdict

@@ -1,28 +1,24 @@
 -- `put_run` meets its contract: the run of lines, or the verdict's line.
 use borrow.Author.Rules.{rules}
 use mathlib.Core.Path.{◌≡◌, sym, ap, subst}
-use Prim.Native.Nat.{◌≤◌}
+use Prim.Native.Nat.{ℕ, ◌≤◌}
 use lib.ListN.{length}
 use Rattle.text_printing.specs.laws.PutLaws.{put_as}
 use Rattle.run.specs.declared.Program.{Program}
 use Rattle.run.specs.Run.{run_of, run_room}
 use Rattle.run.proofs.put_run.Goals as goal
-use Rattle.run.proofs.put_run.Goals.{Start}
 
 -- the room, of the program that was matched
-room : (s : Start) {p : Program} → s.args.program ≡ p
-    → run_room p (length s.args.input.now) ≤ length s.args.out.now
-room s e = subst (λ (p : Program). run_room p (length s.args.input.now) ≤ length s.args.out.now) e s.requires
+room : {program p : Program} (input out : ℕ) → program ≡ p → run_room program input ≤ out → run_room p input ≤ out
+room input out e h = subst (λ (q : Program). run_room q input ≤ out) e h
 
 pub put_lines-requires : goal.put_lines-requires
 unfolding run_room
-put_lines-requires c =
-    let p = c.before.before in
-    room p.before.before.before.before p.in-Lines.is
+put_lines-requires c = room (length c.args.input.now) (length c.args.out.now) c.in-Lines.is c.requires
 
 pub put_verdict-requires : goal.put_verdict-requires
 unfolding run_room
-put_verdict-requires c = let t = c.before in room t.before.before.before.before t.in-Verdict.is
+put_verdict-requires c = room (length c.args.input.now) (length c.args.out.now) c.in-Verdict.is c.requires
 
 pub returns-in-Lines : goal.returns-in-Lines
 unfolding run_of
