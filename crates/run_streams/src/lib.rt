@@ -126,7 +126,10 @@ pub fn write_all<R: Print + Eprint>(rt: &R, bytes: &[u8]) {
                 done += put;
             }
             Err(error) => {
-                complain(rt, "writing standard output failed", error);
+                // a reader that is gone, as `head`, ends the run and is told to nobody
+                if error.kind() != ErrorKind::BrokenPipe {
+                    complain(rt, "writing standard output failed", error);
+                }
                 return;
             }
         }
