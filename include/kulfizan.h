@@ -36,7 +36,7 @@
 
    Threads: the library has no state of its own, neither static nor by thread, and allocates nothing, so that any calls may run at
    once, also over the same sheet, as long as nothing that one of them writes is lent to another. Stack: a call needs less than
-   72 kB; measured on x86-64, read and write need some 20 kB, a query, a couple or a target 58, a verdict 68, a run 70, where they
+   64 kB; measured on x86-64, read and write need some 20 kB, a query, a couple or a target 50, a verdict 60, a run 62, where they
    work both grids. */
 #ifndef KULFIZAN_H
 #define KULFIZAN_H

@@ -49,25 +49,24 @@ fn closed_row(x: usize) -> usize
     x - FIRST_CLOSED
 }
 
-// The first `done` factors, and the last of them again to make `count`.
-fn repeated(ends: [Ends; MOST_FACTORS], done: usize, count: usize) -> [Ends; MOST_FACTORS]
-    requires { Begun ends done count }
-    ensures { Repeated ends done count result }
+// Makes `count` factors of the first `done`: the last of these stands again in each place after it.
+fn repeated(ends: &mut [Ends; MOST_FACTORS], done: usize, count: usize)
+    requires { Begun ends.old done count }
+    ensures { Repeated ends.old done count ends.new }
 {
     let last = ends[done - 1];
-    let mut all = ends;
     let mut i = done;
     while i < count {
-        all[i] = last;
+        ends[i] = last;
         i += 1;
     }
-    all
 }
 
 // The factors at ages above 90, after those to 90.
-fn old_factors(fine: bool, p: Params, path: Path, walk: Walk) -> Factors
-    requires { PathWithin p path × WalkOf (grid_by fine) p path walk × T walk.ok × (walk.done < path.count) }
-    ensures { FactorsOf (grid_by fine) p path result }
+fn old_factors(fine: bool, p: &Params, path: Path, walk: &Walk) -> Factors
+    requires { PathWithin p.now path × WalkOf (grid_by fine) p.now path walk.now × T walk.now.ok
+        × (walk.now.done < path.count) }
+    ensures { FactorsOf (grid_by fine) p.now path result }
 {
     let cohort = path.cohort;
     let age = path.age;
@@ -97,11 +96,8 @@ fn old_factors(fine: bool, p: Params, path: Path, walk: Walk) -> Factors
             fitted = model_cells::fitted_in(fine, &p.level, &p.slope, &p.alpha, &p.beta, year);
         }
     }
-    let all = repeated(ends, done, count);
-    Factors {
-        ok: true,
-        ends: all,
-    }
+    repeated(&mut ends, done, count);
+    Factors { ok: true, ends }
 }
 
 // The factors of a path.
@@ -110,14 +106,19 @@ pub fn factors_of(fine: bool, p: Params, path: Path) -> Factors
     ensures { FactorsOf (grid_by fine) p path result }
 {
     let walk = quote_walks::young_factors(fine, p, path);
-    let ends = walk.ends;
     if !walk.ok {
-        return Factors { ok: false, ends };
+        return Factors {
+            ok: false,
+            ends: walk.ends,
+        };
     }
     if walk.done < path.count {
-        return old_factors(fine, p, path, walk);
+        return old_factors(fine, &p, path, &walk);
     }
-    Factors { ok: true, ends }
+    Factors {
+        ok: true,
+        ends: walk.ends,
+    }
 }
 
 // The factors of a path and, where it has days, of the part of a year after it.

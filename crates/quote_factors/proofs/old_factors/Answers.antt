@@ -2,27 +2,24 @@
 -- and the year and its H are those of the next cell; the measure is the cells that are left to work.
 use mathlib.Core.Path.{◌≡◌, ap, sym, ◌∙◌}
 use mathlib.Core.List.{List, []}
-use Prim.Native.Nat.{ℕ, ◌+◌, ◌-◌, ◌≤◌, ◌<◌, min}
+use Prim.Native.Nat.{ℕ, ◌+◌, ◌≤◌, ◌<◌, min}
 use native.Mathlib.Omega.{arith}
-use borrow.Author.Rules.{rules}
 use lib.Dec.{T}
 use lib.ListN.{get_or, set}
 use Rattle.number_exponential.specs.Grid.{Grid}
 use Rattle.number_whole.proofs.laws.Bound.{back}
 use Rattle.number_exponential.specs.declared.Ends.{Ends}
-use Rattle.number_exponential.specs.Units.{grid_of}
-use Rattle.number_exponential.specs.code.Flag.{unit_by, grid_by}
+use Rattle.number_exponential.specs.code.Flag.{grid_by}
 use Rattle.set_params.specs.declared.Params.{Params}
 use Rattle.set_limits.specs.laws.LimitsLaws.{in-limits-series}
 use Rattle.model_closure.specs.Weights.{first_closed, last_closed}
 use Rattle.model_closure.specs.code.Table.{weight_row}
 use Rattle.model_closure.proofs.laws.WeightLaws.{table-row}
 use Rattle.model_closure.proofs.examples.Rows.{row_within}
-use Rattle.number_folds.specs.code.Code.{most_factors}
 use Rattle.model_log_force.specs.declared.Year.{Year}
 use Rattle.model_cells.specs.declared.Fitted.{Fitted}
 use Rattle.model_log_force.specs.code.Year.{YearOf}
-use Rattle.model_cells.specs.code.Fitted.{FittedOf, lent}
+use Rattle.model_cells.specs.code.Fitted.{lent}
 use Rattle.model_cells.specs.code.Code.{cell_of}
 use Rattle.model_cells.specs.laws.Answers.{old-cell}
 use Rattle.quote_paths.specs.Path.{place_at}
@@ -64,13 +61,13 @@ row_read c =
 
 -- so the cell is the path's, had it begun in year n
 cell-read : (c : lts.After-old_cell tie.the-claims reads.Pre reads.Post goal.the-invariant-loop-done goal.the-decreases-loop-done) (n : ℕ)
-    → YearAt (grid_by c.args.fine) c.args.p (along c.args.path.cohort c.args.path.age n c.args.path.count) c.loop-done.done c.loop-done.year
-    → cell_at (grid_by c.args.fine) c.args.p (along c.args.path.cohort c.args.path.age n c.args.path.count) c.loop-done.done ≡ c.old_cell.result
+    → YearAt (grid_by c.args.fine) c.args.p.now (along c.args.path.cohort c.args.path.age n c.args.path.count) c.loop-done.done c.loop-done.year
+    → cell_at (grid_by c.args.fine) c.args.p.now (along c.args.path.cohort c.args.path.age n c.args.path.count) c.loop-done.done ≡ c.old_cell.result
 unfolding place_at
 cell-read c n y =
     let x = c.args.path.age + c.loop-done.done in
     let l = closed x c.loop-done.invariant.above in
-    ap (cell_of (grid_by c.args.fine) c.args.p (closing x)) (sym (y.place (on-path c.args.path c.worked_count-worked.ensures c.loop-done-test.true)))
+    ap (cell_of (grid_by c.args.fine) c.args.p.now (closing x)) (sym (y.place (on-path c.args.path c.worked_count-worked.ensures c.loop-done-test.true)))
     ∙ sym (rw (row_read c.before.before) at c.old_cell.ensures ∙ old-cell c.loop-done.invariant.heights l.0)
 
 pub fitted_in-fitted-requires : goal.fitted_in-fitted-requires
@@ -101,7 +98,7 @@ old_cell-requires c =
 pub returns-in_default : goal.returns-in_default
 returns-in_default c =
     let w = c.args.path in
-    out-all (worked-out (grid_by c.args.fine) c.args.p w (on-path w c.worked_count-worked.ensures c.loop-done-test.true)
+    out-all (worked-out (grid_by c.args.fine) c.args.p.now w (on-path w c.worked_count-worked.ensures c.loop-done-test.true)
     (cell-read c.before w.year (so_far w c.loop-done.invariant c.requires.0 c.requires.1 c.requires.2).1 ∙ c.in_default.is))
 
 pub offset_bounds-ends-done : goal.offset_bounds-ends-done
@@ -116,38 +113,38 @@ overflow_add-done c = omega (arith, on-path c.args.path c.worked_count-worked.en
 pub year_after-year-requires : goal.year_after-year-requires
 year_after-year-requires c =
     let w = c.args.path in
-    let i = (in-limits-series c.args.p c.requires.0.limits).dynamics in
+    let i = (in-limits-series c.args.p.now c.requires.0.limits).dynamics in
     let v = so_far w c.loop-done.invariant c.requires.0 c.requires.1 c.requires.2 in
     λ on. rw (back i.a tt, back i.theta tt, back i.c tt)
     (year-may c.requires.0 v.1 (on-path w c.worked_count-worked.ensures c.loop-done-test.true) c.goes_on-on.ensures on)
 
 -- one cell more, whichever year the path began in
 further : (c : lts.After-year_after tie.the-claims reads.Pre reads.Post goal.the-invariant-loop-done goal.the-decreases-loop-done) (n : ℕ) → let w = along c.args.path.cohort c.args.path.age n c.args.path.count in let g = grid_by c.args.fine in
-    PathWithin c.args.p w → Worked g c.args.p w c.args.walk.ends c.args.walk.done → YearAt g c.args.p w c.args.walk.done c.args.walk.year
-    → Worked g c.args.p w (set c.loop-done.ends c.loop-done.done c.in-Of.e) (c.loop-done.done + 1)
-    × YearAt g c.args.p w (c.loop-done.done + 1) c.year_after-year.result
+    PathWithin c.args.p.now w → Worked g c.args.p.now w c.args.walk.now.ends c.args.walk.now.done → YearAt g c.args.p.now w c.args.walk.now.done c.args.walk.now.year
+    → Worked g c.args.p.now w (set c.loop-done.ends c.loop-done.done c.in-Of.e) (c.loop-done.done + 1)
+    × YearAt g c.args.p.now w (c.loop-done.done + 1) c.year_after-year.result
 further c n h a b =
     let v = c.loop-done.invariant.so_far n h a b in
     let l = on-path c.args.path c.worked_count-worked.ensures c.loop-done-test.true in
-    let i = (in-limits-series c.args.p h.limits).dynamics in
+    let i = (in-limits-series c.args.p.now h.limits).dynamics in
     let y = rw (back i.a tt, back i.theta tt, back i.c tt) at c.year_after-year.ensures in (
       worked-more v.0 c.requires.0.room l (cell-read c.before.before.before n v.1 ∙ c.in-Of.is),
       year-step h v.1 l c.goes_on-on.result c.goes_on-on.ensures y,
     )
 
 -- the year after is the set's
-next-year : (c : lts.After-year_after tie.the-claims reads.Pre reads.Post goal.the-invariant-loop-done goal.the-decreases-loop-done) → YearOf (grid_by c.args.fine) c.args.p c.year_after-year.result
+next-year : (c : lts.After-year_after tie.the-claims reads.Pre reads.Post goal.the-invariant-loop-done goal.the-decreases-loop-done) → YearOf (grid_by c.args.fine) c.args.p.now c.year_after-year.result
 next-year c = (further c c.args.path.year c.requires.0 (c.requires.1.worked c.requires.2) (c.requires.1.next c.requires.2)).1.year
 
 pub fitted_in-fitted-requires-then-on : goal.fitted_in-fitted-requires-then-on
-fitted_in-fitted-requires-then-on c = lent (next-year c.before.before.before.before.before)
+fitted_in-fitted-requires-then-on c = lent (next-year c.before)
 
 pub loop-done-smaller-then-on : goal.loop-done-smaller-then-on
 loop-done-smaller-then-on c = omega (arith, c.loop-done-test.true)
 
 pub loop-done-preserved-then-on : goal.loop-done-preserved-then-on
 loop-done-preserved-then-on c =
-    let y = c.before.before.before.before.before.before in
+    let y = c.before.before in
     record { so_far = further y; above = omega (arith, c.loop-done.invariant.above); heights = c.fitted_in-fitted-then-on.ensures (lent (next-year y)) }
 
 pub loop-done-smaller : goal.loop-done-smaller
@@ -163,22 +160,22 @@ loop-done-preserved c =
     }
 
 -- after the loop some cell is worked
-some : (c : goal.After-loop-done) → 0 < c.loop-done.done
+some : (c : lts.After-loop tie.the-claims reads.Pre reads.Post goal.the-invariant-loop-done goal.the-decreases-loop-done) → 0 < c.loop-done.done
 some c =
     cells-some c.args.path.cohort c.args.path.age c.args.path.count c.worked_count-worked.ensures c.requires.0.age (omega (arith, c.requires.3))
     c.loop-done-test.false
 
-pub repeated-all-requires : goal.repeated-all-requires
-repeated-all-requires c =
+pub repeated-requires : goal.repeated-requires
+repeated-requires c =
     let h = (so_far c.args.path c.loop-done.invariant c.requires.0 c.requires.1 c.requires.2).0 in
-    record { some = some c; rest = h.some; room = c.requires.0.room; size = h.size }
+    record { some = some c.before; rest = h.some; room = c.requires.0.room; size = h.size }
 
 pub returns : goal.returns
 returns c =
     let w = c.args.path in
-    worked-rest c.loop-done.done (some c.before) c.requires.0.room (so_far w c.loop-done.invariant c.requires.0 c.requires.1 c.requires.2).0
+    worked-rest c.loop-done.done (some c.before.before) c.requires.0.room (so_far w c.loop-done.invariant c.requires.0 c.requires.1 c.requires.2).0
     (cells_left w.cohort w.age w.count c.worked_count-worked.ensures c.loop-done-test.false)
-    c.repeated-all.ensures
+    c.repeated.ensures
 
 pub worked_count-worked-requires : goal.worked_count-worked-requires
 worked_count-worked-requires c = c.requires.0.age

@@ -1,32 +1,16 @@
-use mathlib.Core.Path.{◌≡◌, ap, sym, ◌∙◌}
-use mathlib.Core.List.{List, []}
-use Prim.Native.Nat.{ℕ, ◌+◌, ◌-◌, ◌≤◌, ◌<◌, min}
-use native.Mathlib.Omega.{arith}
-use borrow.Author.Rules.{rules}
-use lib.ListN.{get_or, set}
+use mathlib.Core.List.{List}
+use Prim.Native.Nat.{ℕ, ◌+◌, ◌-◌, ◌≤◌}
 use Rattle.number_exponential.specs.Grid.{Grid}
-use Rattle.number_whole.proofs.laws.Bound.{back}
 use Rattle.number_exponential.specs.declared.Ends.{Ends}
-use Rattle.number_exponential.specs.Units.{grid_of}
-use Rattle.number_exponential.specs.code.Flag.{unit_by, grid_by}
+use Rattle.number_exponential.specs.code.Flag.{grid_by}
 use Rattle.set_params.specs.declared.Params.{Params}
-use Rattle.set_limits.specs.laws.LimitsLaws.{in-limits-series}
-use Rattle.model_closure.specs.Weights.{first_closed, last_closed}
-use Rattle.model_closure.specs.code.Table.{weight_row}
-use Rattle.model_closure.proofs.laws.WeightLaws.{table-row}
-use Rattle.model_closure.proofs.examples.Rows.{row_within}
-use Rattle.number_folds.specs.code.Code.{most_factors}
+use Rattle.model_closure.specs.Weights.{first_closed}
 use Rattle.model_log_force.specs.declared.Year.{Year}
 use Rattle.model_cells.specs.declared.Fitted.{Fitted}
-use Rattle.model_log_force.specs.code.Year.{YearOf}
-use Rattle.model_cells.specs.code.Fitted.{FittedOf, lent}
-use Rattle.model_cells.specs.code.Code.{cell_of}
-use Rattle.model_cells.specs.laws.Answers.{old-cell}
-use Rattle.quote_paths.specs.Path.{place_at}
+use Rattle.model_cells.specs.code.Fitted.{FittedOf}
 use Rattle.quote_paths.specs.declared.Path.{Path}
 use Rattle.quote_walks.specs.code.Code.{PathWithin, Worked, YearAt}
-use Rattle.quote_walks.proofs.Steps.{along, cell_at, worked-more, worked-out, year-may, year-step}
-use Rattle.quote_factors.proofs.All.{cells-most, cells_left, cells-some, out-all, worked-rest}
+use Rattle.quote_walks.proofs.Steps.{along}
 use Rattle.quote_factors.proofs.old_factors.Given as goal
 
 -- what holds on the way, whichever year the path began in

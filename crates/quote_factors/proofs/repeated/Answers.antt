@@ -2,11 +2,11 @@
 -- the measure is the factors that are left.
 use mathlib.Core.Path.{◌≡◌, ap, sym, ◌∙◌}
 use mathlib.Core.List.{List, [], ◌∷◌, ◌++◌, append-nil, append_assoc}
-use Prim.Native.Nat.{ℕ, suc, ◌+◌, ◌-◌, ◌≤◌, ◌<◌}
+use Prim.Native.Nat.{ℕ, suc, ◌+◌, ◌-◌, ◌<◌}
 use native.Mathlib.Nat.{le_refl, sub_self}
 use native.Mathlib.Numerals.{add-one}
 use native.Mathlib.Omega.{arith}
-use lib.ListN.{length, take, set, replicate, length-set, replicate-append-replicate}
+use lib.ListN.{take, set, replicate, length-set, replicate-append-replicate}
 use lib.Seq.{take-suc-set}
 use Rattle.number_exponential.specs.declared.Ends.{Ends}
 use Rattle.number_folds.specs.code.Code.{most_factors}
@@ -46,15 +46,15 @@ loop-i-init c =
       from = le_refl c.args.done;
       to = c.requires.rest;
       size = c.requires.size;
-      ends = rw (sub_self c.args.done) (sym (append-nil (take c.args.done c.args.ends)));
+      ends = rw (sub_self c.args.done) (sym (append-nil (take c.args.done c.args.ends.now)));
     }
 
 -- a turn of the loop is at a factor for which there is room
 turn : (c : goal.In-loop-i) → c.loop-i.i < most_factors
 turn c = let p = c.requires in omega (arith, c.loop-i-test.true, p.rest, p.room)
 
-pub offset_bounds-all-i : goal.offset_bounds-all-i
-offset_bounds-all-i c = omega (arith, turn c)
+pub offset_bounds-ends-i : goal.offset_bounds-ends-i
+offset_bounds-ends-i c = omega (arith, turn c)
 
 pub overflow_add-i : goal.overflow_add-i
 overflow_add-i c = omega (arith, turn c)
@@ -73,5 +73,5 @@ returns c =
     let e : c.loop-i.i ≡ c.args.count = omega (arith, c.loop-i-test.false, v.to) in
     record { ends = rw e at v.ends; size = v.size }
 
-pub bounds-all-i : goal.bounds-all-i
-bounds-all-i c = turn c
+pub bounds-ends-i : goal.bounds-ends-i
+bounds-ends-i c = turn c

@@ -1,11 +1,7 @@
-use mathlib.Core.Path.{◌≡◌, ap, sym, ◌∙◌}
-use mathlib.Core.List.{List, [], ◌∷◌, ◌++◌, append-nil, append_assoc}
-use Prim.Native.Nat.{ℕ, suc, ◌+◌, ◌-◌, ◌≤◌, ◌<◌}
-use native.Mathlib.Nat.{le_refl, sub_self}
-use native.Mathlib.Numerals.{add-one}
-use native.Mathlib.Omega.{arith}
-use lib.ListN.{length, take, set, replicate, length-set, replicate-append-replicate}
-use lib.Seq.{take-suc-set}
+use mathlib.Core.Path.{◌≡◌}
+use mathlib.Core.List.{List, ◌++◌}
+use Prim.Native.Nat.{ℕ, ◌-◌, ◌≤◌}
+use lib.ListN.{length, take, replicate}
 use Rattle.number_exponential.specs.declared.Ends.{Ends}
 use Rattle.number_folds.specs.code.Code.{most_factors}
 use Rattle.quote_factors.proofs.repeated.Given as goal
@@ -18,7 +14,7 @@ pub record Going (ds : List Ends) (done count : ℕ) (e : Ends) (es : List Ends)
   pub ends : take i es ≡ take done ds ++ replicate (i - done) e
 
 abbrev pub invariant-loop-i : goal.invariant-loop-i
-invariant-loop-i l = Going l.initial.all l.done l.count l.last l.all l.i
+invariant-loop-i l = Going l.initial.ends l.done l.count l.last l.ends l.i
 
 abbrev pub decreases-loop-i : goal.decreases-loop-i
 decreases-loop-i l = l.count - l.i

@@ -6,7 +6,7 @@ use native.Mathlib.Omega.{arith}
 use borrow.Author.Rules.{rules}
 use lib.IntN.{ℤ, pos, nat_abs, ◌+ℤ◌}
 use mir.Syntax.{w64}
-use mir.Val.{SFits}
+use mir.Val.{SFits, to_z, of_z}
 use mir.Facts.{to_z-of_z}
 use Rattle.number_whole.specs.code.Sizes.{Under}
 use Rattle.number_whole.proofs.laws.Bound.{bits, under-lit, under-between, under-add, under-pos, fits, back}
@@ -31,15 +31,11 @@ use Rattle.quote_table_tests.proofs.table_refusal.Reads as reads
 start_under : {start : ℤ} → StartWithin start → Under start last_start
 start_under {start} w = under-between (omega (split, split-neg (pos last_start), w.first)) (omega (split, w.last))
 
--- the years from the start to the first of a quote
-abbrev to_first : ℕ
-to_first = first_years
-
 first_read : {start : ℤ} → StartWithin start
-    → SFits w64 (bits start +ℤ pos to_first) × (bits (bits start +ℤ pos to_first) ≡ start +ℤ pos to_first)
+    → SFits w64 (bits start +ℤ pos first_years) × (bits (bits start +ℤ pos first_years) ≡ start +ℤ pos first_years)
 first_read w =
     let u = start_under w in
-    sum (back u tt) refl refl (fits (under-add u (under-lit {z = pos to_first} {k = to_first} tt)) tt)
+    sum (back u tt) refl refl (fits (under-add u (under-lit {z = pos first_years} {k = first_years} tt)) tt)
 
 last-read : {start years : ℤ} → StartWithin start → Under years last_years
     → SFits w64 (bits start +ℤ bits years) × (bits (bits start +ℤ bits years) ≡ start +ℤ years)
@@ -53,10 +49,17 @@ age-test : (c : lts.After-between tie.the-claims reads.Pre reads.Post) → c.bet
 unfolding age_in_table
 age-test c = rw (to_z-of_z c.ranges.age) at c.between.ensures
 
-year-test : (c : lts.After-between2 tie.the-claims reads.Pre reads.Post) → c.between-2.result ≡ year_in_table c.args.start c.args.rule c.args.year
+-- the test of a year between the first and the last, as the code reads the three (written as the facts write it), is the table's
+year-read : (start : ℤ) (rule : Rule) {year : ℤ} {r : Bool} → StartWithin start → Under rule.years last_years → bits year ≡ year
+    → r ≡ between (to_z w64 (of_z w64 (to_z w64 (of_z w64 start) +ℤ pos first_years)))
+    (to_z w64 (of_z w64 (to_z w64 (of_z w64 start) +ℤ to_z w64 (of_z w64 rule.years)))) (to_z w64 (of_z w64 year))
+    → r ≡ year_in_table start rule year
 unfolding year_in_table
+year-read start rule w y e h = rw ((first_read w).1, (last-read w y).1, e) at h
+
+year-test : (c : lts.After-between2 tie.the-claims reads.Pre reads.Post) → c.between-2.result ≡ year_in_table c.args.start c.args.rule c.args.year
 year-test c =
-    rw ((first_read c.requires.0).1, (last-read c.requires.0 c.requires.1).1, to_z-of_z c.ranges.year) at c.between-2.ensures
+    year-read c.args.start c.args.rule c.requires.0 c.requires.1 (to_z-of_z c.ranges.year) c.between-2.ensures
 
 -- ---- past the first, the age is the table's
 

@@ -1,13 +1,13 @@
 -- `kappa_step` meets its contract: of each product the end is chosen by the sign of a, it is divided outward, and takes c.
 use borrow.Author.Rules.{rules}
 use mathlib.Core.Path.{◌≡◌, refl, ap, ◌∙◌}
-use mathlib.Core.Bool.{true, false}
+use mathlib.Core.Bool.{Bool, true, false}
 use Prim.Native.Nat.{◌+◌, ◌*◌, ◌≤◌}
 use native.Mathlib.Nat.{mul-le-mul_right}
 use native.Mathlib.Omega.{arith}
 use lib.IntN.{ℤ, pos, ◌+ℤ◌}
 use mir.Syntax.{w64}
-use mir.Val.{SFits}
+use mir.Val.{SFits, to_z, of_z}
 use Rattle.number_whole.specs.Division.{floor_div, ceil_div}
 use Rattle.number_whole.specs.code.Sizes.{Under, Within}
 use Rattle.number_whole.proofs.laws.Bound.{bits, fits, back, under-weaken}
@@ -24,19 +24,22 @@ use Rattle.set_params.specs.code.Within.{DynamicsWithin}
 use Rattle.set_series.specs.Series.{coefficient_unit, in_grid, kappa_step}
 use Rattle.set_series.proofs.laws.BoundLaws.{in_grid-under, product-under, kappa_step-under}
 use Rattle.set_series.proofs.laws.Mixed.{end_by, least-over, greatest-over, none-added}
-use Rattle.set_series.specs.code.Within.{mixed_over, MixedWithin}
+use Rattle.set_series.specs.code.Within.{number_limit, mixed_over, MixedWithin}
 use Rattle.set_series.proofs.Chosen.{chosen-under, chosen-read}
 use Rattle.set_series.proofs.kappa_step.Goals as goal
 use Rattle.set_series.proofs.kappa_step.Tie as tie
 use Rattle.set_series.proofs.kappa_step.Lts as lts
 use Rattle.set_series.proofs.kappa_step.Reads as reads
 
+-- c, as the code reads it (written as the facts write it), in the grid's units
+added-read : (fine : Bool) {c r : ℤ} → Under c constant_limit → r ≡ in_grid (grid_by fine) (to_z w64 (of_z w64 c))
+    → bits r ≡ in_grid (grid_by fine) c
+added-read fine {c} u h =
+    let g = unit_by fine in
+    read (rw (back u tt) at h) (fits (under-scaled g constant_limit (in_grid-under (grid_of g) u)) tt)
+
 -- each step fits and is read as the number that the definition has
 module _ (u : GridUnit) {d : Dynamics} {e : SignedEnds} (l : DynamicsWithin d) (w : Within ((grid_of u).scale * kappa_limit) e) where
-  -- c
-  added-under : Under (in_grid (grid_of u) d.c) (10000 * constant_limit)
-  added-under = under-scaled u constant_limit (in_grid-under (grid_of u) l.c)
-
   within : {z : ℤ} → Under z ((grid_of u).scale * kappa_limit) → MixedWithin (grid_of u) (pos 0) d.a z
   within h =
       record { factor = l.a; total = omega (arith, mul-le-mul_right kappa_limit l.a.under); end = h }
@@ -73,10 +76,12 @@ module _ (u : GridUnit) {d : Dynamics} {e : SignedEnds} (l : DynamicsWithin d) (
 
 -- ---- the function's needs
 
+-- a number with c's limit, as the code reads it, is one that `in_grid` takes
+number-under : {z : ℤ} → Under z constant_limit → Under (bits z) number_limit
+number-under u = rw (back u tt) (under-weaken u (omega arith))
+
 pub in_grid-added-requires : goal.in_grid-added-requires
-in_grid-added-requires c =
-    let l = c.before.requires.0 in
-    rw (back l.c tt) (under-weaken l.c (omega arith))
+in_grid-added-requires c = search (rules, number-under)
 
 -- the places after both choices: the first choice, c in the grid's units, and the function's start
 abbrev first : goal.After-end_by-high → lts.After-end_by tie.the-claims reads.Pre reads.Post
@@ -90,10 +95,8 @@ start c = (grid c).before.before
 
 -- c, and the two chosen ends, as they are read
 module _ (c : goal.After-end_by-high) where
-  added : bits (grid c).in_grid-added.result ≡ in_grid (grid_by (start c).args.fine) (start c).args.d.c
-  added =
-      let s = start c in
-      read (rw (back s.requires.0.c tt) at (grid c).in_grid-added.ensures) (fits (added-under (unit_by s.args.fine) s.requires.0 s.requires.1) tt)
+  added : bits c.in_grid-added.result ≡ in_grid (grid_by c.args.fine) c.args.d.c
+  added = added-read c.args.fine c.requires.0.c c.in_grid-added.ensures
 
   low : bits (first c).end_by-low.result ≡ end_by (start c).args.d.a (start c).args.e.lower (start c).args.e.upper
   low = let s = start c in chosen-read (unit_by s.args.fine) s.requires.0.a s.requires.1.low s.requires.1.high (first c).end_by-low.ensures
