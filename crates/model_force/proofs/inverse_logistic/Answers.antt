@@ -15,53 +15,44 @@ use Rattle.model_force.proofs.Ends.{log_limit, under-lower, under-upper, exp-sma
 use Rattle.model_force.proofs.inverse_logistic.Goals as goal
 use Rattle.model_force.proofs.inverse_logistic.Goals.{After-log_between-more}
 
--- what H is worked from is the force
-forced : (c : goal.After-force_to_90-u) → c.force_to_90-u.result ≡ exp_between (grid_by c.before.args.fine) (negated c.before.args.m)
-forced c = c.force_to_90-u.ensures
+-- ---- what H is worked from is the force
 
 pub log_between-more-requires : goal.log_between-more-requires
-log_between-more-requires c = exp-small (unit_by c.before.args.fine) _ (forced c)
+log_between-more-requires c = exp-small (unit_by c.args.fine) _ c.force_to_90-u.ensures
 
 -- the logarithm's ends
 lower-small : (c : After-log_between-more) → c.log_between-more.result.lower ≤ log_limit
 lower-small c =
-    let u = unit_by c.before.before.args.fine in
-    rw c.log_between-more.ensures.0 (log-lower-small u _ (omega (arith, exp-small u _ (forced c.before))))
+    let u = unit_by c.args.fine in
+    rw c.log_between-more.ensures.0 (log-lower-small u _ (omega (arith, exp-small u _ c.force_to_90-u.ensures)))
 
 upper-small : (c : After-log_between-more) → c.log_between-more.result.upper ≤ log_limit
 upper-small c =
-    let u = unit_by c.before.before.args.fine in
-    rw c.log_between-more.ensures.1 (log-upper-small u _ (omega (arith, exp-small u _ (forced c.before))))
+    let u = unit_by c.args.fine in
+    rw c.log_between-more.ensures.1 (log-upper-small u _ (omega (arith, exp-small u _ c.force_to_90-u.ensures)))
 
 pub overflow_cast-result : goal.overflow_cast-result
 overflow_cast-result c = omega (arith, lower-small c.before)
 
 pub overflow_add-result : goal.overflow_add-result
-overflow_add-result c =
-    let l = c.before.before.before.before in
-    let s = l.before.before in
-    (end-sum (under-lower (unit_by s.args.fine) s.requires) (lower-small l)).0
+overflow_add-result c = (end-sum (under-lower (unit_by c.args.fine) c.requires) (lower-small c.before.before.before.before)).0
 
 pub overflow_cast-result-2 : goal.overflow_cast-result-2
 overflow_cast-result-2 c = omega (arith, upper-small c.before.before.before.before.before)
 
 pub overflow_add-result-2 : goal.overflow_add-result-2
 overflow_add-result-2 c =
-    let l = c.before.before.before.before.before.before in
-    let s = l.before.before in
-    (end-sum (under-upper (unit_by s.args.fine) s.requires) (upper-small l)).0
+    (end-sum (under-upper (unit_by c.args.fine) c.requires) (upper-small c.before.before.before.before.before.before)).0
 
 pub returns : goal.returns
 unfolding inverse_logistic
 returns c =
     let l = c.before.before.before.before.before.before in
-    let f = l.before in
-    let s = f.before in
-    let g = grid_by s.args.fine in
-    let m = s.args.m in
-    let e = forced f in
+    let g = grid_by c.args.fine in
+    let m = c.args.m in
+    let e = c.force_to_90-u.ensures in
     both_ends
-    ((end-sum (under-lower (unit_by s.args.fine) s.requires) (lower-small l)).1
-    ∙ ap (λ (n : ℕ). m.lower +ℤ pos n) (l.log_between-more.ensures.0 ∙ ap (λ (k : Ends). log_lower g k.lower) e))
-    ((end-sum (under-upper (unit_by s.args.fine) s.requires) (upper-small l)).1
-    ∙ ap (λ (n : ℕ). m.upper +ℤ pos n) (l.log_between-more.ensures.1 ∙ ap (λ (k : Ends). log_upper g k.upper) e))
+    ((end-sum (under-lower (unit_by c.args.fine) c.requires) (lower-small l)).1
+    ∙ ap (λ (n : ℕ). m.lower +ℤ pos n) (c.log_between-more.ensures.0 ∙ ap (λ (k : Ends). log_lower g k.lower) e))
+    ((end-sum (under-upper (unit_by c.args.fine) c.requires) (upper-small l)).1
+    ∙ ap (λ (n : ℕ). m.upper +ℤ pos n) (c.log_between-more.ensures.1 ∙ ap (λ (k : Ends). log_upper g k.upper) e))
