@@ -49,7 +49,7 @@ fn closed_row(x: usize) -> usize
     x - FIRST_CLOSED
 }
 
-// Makes `count` factors of the first `done`: the last of these stands again in each place after it.
+// Repeats the last of the first `done` factors after them, to make `count`.
 fn repeated(ends: &mut [Ends; MOST_FACTORS], done: usize, count: usize)
     requires { Begun ends.old done count }
     ensures { Repeated ends.old done count ends.new }

@@ -1,21 +1,17 @@
 -- `inverse_logistic` meets its contract: the force is at most the unit, so the logarithm's ends and those of H fit.
-use mathlib.Core.Path.{◌≡◌, ap, ◌∙◌}
+use mathlib.Core.Path.{ap, ◌∙◌}
 use Prim.Native.Nat.{ℕ, ◌≤◌}
 use native.Mathlib.Omega.{arith}
-use borrow.Author.Rules.{rules}
 use lib.IntN.{pos, ◌+ℤ◌}
 use Rattle.number_exponential.specs.declared.Ends.{Ends}
-use Rattle.number_exponential.specs.Units.{grid_of}
 use Rattle.number_exponential.specs.code.Flag.{unit_by, grid_by}
-use Rattle.number_exponential.specs.Exponential.{exp_between}
 use Rattle.number_whole.proofs.Signed.{both_ends}
 use Rattle.model_logarithm.specs.Logarithm.{log_lower, log_upper, inverse_logistic}
-use Rattle.model_force.specs.Force.{negated}
 use Rattle.model_force.proofs.Ends.{log_limit, under-lower, under-upper, exp-small, log-lower-small, log-upper-small, end-sum}
 use Rattle.model_force.proofs.inverse_logistic.Goals as goal
 use Rattle.model_force.proofs.inverse_logistic.Goals.{After-log_between-more}
 
--- ---- what H is worked from is the force
+-- the force is at most the unit
 
 pub log_between-more-requires : goal.log_between-more-requires
 log_between-more-requires c = exp-small (unit_by c.args.fine) _ c.force_to_90-u.ensures
@@ -24,12 +20,12 @@ log_between-more-requires c = exp-small (unit_by c.args.fine) _ c.force_to_90-u.
 lower-small : (c : After-log_between-more) → c.log_between-more.result.lower ≤ log_limit
 lower-small c =
     let u = unit_by c.args.fine in
-    rw c.log_between-more.ensures.0 (log-lower-small u _ (omega (arith, exp-small u _ c.force_to_90-u.ensures)))
+    rw c.log_between-more.ensures.0 (log-lower-small u _ (omega (arith, log_between-more-requires c.before)))
 
 upper-small : (c : After-log_between-more) → c.log_between-more.result.upper ≤ log_limit
 upper-small c =
     let u = unit_by c.args.fine in
-    rw c.log_between-more.ensures.1 (log-upper-small u _ (omega (arith, exp-small u _ c.force_to_90-u.ensures)))
+    rw c.log_between-more.ensures.1 (log-upper-small u _ (omega (arith, log_between-more-requires c.before)))
 
 pub overflow_cast-result : goal.overflow_cast-result
 overflow_cast-result c = omega (arith, lower-small c.before)
