@@ -36,8 +36,8 @@
 
    Threads: the library has no state of its own, neither static nor by thread, and allocates nothing, so that any calls may run at
    once, also over the same sheet, as long as nothing that one of them writes is lent to another. Stack: a call needs less than
-   64 kB; measured on x86-64, read and write need some 20 kB, a query, a couple or a target 50, a verdict 60, a run 62, where they
-   work both grids. */
+   64 kB; measured on x86-64, read and write need some 18 kB, a query or a target 48, a couple 54, a verdict 61, a run 57, where
+   they work both grids. */
 #ifndef KULFIZAN_H
 #define KULFIZAN_H
 

@@ -30,7 +30,7 @@ def source(zs):
     rows = "".join(f"    {z},\n" for z in zs)
     return (
         "// The places at which the ends are printed. Written by tests/test_exp_cases.py.\n"
-        f"pub const COUNT: usize = {len(zs)};\n\npub const CASES: [u64; {len(zs)}] = [\n{rows}];\n"
+        f"pub const CASES: [u64; {len(zs)}] = [\n{rows}];\n"
     )
 
 

@@ -8,7 +8,7 @@ use Rattle.sheet.specs.Sheet.{read_sheet}
 use Rattle.number_exact.specs.Value.{Exact, OneStep}
 use Rattle.quote_kinds.specs.declared.Kind.{Kind}
 use Rattle.quote_kinds.specs.declared.Kind.TheVariants as kind
-use Rattle.quote_along.specs.declared.Answer.{Answer}
+use Rattle.quote_along.specs.QuoteBy.{Answer}
 use Rattle.quote.specs.Quote.{exact_query}
 use Rattle.quote.specs.Demand.{step}
 use Rattle.c_sheet_quote.specs.SheetQuote.{kind_of, rated_kind_of, sheet_answer, quote_no, quote_after}

@@ -10,20 +10,17 @@ ghost use Rattle.c_couple_quote.specs.SheetsCouple.{couple_kind_of, readings_ans
 
 use quote_along::Answer;
 use quote_couple_kinds::CoupleKind;
-use run_couple_query::CoupleKindRead;
 use set_refusal::Refusal;
 
-// The couple's kind of a whole word.
-fn couple_kind_of(word: &[u8]) -> CoupleKindRead
+// The couple's kind of a whole word, and where the word ends.
+fn couple_kind_of(word: &[u8]) -> Option<(CoupleKind, usize)>
     ensures { couple_kind_read word.now result ≡ couple_kind_of word.now }
 {
-    let CoupleKindRead::Of(kind, end) = run_couple_query::couple_kind_at(word, 0) else {
-        return CoupleKindRead::Malformed;
-    };
+    let (kind, end) = run_couple_query::couple_kind_at(word, 0)?;
     if end < word.len() {
-        return CoupleKindRead::Malformed;
+        return None;
     }
-    CoupleKindRead::Of(kind, end)
+    Some((kind, end))
 }
 
 // The answer to a query of two sheets.
@@ -47,7 +44,7 @@ fn sheets_answer(
     let two_set = two.set;
     let refusal = set_refusal::lower_refusal(one_refusal, two_refusal);
     if set_refusal::refusal_number(refusal) != 0 {
-        return Answer::Refused(refusal);
+        return Err(refusal);
     }
     quote_couple::couple_of(one_set, two_set, kind, age, other, year, span)
 }
@@ -73,7 +70,7 @@ pub fn couple_into(
         age other year span)
         numbers.old }
 {
-    let CoupleKindRead::Of(kind, _) = couple_kind_of(word) else {
+    let Some((kind, _)) = couple_kind_of(word) else {
         return set_refusal::refusal_number(Refusal::Malformed);
     };
     c_sheet_quote::put_answer(

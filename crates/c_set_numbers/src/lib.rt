@@ -66,8 +66,7 @@ fn put_set(values: &mut [i64], p: Params)
         p.theta,
     );
     put_four(values, 4, p.period, p.kappa, p.start, p.c);
-    let mut x: usize = 0;
-    while x < AGES {
+    for x in 0..AGES {
         let age = set_params::age_of_runs(&p.level, &p.slope, &p.alpha, &p.beta, x);
         put_four(
             values,
@@ -77,7 +76,6 @@ fn put_set(values: &mut [i64], p: Params)
             age.alpha,
             age.beta,
         );
-        x += 1;
     }
 }
 
@@ -105,23 +103,14 @@ pub fn read_into(sheet: &[u8], values: &mut [i64]) -> u8
 fn is_label(v: i64) -> bool
     ensures { result ≡ is_label v }
 {
-    if v == 0 {
-        return true;
-    }
-    v == 1
+    v == 0 || v == 1
 }
 
 // Whether these numbers are a set's.
 fn are_set(values: &[i64]) -> bool
     ensures { result ≡ are_set values.now }
 {
-    if values.len() != SET_LENGTH {
-        return false;
-    }
-    if !is_label(values[0]) {
-        return false;
-    }
-    is_label(values[1])
+    values.len() == SET_LENGTH && is_label(values[0]) && is_label(values[1])
 }
 
 // The table of a number.
@@ -150,10 +139,8 @@ fn run(values: &[i64], from: usize) -> [i64; AGES]
     ensures { result ≡ run_from from (drop 2 values.now) }
 {
     let mut out = [0i64; AGES];
-    let mut age: usize = 0;
-    while age < AGES {
-        out[age] = values[2 + from + 4 * age];
-        age += 1;
+    for (age, value) in out.iter_mut().enumerate() {
+        *value = values[2 + from + 4 * age];
     }
     out
 }

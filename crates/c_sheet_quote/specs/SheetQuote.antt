@@ -1,5 +1,5 @@
 -- A query of a sheet, with a rate, a date or neither: its answer, the answer's number, and the five numbers in which a quote is told.
-use Rattle.std.specs.Prelude.{cond, ◌||◌, List, [], ◌∷◌, ◌++◌, ℕ, leb, ℤ, length, drop}
+use Rattle.std.specs.Prelude.{cond, ◌||◌, List, [], ◌∷◌, ◌++◌, ℕ, leb, ℤ, length, drop, Ok, Err}
 use Rattle.text_tokens.specs.Text.{Parse, malformed, taken, and_then}
 use Rattle.set_refusal.specs.declared.Refusal.TheVariants.{Accepted, Malformed, BufferTooShort}
 use Rattle.set_refusal.specs.Refusals.{refusal_number}
@@ -11,8 +11,7 @@ use Rattle.number_exact.specs.declared.Figure.{Figure}
 use Rattle.number_exact.specs.declared.Figure.TheVariants.{Printed, Open}
 use Rattle.quote_kinds.specs.declared.Kind.{Kind}
 use Rattle.quote_along.specs.declared.Quote.{Quote}
-use Rattle.quote_along.specs.declared.Answer.{Answer}
-use Rattle.quote_along.specs.declared.Answer.TheVariants.{Quoted, Refused}
+use Rattle.quote_along.specs.QuoteBy.{Answer}
 use Rattle.quote.specs.Quote.{answer_of}
 use Rattle.quote_kinds.specs.Kinds.{rule_of, takes_rate, with_rate}
 use Rattle.run_query.specs.Query.{word_of, on_offer, whole_word}
@@ -35,8 +34,8 @@ rated_kind_of word rate = and_then (word_kind word) (λ kind rest. cond (takes_r
 
 -- malformed, which has the lowest number; else the sheet's refusal; else the answer of its set
 unfoldable pub answer_to : Parse Kind → Reading → ℤ → ℤ → ℤ → Answer
-answer_to malformed got age year term = Refused Malformed
-answer_to (taken kind rest) got age year term = by_sheet Refused (λ p. answer_of p kind age year term) got
+answer_to malformed got age year term = Err Malformed
+answer_to (taken kind rest) got age year term = by_sheet Err (λ p. answer_of p kind age year term) got
 
 -- the answer to a query of a sheet's bytes, by the kind that was read
 unfoldable pub sheet_answer : List ℕ → Parse Kind → ℤ → ℤ → ℤ → Answer
@@ -78,9 +77,9 @@ quoted_after q before = cond (leb quote_length (length before)) (quote_over q be
 
 -- of any answer: a refusal's number comes before short, and then "untouched buffers"
 unfoldable pub quote_no : Answer → ℕ → ℕ
-quote_no (Quoted q) places = quoted_no places
-quote_no (Refused r) places = refusal_number r
+quote_no (Ok q) places = quoted_no places
+quote_no (Err r) places = refusal_number r
 
 unfoldable pub quote_after : Answer → List ℕ → List ℕ
-quote_after (Quoted q) before = quoted_after q before
-quote_after (Refused r) before = before
+quote_after (Ok q) before = quoted_after q before
+quote_after (Err r) before = before

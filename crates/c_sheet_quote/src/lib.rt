@@ -14,53 +14,46 @@ use number_exact::Figure;
 use number_exponential::GridUnit;
 use quote_along::{Answer, Quote};
 use quote_kinds::Kind;
-use run_query::KindRead;
 use set_refusal::Refusal;
 
 // The two ends, whether the figure is printed, its steps, and the ends' unit.
 const QUOTE_LENGTH: usize = 5;
 
-// The kind of a whole word, rates aside.
-fn word_kind(word: &[u8]) -> KindRead
+// The kind of a whole word, rates aside, and where the word ends.
+fn word_kind(word: &[u8]) -> Option<(Kind, usize)>
     ensures { kind_read word.now result ≡ word_kind word.now }
 {
-    let KindRead::Of(kind, end) = run_query::kind_at(word, 0) else {
-        return KindRead::Malformed;
-    };
+    let (kind, end) = run_query::kind_at(word, 0)?;
     if end < word.len() {
-        return KindRead::Malformed;
+        return None;
     }
-    KindRead::Of(kind, end)
+    Some((kind, end))
 }
 
 // The kind of a word with a span and no rate: malformed where it takes a rate or a date.
-fn kind_of(word: &[u8]) -> KindRead
+fn kind_of(word: &[u8]) -> Option<(Kind, usize)>
     ensures { kind_read word.now result ≡ kind_of word.now }
 {
-    let KindRead::Of(kind, end) = word_kind(word) else {
-        return KindRead::Malformed;
-    };
+    let (kind, end) = word_kind(word)?;
     if run_query::takes_rate(kind) {
-        return KindRead::Malformed;
+        return None;
     }
     let rule = quote_kinds::rule_of(kind);
     if rule.dated {
-        return KindRead::Malformed;
+        return None;
     }
-    KindRead::Of(kind, end)
+    Some((kind, end))
 }
 
 // The kind of a word with a rate: malformed where it takes none.
-fn rated_kind_of(word: &[u8], rate: i64) -> KindRead
+fn rated_kind_of(word: &[u8], rate: i64) -> Option<(Kind, usize)>
     ensures { kind_read word.now result ≡ rated_kind_of word.now rate }
 {
-    let KindRead::Of(kind, end) = word_kind(word) else {
-        return KindRead::Malformed;
-    };
+    let (kind, end) = word_kind(word)?;
     if !run_query::takes_rate(kind) {
-        return KindRead::Malformed;
+        return None;
     }
-    KindRead::Of(run_query::with_rate(kind, rate), end)
+    Some((run_query::with_rate(kind, rate), end))
 }
 
 // The answer to a query of a sheet.
@@ -71,7 +64,7 @@ fn sheet_answer(sheet: &[u8], kind: Kind, age: i64, year: i64, term: i64) -> Ans
     let refusal = got.refusal;
     let set = got.set;
     if set_refusal::refusal_number(refusal) != 0 {
-        return Answer::Refused(refusal);
+        return Err(refusal);
     }
     quote::quote_of(set, kind, age, year, term)
 }
@@ -138,15 +131,15 @@ pub fn put_answer(numbers: &mut [u64], answer: Answer) -> u8
     ensures numbers_after { numbers.new ≡ quote_after answer numbers.old }
 {
     match answer {
-        Answer::Quoted(quote) => put_quote(numbers, quote),
-        Answer::Refused(refusal) => set_refusal::refusal_number(refusal),
+        Ok(quote) => put_quote(numbers, quote),
+        Err(refusal) => set_refusal::refusal_number(refusal),
     }
 }
 
 // Answers a query of a sheet, of the kind that was read, in the first five numbers: malformed where none was.
 fn answer_into(
     sheet: &[u8],
-    read: KindRead,
+    read: Option<(Kind, usize)>,
     age: i64,
     year: i64,
     term: i64,
@@ -158,7 +151,7 @@ fn answer_into(
         (sheet_answer sheet.now (kind_read [] read) age year term)
         numbers.old }
 {
-    let KindRead::Of(kind, _) = read else {
+    let Some((kind, _)) = read else {
         return set_refusal::refusal_number(Refusal::Malformed);
     };
     put_answer(numbers, sheet_answer(sheet, kind, age, year, term))

@@ -2,10 +2,6 @@
 // day, else its year, the days of the year and the days since 1 January, YYYYDDDddd.
 #![tactic(auto)]
 
-ghost use Rattle.std.specs.Prelude.{◌+◌, ◌≤◌, length};
-ghost use Rattle.text_words.specs.code.Word.{word_bytes};
-
-use run_streams::Input;
 use std::io;
 use std::io::{Eprint, Print};
 use text_words::BYTES;
@@ -33,28 +29,16 @@ fn case_of(date: i64) -> u64 {
     year * 1_000_000 + quote_calendar::year_days(year) * 1000 + quote_calendar::day_of_year(date)
 }
 
-fn put_word(bytes: &mut [u8], at: usize, word: u64)
-    requires { at + word_bytes ≤ length bytes.old }
-{
-    let from = text_words::bytes_of(word);
-    let mut i = 0;
-    while i < BYTES {
-        bytes[at + i] = from[i];
-        i += 1;
-    }
-}
-
+// Each date's word in its place; what is left behind the last stays.
 fn put_cases(bytes: &mut [u8]) {
-    let mut at = 0;
-    while bytes.len() - at >= BYTES {
-        let date = signed(text_words::word_at(bytes, at));
-        put_word(bytes, at, case_of(date));
-        at += BYTES;
+    for word in bytes.chunks_exact_mut(BYTES) {
+        let date = signed(text_words::word_at(word, 0));
+        word.copy_from_slice(&text_words::bytes_of(case_of(date)));
     }
 }
 
 fn answer<R: io::Input + Print + Eprint>(rt: &R, bytes: &mut [u8]) {
-    let Input::Read(len) = run_streams::read_all(rt, bytes) else {
+    let Some(len) = run_streams::read_all(rt, bytes) else {
         return;
     };
     put_cases(bytes);

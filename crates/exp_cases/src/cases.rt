@@ -1,6 +1,4 @@
 // The places at which the ends are printed. Written by tests/test_exp_cases.py.
-pub const COUNT: usize = 191;
-
 pub const CASES: [u64; 191] = [
     0,
     1,

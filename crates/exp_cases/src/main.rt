@@ -3,21 +3,20 @@
 
 mod cases;
 
-use cases::{CASES, COUNT};
+use cases::CASES;
+use number_exponential::GridUnit;
 use std::io;
 use std::io::Print;
 
 fn print_case<R: Print>(rt: &R, z: u64) -> io::Result<()> {
-    let lower = number_exp_ends::exp_lower(false, z);
-    let upper = number_exp_ends::exp_upper(false, z);
+    let lower = number_exp_ends::exp_lower(GridUnit::Coarse, z);
+    let upper = number_exp_ends::exp_upper(GridUnit::Coarse, z);
     println!(rt; "{z} {lower} {upper}")
 }
 
 fn main(rt: HostRuntime) -> io::Result<()> {
-    let mut i = 0;
-    while i < COUNT {
-        print_case(&rt, CASES[i])?;
-        i += 1;
+    for z in CASES {
+        print_case(&rt, z)?;
     }
     Ok(())
 }

@@ -1,6 +1,6 @@
 -- The ends of H as the loop fills them in, and what it has at the end.
 use mathlib.Core.Path.{◌≡◌, refl, sym, ◌∙◌}
-use mathlib.Core.Bool.{true, false, and-false}
+use mathlib.Core.Bool.{false, and-false}
 use mathlib.Core.List.{List}
 use mathlib.Core.Logic.{⊎_elim}
 use Prim.Native.Nat.{ℕ, zero, suc, ◌+◌, ◌≤◌, ◌<◌}
@@ -34,7 +34,7 @@ use Rattle.model_force.specs.Force.{negated}
 use Rattle.model_mortality.specs.Cell.{young_force, fitted_ends, fitted_list, fitted_in_range}
 use Rattle.model_mortality.proofs.laws.Needed.{fitted-range}
 use Rattle.model_mortality.proofs.laws.Holds.{fitted-at}
-use Rattle.model_cells.specs.declared.Fitted.{Fitted}
+use Rattle.std.specs.Prelude.{Some, None}
 use Rattle.model_cells.specs.code.Fitted.{FittedOf}
 use Rattle.model_force.proofs.Ends.{under-lower, under-upper, exp-small, log-lower-small, log-upper-small, end-under}
 
@@ -77,10 +77,9 @@ range-out g p n i (suc k) h e =
     ⊎_elim (λ q. rw (← q, e) (and-false (fitted_in_range g p n i))) (λ l. rw (range-out g p n i k l e))
     (eq-or-lt_of_le (le_of_suc-le-suc h))
 
-pub fitted-out : (g : Grid) (p : Params) (n i : ℕ) (es : List SignedEnds) → i < fitted → in_range g (log_force g p (first_fitted + i) n) ≡ false
-    → FittedOf g p n (record { ok = false; ends = es })
-fitted-out g p n i es h e =
-    record { ok = sym (range-out g p n i fitted h e); ends = λ t. absurd t; limit = λ t. absurd t }
+pub fitted-out : (g : Grid) (p : Params) (n i : ℕ) → i < fitted → in_range g (log_force g p (first_fitted + i) n) ≡ false
+    → FittedOf g p n None
+fitted-out g p n i h e = record { ok = sym (range-out g p n i fitted h e); ends = tt; limit = tt }
 
 -- the ends of H are within their limit
 fitted-within : (u : GridUnit) (p : Params) (n y : ℕ) → Negated (grid_of u) (log_force (grid_of u) p y n) log_force_width
@@ -95,15 +94,15 @@ fitted-within u p n y r =
       high = under-weaken (end-under (under-upper u r) (log-upper-small u e.upper s.1)) (lit≤ tt);
     }
 
-pub fitted-all : (u : GridUnit) (p : Params) (n : ℕ) (f : Fitted) → T (in_limits p) → n ≤ last_years → f.ok ≡ true
-    → FittedTo (grid_of u) p n f.ends fitted → FittedOf (grid_of u) p n f
+pub fitted-all : (u : GridUnit) (p : Params) (n : ℕ) (es : List SignedEnds) → T (in_limits p) → n ≤ last_years
+    → FittedTo (grid_of u) p n es fitted → FittedOf (grid_of u) p n (Some es)
 unfolding fitted_list
-fitted-all u p n f t l k h =
+fitted-all u p n es t l h =
     let g = grid_of u in
-    let e : f.ends ≡ fitted_list g p n = sym (take_all fitted f.ends (omega (arith, h.size))) ∙ h.ends in
+    let e : es ≡ fitted_list g p n = sym (take_all fitted es (omega (arith, h.size))) ∙ h.ends in
     record {
-      ok = k ∙ sym (is_true (fitted_in_range g p n fitted) h.range);
-      ends = λ b. e;
-      limit = λ b i j. rw (e, fitted-at g p n i j) (fitted-within u p n (first_fitted + i)
+      ok = sym (is_true (fitted_in_range g p n fitted) h.range);
+      ends = e;
+      limit = λ i j. rw (e, fitted-at g p n i j) (fitted-within u p n (first_fitted + i)
           (log_force-negated g p t (omega arith) l (fitted-range g p n fitted i j h.range)));
     }

@@ -1,6 +1,7 @@
 -- The weighted sums as the code forms them: each fits 64 bits, and is read as the number that the definition has.
-use mathlib.Core.Path.{◌≡◌, refl}
-use mathlib.Core.List.{List}
+use mathlib.Core.Path.{◌≡◌, refl, ap, ◌∙◌}
+use Rattle.std.proofs.Common.{◌⊎◌, inl, inr, length, drop, pos, length-drop, drop-cons}
+use mathlib.Core.List.{List, ◌∷◌}
 use Prim.Native.Nat.{ℕ, zero, suc, ◌+◌, ◌*◌, ◌≤◌, ◌<◌}
 use native.Mathlib.Numerals.{add-one}
 use native.Mathlib.Omega.{arith}
@@ -59,3 +60,45 @@ module _ (row : List ℤ) (hs : List SignedEnds) (r : RowWithin row) (h : (i : �
   sums-within n k =
       let a = sums-grow n k in
       record { low = under-weaken a.low (omega arith); high = under-weaken a.high (omega arith) }
+
+-- after i products: the two sums, and the weights and the ends of H that are left
+pub record Summed (row : List ℤ) (hs : List SignedEnds) (i : ℕ) (ws : List ℤ) (es : List SignedEnds) (sums : SignedEnds) : Type 0 where
+  pub counted : i ≤ fitted
+  pub is : sums ≡ sums_to (weight_of row) hs i
+  pub weights : ws ≡ drop i row
+  pub ends : es ≡ drop i hs
+
+module _ {row : List ℤ} {hs : List SignedEnds} (size : length row ≡ fitted) (size' : length hs ≡ fitted) {i : ℕ} {ws : List ℤ}
+    {es : List SignedEnds} {s : SignedEnds} (h : Summed row hs i ws es s) where
+  -- the next weight and the next ends are those at i
+  module _ {w : ℤ} {e : SignedEnds} {ws' : List ℤ} {es' : List SignedEnds} (l : ws ≡ w ∷ ws' × es ≡ e ∷ es') where
+    pub below : i < fitted
+    below = omega (arith, length-drop i row, ap length h.weights, ap length l.0)
+
+    pub weight-is : w ≡ weight_of row i
+    weight-is = let d = drop-cons row i (pos 0) (omega (arith, below)) in cc (h.weights, l.0)
+
+    pub ends-are : e ≡ ends_at hs i
+    ends-are = let d = drop-cons hs i (record { lower = pos 0; upper = pos 0 }) (omega (arith, below)) in cc (h.ends, l.1)
+
+    -- one product more
+    pub summed-next : {r : SignedEnds} → r ≡ with_product s w e → Summed row hs (i + 1) ws' es' r
+    summed-next f =
+        let d = drop-cons row i (pos 0) (omega (arith, below)) in
+        let d' = drop-cons hs i (record { lower = pos 0; upper = pos 0 }) (omega (arith, below)) in
+        record {
+          counted = omega (arith, below);
+          is = f ∙ rw (h.is, weight-is, ends-are) (sums_next (weight_of row) hs i);
+          weights = rw (add-one i) (cc (h.weights, l.0));
+          ends = rw (add-one i) (cc (h.ends, l.1));
+        }
+
+  -- none is left
+  pub summed : length ws ≡ 0 ⊎ length es ≡ 0 → s ≡ sums_to (weight_of row) hs fitted
+  summed n =
+      let k = elim n as (λ _. fitted ≤ i) [
+        | inl z ↦ omega (arith, length-drop i row, ap length h.weights)
+        | inr z ↦ omega (arith, length-drop i hs, ap length h.ends)
+      ] in
+      let e : i ≡ fitted = omega (arith, h.counted) in
+      rw e at h.is

@@ -86,11 +86,8 @@ pub fn closed_sum(row: [i64; 11], h: [SignedEnds; 11]) -> SignedEnds
     ensures { result ≡ weighted_mean (weight_of row) h }
 {
     let mut sums = SignedEnds { lower: 0, upper: 0 };
-    let mut i = 0;
-    while i < FITTED {
-        let e = h[i];
-        sums = add_product(sums, row[i], e);
-        i += 1;
+    for (w, e) in row.iter().zip(&h) {
+        sums = add_product(sums, *w, *e);
     }
     let least = sums.lower;
     let greatest = sums.upper;

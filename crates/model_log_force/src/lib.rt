@@ -3,11 +3,12 @@
 #![tactic(auto)]
 
 ghost use Rattle.std.specs.Prelude.{◌≡◌};
-ghost use Rattle.number_exponential.specs.code.Flag.{grid_by};
+ghost use Rattle.number_exponential.specs.Units.{grid_of};
 ghost use Rattle.model_log_force.specs.LogForce.{cell_force, in_range};
 ghost use Rattle.model_log_force.specs.code.Within.{CellLimits};
 ghost use Rattle.model_log_force.specs.code.Year.{SeriesOf, YearFrom, YearWithin, NextOf};
 
+use number_exponential::GridUnit;
 use number_whole::SignedEnds;
 use set_params::{Age, Dynamics};
 
@@ -25,36 +26,36 @@ pub struct Year {
 }
 
 // The log force at an age, of K and kappa in a year.
-pub fn log_force(fine: bool, age: Age, period: i64, kappas: SignedEnds) -> SignedEnds
-    requires { CellLimits (grid_by fine) age period kappas }
-    ensures { result ≡ cell_force (grid_by fine) age period kappas }
+pub fn log_force(grid: GridUnit, age: Age, period: i64, kappas: SignedEnds) -> SignedEnds
+    requires { CellLimits (grid_of grid) age period kappas }
+    ensures { result ≡ cell_force (grid_of grid) age period kappas }
 {
-    let fixed = set_series::in_grid(fine, age.level + age.alpha);
+    let fixed = set_series::in_grid(grid, age.level + age.alpha);
     let trend = age.slope * period;
     let beta = age.beta;
     let low = number_whole::end_by(beta, kappas.lower, kappas.upper);
     let high = number_whole::end_by(beta, kappas.upper, kappas.lower);
-    let lower = fixed + set_series::mixed_over(fine, trend, beta, low, false);
-    let upper = fixed + set_series::mixed_over(fine, trend, beta, high, true);
+    let lower = fixed + set_series::mixed_over(grid, trend, beta, low, false);
+    let upper = fixed + set_series::mixed_over(grid, trend, beta, high, true);
     SignedEnds { lower, upper }
 }
 
 // The range of a needed cell.
-pub fn in_range(fine: bool, m: SignedEnds) -> bool
-    ensures { result ≡ in_range (grid_by fine) m }
+pub fn in_range(grid: GridUnit, m: SignedEnds) -> bool
+    ensures { result ≡ in_range (grid_of grid) m }
 {
-    let lowest = set_series::in_grid(fine, LOWEST_FORCE);
-    let highest = set_series::in_grid(fine, HIGHEST_FORCE);
+    let lowest = set_series::in_grid(grid, LOWEST_FORCE);
+    let highest = set_series::in_grid(grid, HIGHEST_FORCE);
     lowest <= m.lower && m.upper <= highest
 }
 
 // Year n of a set's series, of K and kappa in the start year: the set itself would be copied for the call.
-pub fn year_at(fine: bool, d: Dynamics, start: i64, kappa: i64, n: u64) -> Year
-    requires { SeriesOf (grid_by fine) d start kappa n }
-    ensures { YearFrom (grid_by fine) d start kappa n result }
+pub fn year_at(grid: GridUnit, d: Dynamics, start: i64, kappa: i64, n: u64) -> Year
+    requires { SeriesOf (grid_of grid) d start kappa n }
+    ensures { YearFrom (grid_of grid) d start kappa n result }
 {
     let period = set_series::period_index(start, d.theta, n);
-    let kappas = set_series::kappa_at(fine, d, kappa, n);
+    let kappas = set_series::kappa_at(grid, d, kappa, n);
     Year {
         number: n,
         period,
@@ -63,12 +64,12 @@ pub fn year_at(fine: bool, d: Dynamics, start: i64, kappa: i64, n: u64) -> Year
 }
 
 // The year after.
-pub fn next_year(fine: bool, d: Dynamics, y: Year) -> Year
-    requires { YearWithin (grid_by fine) d y }
-    ensures { NextOf (grid_by fine) d y result }
+pub fn next_year(grid: GridUnit, d: Dynamics, y: Year) -> Year
+    requires { YearWithin (grid_of grid) d y }
+    ensures { NextOf (grid_of grid) d y result }
 {
     let kappas = y.kappas;
-    let next = set_series::kappa_step(fine, d, kappas);
+    let next = set_series::kappa_step(grid, d, kappas);
     Year {
         number: y.number + 1,
         period: y.period + d.theta,
@@ -77,10 +78,10 @@ pub fn next_year(fine: bool, d: Dynamics, y: Year) -> Year
 }
 
 // The log force at an age of a year.
-pub fn log_force_at(fine: bool, age: Age, y: Year) -> SignedEnds
-    requires { CellLimits (grid_by fine) age y.period y.kappas }
-    ensures { result ≡ cell_force (grid_by fine) age y.period y.kappas }
+pub fn log_force_at(grid: GridUnit, age: Age, y: Year) -> SignedEnds
+    requires { CellLimits (grid_of grid) age y.period y.kappas }
+    ensures { result ≡ cell_force (grid_of grid) age y.period y.kappas }
 {
     let kappas = y.kappas;
-    log_force(fine, age, y.period, kappas)
+    log_force(grid, age, y.period, kappas)
 }

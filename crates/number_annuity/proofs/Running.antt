@@ -6,13 +6,14 @@ use native.Mathlib.Nat.{mul-le-mul_right}
 use native.Mathlib.Numerals.{add-one}
 use native.Mathlib.Omega.{arith}
 use lib.ListN.{length, take}
-use lib.Seq.{length-take-le}
+use lib.Seq.{length-take-le, take-length}
 use Rattle.number_exponential.specs.Grid.{Grid}
 use Rattle.number_exponential.specs.declared.Ends.{Ends}
 use Rattle.number_folds.specs.Folds.{one, with_factor, plus}
+use Rattle.number_folds.specs.laws.Each.{each_take}
 use Rattle.number_folds.specs.code.Code.{AtMost, most_factors, Chances}
 use Rattle.number_folds.proofs.laws.Bounds.{with-factor-at-most}
-use Rattle.number_folds.proofs.Running.{SurvivalTo, first, within}
+use Rattle.number_folds.proofs.Running.{SurvivalTo}
 use Rattle.number_annuity.specs.Annuity.{discounted, discount_over, payment_after, annuity_over}
 use Rattle.number_annuity.proofs.laws.Steps.{annuity-none, annuity-next}
 use Rattle.number_annuity.proofs.laws.Bounds.{discount-at-most, annuity-at-most}
@@ -63,13 +64,12 @@ payment-to {g} h j e =
 
 -- ---- the price
 
-module _ {g : Grid} (rate : ℕ) {factors : List Ends} {count : ℕ} (size : length factors ≡ most_factors)
-    (k : Chances g factors count) where
-  price-to : {i : ℕ} {s : Ends} → i ≤ count → s ≡ price_at g rate factors i → PriceTo g rate factors i s
+module _ {g : Grid} (rate : ℕ) {factors : List Ends} (k : Chances g factors) where
+  price-to : {i : ℕ} {s : Ends} → i ≤ length factors → s ≡ price_at g rate factors i → PriceTo g rate factors i s
   price-to {i} l e =
-      let a = annuity-at-most g g.positive rate (first size k i l) in
+      let a = annuity-at-most g g.positive rate (each_take i k.each) in
       let n : suc (length (take i factors)) ≤ suc most_factors =
-      rw (length-take-le i factors (within size k i l)) (omega (arith, k.room)) in
+      rw (length-take-le i factors l) (omega (arith, k.room)) in
       let m = mul-le-mul_right g.unit n in
       record { is = e; small = rw e (record { lower = omega (arith, a.lower); upper = omega (arith, a.upper) }) }
 
@@ -81,11 +81,16 @@ module _ {g : Grid} (rate : ℕ) {factors : List Ends} {count : ℕ} (size : len
       (ap (λ (n : ℕ). record { lower = n; upper = n }) e ∙ sym (annuity-none g rate g.positive factors))
 
   -- over one factor more it has one payment more
-  pub price-more : {i : ℕ} {s r t : Ends} → i < count → PriceTo g rate factors i s → PaymentTo g rate factors (i + 1) r
+  pub price-more : {i : ℕ} {s r t : Ends} → i < length factors → PriceTo g rate factors i s → PaymentTo g rate factors (i + 1) r
       → t ≡ plus s r → PriceTo g rate factors (i + 1) t
   price-more {i} {s} {r} {t} l h j e =
       price-to {i = i + 1} (omega arith)
       (e ∙ ap₂ plus h.is j.is
       ∙ ap (λ (n : ℕ). plus (price_at g rate factors i) (payment_after g rate factors n)) (add-one i)
-      ∙ sym (annuity-next g rate factors i (within size k (suc i) l))
+      ∙ sym (annuity-next g rate factors i l)
       ∙ ap (price_at g rate factors) (sym (add-one i)))
+
+-- the price over all of them
+pub price-all : {g : Grid} {rate : ℕ} {factors : List Ends} {i : ℕ} {s : Ends} → i ≡ length factors → PriceTo g rate factors i s
+    → s ≡ annuity_over g rate factors
+price-all {g} {rate} {factors} e h = h.is ∙ ap (price_at g rate factors) e ∙ ap (annuity_over g rate) (take-length factors)

@@ -1,14 +1,13 @@
-// The price of an annuity on a grid, as a fold over the factors of a path: one pass over an array of factors.
+// The price of an annuity on a grid, as a fold over the factors of a path: one pass over the factors.
 #![tactic(auto)]
 
-ghost use Rattle.std.specs.Prelude.{◌≡◌, ◌≤◌, take};
-ghost use Rattle.number_exponential.specs.Units.{ten_trillionths};
-ghost use Rattle.number_exponential.specs.code.Flag.{grid_by};
+ghost use Rattle.std.specs.Prelude.{◌≡◌, ◌≤◌};
+ghost use Rattle.number_exponential.specs.Units.{ten_trillionths, grid_of};
 ghost use Rattle.number_folds.specs.code.Code.{AtMost, Chances};
 ghost use Rattle.number_annuity.specs.Annuity.{most_rate, discounted, annuity_over};
 
-use number_exponential::{Ends, unit_by};
-use number_folds::{MOST_FACTORS, with_factor};
+use number_exponential::{Ends, GridUnit, unit_by};
+use number_folds::with_factor;
 use number_whole::ceil_div_u;
 
 // What a rate is counted in, and the highest one.
@@ -17,6 +16,7 @@ const RATE_UNIT: u64 = 1_000_000;
 pub const MOST_RATE: u64 = 200_000;
 
 // A discount over one year more: of either grid it fits, times 10^6, as no unit is smaller than the fine one.
+#[tactic(auto, unfolding(crate::specs::Annuity::discounted, number_exponential::specs::Outward::outward_over))]
 fn discounted(d: Ends, rate: u64) -> Ends
     requires { AtMost ten_trillionths.unit d × (rate ≤ most_rate) }
     ensures { result ≡ discounted rate d }
@@ -28,12 +28,12 @@ fn discounted(d: Ends, rate: u64) -> Ends
     }
 }
 
-// The price over the first `count` factors: 1 now, and after each factor the discount times the survival to it.
-pub fn annuity_over(fine: bool, factors: [Ends; MOST_FACTORS], count: usize, rate: u64) -> Ends
-    requires { Chances (grid_by fine) factors count × (rate ≤ most_rate) }
-    ensures { result ≡ annuity_over (grid_by fine) rate (take count factors) }
+// The price over the factors: 1 now, and after each factor the discount times the survival to it.
+pub fn annuity_over(grid: GridUnit, factors: &[Ends], rate: u64) -> Ends
+    requires { Chances (grid_of grid) factors.now × (rate ≤ most_rate) }
+    ensures { result ≡ annuity_over (grid_of grid) rate factors.now }
 {
-    let whole = unit_by(fine);
+    let whole = unit_by(grid);
     let one = Ends {
         lower: whole,
         upper: whole,
@@ -41,19 +41,15 @@ pub fn annuity_over(fine: bool, factors: [Ends; MOST_FACTORS], count: usize, rat
     let mut price = one;
     let mut discount = one;
     let mut survival = one;
-    let mut k = 0;
-    while k < count {
-        let p = factors[k];
-        let longer = with_factor(fine, survival, p);
+    for p in factors {
+        survival = with_factor(grid, survival, *p);
         let later = discounted(discount, rate);
-        let payment = with_factor(fine, later, longer);
+        let payment = with_factor(grid, later, survival);
         price = Ends {
             lower: price.lower + payment.lower,
             upper: price.upper + payment.upper,
         };
         discount = later;
-        survival = longer;
-        k += 1;
     }
     price
 }

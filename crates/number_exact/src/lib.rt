@@ -22,6 +22,7 @@ pub enum Figure {
 }
 
 // An end in steps, rounded half up.
+#[tactic(auto, unfolding(crate::specs::Figure::half_up))]
 fn half_up(step: u64, e: u64) -> u64
     requires { (0 < step) × (step ≤ 2 ^ 40) × (e < 2 ^ 62) }
     ensures { result ≡ half_up step e }
@@ -30,6 +31,7 @@ fn half_up(step: u64, e: u64) -> u64
 }
 
 // The figure of two ends.
+#[tactic(auto, unfolding(crate::specs::Figure::figure_of, crate::specs::Figure::half_up))]
 pub fn figure_of(step: u64, lower: u64, upper: u64) -> Figure
     requires { (0 < step) × (step ≤ 2 ^ 40) × (lower < 2 ^ 62) × (upper < 2 ^ 62) }
     ensures { result ≡ figure_of step (record { lower = lower; upper = upper }) }
@@ -43,11 +45,9 @@ pub fn figure_of(step: u64, lower: u64, upper: u64) -> Figure
 }
 
 // Whether a figure is open.
+#[tactic(auto, unfolding(crate::specs::Figure::is_open))]
 pub fn is_open(figure: Figure) -> bool
     ensures { result ≡ is_open figure }
 {
-    match figure {
-        Figure::Printed(_) => false,
-        Figure::Open => true,
-    }
+    matches!(figure, Figure::Open)
 }

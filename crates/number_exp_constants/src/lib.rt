@@ -2,9 +2,10 @@
 #![tactic(auto)]
 
 ghost use Rattle.std.specs.Prelude.{◌≡◌};
-ghost use Rattle.number_exponential.specs.Units.{billionths, ten_trillionths};
+ghost use Rattle.number_exponential.specs.Units.{billionths, ten_trillionths, grid_of};
 ghost use Rattle.number_exponential.specs.Exponential.{constant_lower};
-ghost use Rattle.number_exponential.specs.code.Flag.{grid_by};
+
+use number_exponential::GridUnit;
 
 // The whole part of 10^9·e^−(n/2). A constant array would be built anew at each call; of the cases the compiler makes a table.
 fn coarse_part(n: u64) -> u64
@@ -127,11 +128,11 @@ fn fine_part(n: u64) -> u64
 }
 
 // The whole part of unit·e^−(n/2).
-pub fn whole_part(fine: bool, n: u64) -> u64
-    ensures { result ≡ constant_lower (grid_by fine) n }
+pub fn whole_part(grid: GridUnit, n: u64) -> u64
+    ensures { result ≡ constant_lower (grid_of grid) n }
 {
-    if fine {
-        return fine_part(n);
+    match grid {
+        GridUnit::Coarse => coarse_part(n),
+        GridUnit::Fine => fine_part(n),
     }
-    coarse_part(n)
 }

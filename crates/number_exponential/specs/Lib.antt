@@ -2,5 +2,4 @@ pub mod Grid
 pub mod Exponential
 pub mod Units
 pub mod Outward
-pub mod code
 pub mod examples

@@ -3,10 +3,10 @@
 #![tactic(auto)]
 
 ghost use Rattle.std.specs.Prelude.{◌≡◌};
-ghost use Rattle.number_exponential.specs.code.Flag.{unit_by, grid_by};
+ghost use Rattle.number_exponential.specs.Units.{grid_of};
 
-// The unit of two ends: 10^-9 or 10^-13.
-#[derive(Clone, Copy)]
+// A grid, named by its unit: 10^-9 or 10^-13. The ends of a quote lie on one of them.
+#[derive(Clone, Copy, PartialEq, Eq)]
 pub enum GridUnit {
     Coarse,
     Fine,
@@ -33,22 +33,12 @@ pub struct Ends {
     pub upper: u64,
 }
 
-// Units in 1 of a grid, by whether it is the fine one.
-pub fn unit_by(fine: bool) -> u64
-    ensures { result ≡ (grid_by fine).unit }
+// Units in 1 of a grid.
+pub fn unit_by(grid: GridUnit) -> u64
+    ensures { result ≡ (grid_of grid).unit }
 {
-    if fine {
-        return FINE_UNIT;
+    match grid {
+        GridUnit::Coarse => UNIT,
+        GridUnit::Fine => FINE_UNIT,
     }
-    UNIT
-}
-
-// The unit of a grid, by whether it is the fine one.
-pub fn named_unit(fine: bool) -> GridUnit
-    ensures { result ≡ unit_by fine }
-{
-    if fine {
-        return GridUnit::Fine;
-    }
-    GridUnit::Coarse
 }

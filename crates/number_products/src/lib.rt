@@ -3,10 +3,9 @@
 #![tactic(auto)]
 
 ghost use Rattle.std.specs.Prelude.{◌≡◌, ◌+◌, ◌*◌, ◌/◌, ◌≤◌, ◌<◌};
-ghost use Rattle.number_exponential.specs.Units.{ten_trillionths};
-ghost use Rattle.number_exponential.specs.code.Flag.{grid_by};
+ghost use Rattle.number_exponential.specs.Units.{ten_trillionths, grid_of};
 
-use number_exponential::{FINE_UNIT, UNIT};
+use number_exponential::{FINE_UNIT, GridUnit, UNIT};
 
 // (a·b + c)/10^13, with a = a1·10^7 + a0, b = b1·10^7 + b0 and a1·b0 + a0·b1 = m1·10^6 + m0:
 // a·b = 10^13·(10·a1·b1 + m1) + m0·10^7 + a0·b0.
@@ -24,14 +23,14 @@ fn fine_product(a: u64, b: u64, c: u64) -> u64
 }
 
 // (a·b + c)/unit, by whether the unit is the fine one: rounded down where c is 0, and rounded up where it is one less than the unit.
-pub fn product_by(fine: bool, a: u64, b: u64, c: u64) -> u64
-    requires { (a ≤ (grid_by fine).unit) × (b ≤ (grid_by fine).unit) × (c ≤ (grid_by fine).unit) }
-    ensures { result ≡ (a * b + c) / (grid_by fine).unit }
+pub fn product_by(grid: GridUnit, a: u64, b: u64, c: u64) -> u64
+    requires { (a ≤ (grid_of grid).unit) × (b ≤ (grid_of grid).unit) × (c ≤ (grid_of grid).unit) }
+    ensures { result ≡ (a * b + c) / (grid_of grid).unit }
 {
-    if fine {
-        return fine_product(a, b, c);
+    match grid {
+        GridUnit::Coarse => (a * b + c) / UNIT,
+        GridUnit::Fine => fine_product(a, b, c),
     }
-    (a * b + c) / UNIT
 }
 
 // (n·10^13 + c)/d by long division: the rests times 10^4, 10^4 and 10^5.
@@ -46,12 +45,12 @@ fn fine_quotient(n: u64, d: u64, c: u64) -> u64
 }
 
 // (n·unit + c)/d for a divisor of one or two units: rounded down where c is 0, and rounded up where it is one less than d.
-pub fn quotient_by(fine: bool, n: u64, d: u64, c: u64) -> u64
-    requires { (n ≤ (grid_by fine).unit) × ((grid_by fine).unit ≤ d) × (d ≤ 2 * (grid_by fine).unit) × (c < d) }
-    ensures { result ≡ (n * (grid_by fine).unit + c) / d }
+pub fn quotient_by(grid: GridUnit, n: u64, d: u64, c: u64) -> u64
+    requires { (n ≤ (grid_of grid).unit) × ((grid_of grid).unit ≤ d) × (d ≤ 2 * (grid_of grid).unit) × (c < d) }
+    ensures { result ≡ (n * (grid_of grid).unit + c) / d }
 {
-    if fine {
-        return fine_quotient(n, d, c);
+    match grid {
+        GridUnit::Coarse => (n * UNIT + c) / d,
+        GridUnit::Fine => fine_quotient(n, d, c),
     }
-    (n * UNIT + c) / d
 }

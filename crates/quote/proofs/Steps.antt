@@ -1,4 +1,5 @@
 -- What the proofs of quotes share: the refusal by its tests, and the answer by that along the query's path.
+use Rattle.std.specs.Prelude.{Ok, Err}
 use mathlib.Core.Path.{◌≡◌, refl, ap, sym, ◌∙◌}
 use mathlib.Core.Bool.{Bool, true, false, cond}
 use mathlib.Core.List.{List, [], ◌∷◌, ◌++◌}
@@ -29,8 +30,7 @@ use Rattle.quote_kinds.specs.Kinds.{rule_of, count_of, step_of, span_of, part_of
 use Rattle.quote_table_tests.specs.TableTests.{age_in_table, year_in_table, date_in_table, span_in_table, rate_in_table, Test, first_failed, table_tests}
 use Rattle.quote_table_tests.proofs.laws.TableLaws.{InTable}
 use Rattle.quote_along.specs.declared.Quote.{Quote}
-use Rattle.quote_along.specs.declared.Answer.{Answer}
-use Rattle.quote_along.specs.declared.Answer.TheVariants.{Quoted, Refused}
+use Rattle.quote_along.specs.QuoteBy.{Answer}
 use Rattle.quote_along.specs.code.Code.{in_range_or, quote_for, path_quote}
 use Rattle.quote.specs.Quote.{query_path, query_ends, quote_of, refusal_of, answer_by, answer_of}
 use Rattle.quote.specs.code.Code.{answer_for}
@@ -41,7 +41,7 @@ use Rattle.quote.proofs.laws.Tests.{kind-within, Counted, part-within, part-afte
 -- ---- the refusal
 
 -- one that has a number is an answer, and the tests before it decide
-pub refused : (r : Refusal) (q : Quote) → (refusal_number r ≡ 0 → ⊥) → Refused r ≡ answer_by r q
+pub refused : (r : Refusal) (q : Quote) → (refusal_number r ≡ 0 → ⊥) → Err r ≡ answer_by r q
 unfolding answer_by
 refused r q n = rw (ne_eqb (refusal_number r) 0 n)
 
@@ -110,7 +110,7 @@ years-under k = let w = kind-within k in rw w.years-are (under-pos w.last)
 
 -- a set out of its limits
 pub refused-out-of-limits : (p : Params) (k : Kind) (age year term : ℤ) → in_limits p ≡ false
-    → Refused OutOfLimits ≡ answer_of p k age year term
+    → Err OutOfLimits ≡ answer_of p k age year term
 unfolding answer_of answer_by refusal_number
 refused-out-of-limits p k age year term e = rw (out-of-limits p k age year term e)
 
@@ -126,7 +126,7 @@ number-none = refl
 
 pub table-answer : (again : Bool) (p : Params) (k : Kind) (age year term : ℤ) {r : Refusal} → T (in_limits p)
     → r ≡ first_failed (table_tests p.start (rule_of k) age year term) → (refusal_number r ≡ 0 → ⊥)
-    → Refused r ≡ answer_for again p k age year term
+    → Err r ≡ answer_for again p k age year term
 unfolding answer_for
 table-answer again p k age year term {r} t e n =
     let q = quote_for again (step_of (rule_of k).fold) (query_ends p k age year term) in

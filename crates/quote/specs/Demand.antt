@@ -1,5 +1,5 @@
 -- What an answer reports, and what is promised of it (paper 01, "Figures on offer" and "The exact value").
-use Rattle.std.specs.Prelude.{◌≡◌, ◌↔◌, ℕ, ◌+◌, ◌*◌, ◌≤◌, ℤ, nat_abs}
+use Rattle.std.specs.Prelude.{◌≡◌, ◌↔◌, ℕ, ◌+◌, ◌*◌, ◌≤◌, ℤ, nat_abs, Ok, Err}
 use Rattle.number_exponential.specs.Units.{billionths, grid_of, width_times}
 use Rattle.number_exponential.specs.declared.GridUnit.{GridUnit}
 use Rattle.number_exponential.specs.declared.GridUnit.TheVariants.{Coarse, Fine}
@@ -14,8 +14,7 @@ use Rattle.number_exact.specs.Value.{Exact, AtLeast, AtMost, RoundsTo, OneStep, 
 use Rattle.number_exact.specs.Figure.{half_up}
 use Rattle.quote_kinds.specs.declared.Kind.{Kind}
 use Rattle.quote_kinds.specs.Kinds.{OneKind, rule_of, step_of, width_of, span_of}
-use Rattle.quote_along.specs.declared.Answer.{Answer}
-use Rattle.quote_along.specs.declared.Answer.TheVariants.{Quoted, Refused}
+use Rattle.quote_along.specs.QuoteBy.{Answer}
 use Rattle.quote.specs.Quote.{query_ends, exact_query, refusal_of, answer_of}
 
 -- ---- the number, the ends and the figure of an answer: "A refusal has its number, ends 0 and 0, no figure"
@@ -31,25 +30,25 @@ shown_of (Printed n) = printed n
 shown_of Open = marked_open
 
 unfoldable pub number_of : Answer → ℕ
-number_of (Quoted q) = 0
-number_of (Refused r) = refusal_number r
+number_of (Ok q) = 0
+number_of (Err r) = refusal_number r
 
 unfoldable pub lower_of : Answer → ℕ
-lower_of (Quoted q) = q.lower
-lower_of (Refused r) = 0
+lower_of (Ok q) = q.lower
+lower_of (Err r) = 0
 
 unfoldable pub upper_of : Answer → ℕ
-upper_of (Quoted q) = q.upper
-upper_of (Refused r) = 0
+upper_of (Ok q) = q.upper
+upper_of (Err r) = 0
 
 -- "a refusal's is 10^-9"
 unfoldable pub unit_of : Answer → GridUnit
-unit_of (Quoted q) = q.unit
-unit_of (Refused r) = Coarse
+unit_of (Ok q) = q.unit
+unit_of (Err r) = Coarse
 
 unfoldable pub figure_shown : Answer → Shown
-figure_shown (Quoted q) = shown_of q.figure
-figure_shown (Refused r) = no_figure
+figure_shown (Ok q) = shown_of q.figure
+figure_shown (Err r) = no_figure
 
 -- ---- what is promised of an answer
 

@@ -1,6 +1,6 @@
 -- A quote of any set, kind, age, year and term (paper 01, "Figures on offer"): its refusal, and else its ends and figure. A kind
 -- that takes a rate has it. The term is a span, or of the kind `day` a date.
-use Rattle.std.specs.Prelude.{cond, List, [], ◌∷◌, ◌++◌, ℕ, ◌+◌, eqb, ℤ, nat_abs}
+use Rattle.std.specs.Prelude.{cond, List, [], ◌∷◌, ◌++◌, ℕ, ◌+◌, eqb, ℤ, nat_abs, Ok, Err}
 use Rattle.number_exponential.specs.declared.Ends.{Ends}
 use Rattle.number_exponential.specs.Units.{billionths, grid_of}
 use Rattle.number_exponential.specs.declared.GridUnit.{GridUnit}
@@ -17,9 +17,7 @@ use Rattle.quote_kinds.specs.declared.Kind.{Kind}
 use Rattle.quote_kinds.specs.Kinds.{rule_of, count_of, step_of, span_of, part_of}
 use Rattle.quote_table_tests.specs.TableTests.{first_failed, table_tests}
 use Rattle.quote_along.specs.declared.Quote.{Quote}
-use Rattle.quote_along.specs.QuoteBy.{quote_by}
-use Rattle.quote_along.specs.declared.Answer.{Answer}
-use Rattle.quote_along.specs.declared.Answer.TheVariants.{Quoted, Refused}
+use Rattle.quote_along.specs.QuoteBy.{quote_by, Answer}
 
 -- ---- the path, the ends and the exact value, of an age, a year and a term in the table
 
@@ -51,7 +49,7 @@ quote_of p kind age year term = quote_by (step_of (rule_of kind).fold) (query_en
 
 -- a quote where nothing is refused
 unfoldable pub answer_by : Refusal → Quote → Answer
-answer_by r q = cond (eqb (refusal_number r) 0) (Quoted q) (Refused r)
+answer_by r q = cond (eqb (refusal_number r) 0) (Ok q) (Err r)
 
 unfoldable pub answer_of : Params → Kind → ℤ → ℤ → ℤ → Answer
 answer_of p kind age year term = answer_by (refusal_of p kind age year term) (quote_of p kind age year term)

@@ -43,7 +43,7 @@ pub fn answer_within(again: bool, p: Params, kind: Kind, age: i64, year: i64, te
     let rule = quote_kinds::rule_of(kind);
     let refusal = quote_table_tests::table_refusal(p.start, rule, age, year, term);
     if set_refusal::refusal_number(refusal) != 0 {
-        return Answer::Refused(refusal);
+        return Err(refusal);
     }
     let fold = rule.fold;
     let path = path_to(p.start, kind, age, year, term);
@@ -56,7 +56,7 @@ pub fn quote_of(p: Params, kind: Kind, age: i64, year: i64, term: i64) -> Answer
     ensures honest { Demand3 p kind age year term result }
 {
     if !set_limits::in_limits(p) {
-        return Answer::Refused(Refusal::OutOfLimits);
+        return Err(Refusal::OutOfLimits);
     }
     answer_within(true, p, kind, age, year, term)
 }

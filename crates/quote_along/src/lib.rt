@@ -3,7 +3,6 @@
 #![tactic(auto)]
 
 ghost use Rattle.std.specs.Prelude.{◌≡◌, ◌&&◌, ◌≤◌};
-ghost use Rattle.number_exponential.specs.code.Flag.{unit_by};
 ghost use Rattle.quote_walks.specs.code.Code.{PathWithin};
 ghost use Rattle.quote_kinds.specs.code.Code.{RateWithin};
 ghost use Rattle.number_folds.specs.code.Code.{most_factors};
@@ -26,13 +25,10 @@ pub struct Quote {
 }
 
 // A quote, or the refusal.
-#[derive(Clone, Copy)]
-pub enum Answer {
-    Quoted(Quote),
-    Refused(Refusal),
-}
+pub type Answer = Result<Quote, Refusal>;
 
 // One factor more where there are days.
+#[tactic(auto, unfolding(crate::specs::code::Code::count_with))]
 fn count_with(count: usize, days: u64) -> usize
     requires { count ≤ most_factors }
     ensures { result ≡ count_with count days }
@@ -44,21 +40,18 @@ fn count_with(count: usize, days: u64) -> usize
 }
 
 // The quote of a fold on one grid, or the refusal of a cell that is out of range there.
-pub fn answer_along(fine: bool, p: Params, fold: Fold, path: Path, part: Part) -> Answer
+pub fn answer_along(grid: GridUnit, p: Params, fold: Fold, path: Path, part: Part) -> Answer
     requires { PathWithin p path × PartWithin path part × RateWithin fold }
-    ensures { AnswerAlong (unit_by fine) p fold path part result }
+    ensures { AnswerAlong grid p fold path part result }
 {
-    let worked = quote_factors::all_factors(fine, p, path, part);
-    if !worked.ok {
-        return Answer::Refused(Refusal::LogForceOutOfRange);
-    }
-    let ends = worked.ends;
+    let Some(ends) = quote_factors::all_factors(grid, p, path, part) else {
+        return Err(Refusal::LogForceOutOfRange);
+    };
     let count = count_with(path.count, part.days);
-    let e = quote_kinds::folded(fine, fold, ends, count);
-    let figure = number_exact::figure_of(quote_kinds::step_on(fine, fold), e.lower, e.upper);
-    let unit = number_exponential::named_unit(fine);
-    Answer::Quoted(Quote {
-        unit,
+    let e = quote_kinds::folded(grid, fold, &ends[..count]);
+    let figure = number_exact::figure_of(quote_kinds::step_on(grid, fold), e.lower, e.upper);
+    Ok(Quote {
+        unit: grid,
         lower: e.lower,
         upper: e.upper,
         figure,
@@ -66,17 +59,11 @@ pub fn answer_along(fine: bool, p: Params, fold: Fold, path: Path, part: Part) -
 }
 
 // Whether an answer is to be worked again: it may be, and is a quote whose figure is open.
+#[tactic(auto, unfolding(crate::specs::code::Code::left_open))]
 pub fn is_left_open(again: bool, answer: Answer) -> bool
     ensures { result ≡ again && left_open answer }
 {
-    if !again {
-        return false;
-    }
-    let Answer::Quoted(quote) = answer else {
-        return false;
-    };
-    let figure = quote.figure;
-    number_exact::is_open(figure)
+    again && matches!(answer, Ok(quote) if number_exact::is_open(quote.figure))
 }
 
 // The quote of a fold, worked again on the fine grid where its figure is open and it may be. Two rounds of one loop, not two calls:
@@ -85,15 +72,12 @@ pub fn quote_along(again: bool, p: Params, fold: Fold, path: Path, part: Part) -
     requires { PathWithin p path × PartWithin path part × RateWithin fold }
     ensures { QuoteAlong again p fold path part result }
 {
-    let mut fine = false;
-    loop {
-        let answer = answer_along(fine, p, fold, path, part);
-        if fine {
-            return answer;
+    let mut grid = GridUnit::Coarse;
+    'round: loop {
+        let answer = answer_along(grid, p, fold, path, part);
+        match grid {
+            GridUnit::Coarse if is_left_open(again, answer) => grid = GridUnit::Fine,
+            _ => return answer,
         }
-        if !is_left_open(again, answer) {
-            return answer;
-        }
-        fine = true;
     }
 }

@@ -18,13 +18,7 @@ const LEAP_BEFORE: [u64; 14] = [
 fn leap_year(year: u64) -> bool
     ensures { result ≡ leap_year year }
 {
-    if year % 4 != 0 {
-        return false;
-    }
-    if year % 100 != 0 {
-        return true;
-    }
-    year % 400 == 0
+    year % 4 == 0 && (year % 100 != 0 || year % 400 == 0)
 }
 
 // The days of a year.
@@ -68,10 +62,7 @@ fn month_days(leap: bool, month: u64) -> u64
 fn between(low: u64, high: u64, n: u64) -> bool
     ensures { result ≡ between low high n }
 {
-    if low <= n {
-        return n <= high;
-    }
-    false
+    (low..=high).contains(&n)
 }
 
 // Whether a number without a sign is a day.
@@ -80,31 +71,16 @@ fn is_plain_day(z: u64) -> bool
 {
     let year = z / 10_000;
     let month = z / 100 % 100;
-    if !between(1000, 9999, year) {
-        return false;
-    }
-    if !between(1, 12, month) {
-        return false;
-    }
-    between(1, month_days(leap_year(year), month), z % 100)
-}
-
-// A date that is not negative, without its sign.
-fn plain(date: i64) -> u64
-    requires { pos (nat_abs date) ≡ date }
-    ensures { result ≡ nat_abs date }
-{
-    date as u64
+    between(1000, 9999, year)
+        && between(1, 12, month)
+        && between(1, month_days(leap_year(year), month), z % 100)
 }
 
 // Whether a number is a day.
 pub fn is_day(date: i64) -> bool
     ensures { result ≡ is_day date }
 {
-    if date < 0 {
-        return false;
-    }
-    is_plain_day(plain(date))
+    date >= 0 && is_plain_day(date.unsigned_abs())
 }
 
 // The year of a day.
@@ -112,7 +88,7 @@ pub fn date_year(date: i64) -> u64
     requires { T (is_day date) }
     ensures { result ≡ date_year (nat_abs date) }
 {
-    plain(date) / 10_000
+    date.unsigned_abs() / 10_000
 }
 
 // The days since 1 January of a day's year.
@@ -120,7 +96,7 @@ pub fn day_of_year(date: i64) -> u64
     requires { T (is_day date) }
     ensures { result ≡ day_of_year (nat_abs date) }
 {
-    let z = plain(date);
+    let z = date.unsigned_abs();
     let before = days_before(leap_year(z / 10_000), z / 100 % 100);
     before + (z % 100 - 1)
 }

@@ -1,6 +1,6 @@
 -- Two quotes compared by their ends, in the finer of their units: the first is below the second or above it, with the least and the
 -- most between them, or near, with the most that they can differ by; beside it the two figures. And what that says of exact values.
-use Rattle.std.specs.Prelude.{cond, ℕ, ◌*◌, ◌-◌, ◌/◌, ◌≤◌, ◌<◌, max, ltb}
+use Rattle.std.specs.Prelude.{cond, ℕ, ◌*◌, ◌-◌, ◌/◌, ◌≤◌, ◌<◌, max, ltb, Result, Ok, Err}
 use Rattle.number_fraction.specs.Ratio.{◌</◌, ◌+/◌}
 use Rattle.number_taylor.specs.Order.{least_order}
 use Rattle.number_exponential.specs.Grid.{Grid, in_units}
@@ -9,15 +9,13 @@ use Rattle.number_exponential.specs.declared.GridUnit.{GridUnit}
 use Rattle.number_exponential.specs.declared.GridUnit.TheVariants.{Coarse, Fine}
 use Rattle.number_exponential.specs.Units.{grid_of}
 use Rattle.number_exact.specs.Value.{Exact, AtLeast, AtMost}
+use Rattle.set_refusal.specs.declared.Refusal.{Refusal}
 use Rattle.quote_along.specs.declared.Quote.{Quote}
-use Rattle.quote_along.specs.declared.Answer.{Answer}
-use Rattle.quote_along.specs.declared.Answer.TheVariants.{Quoted, Refused}
+use Rattle.quote_along.specs.QuoteBy.{Answer}
 use Rattle.quote_compare.specs.declared.Excess.{Excess}
 use Rattle.quote_compare.specs.declared.Values.{Values}
 use Rattle.quote_compare.specs.declared.Values.TheVariants.{Below, Above, Near}
 use Rattle.quote_compare.specs.declared.Pair.{Pair}
-use Rattle.quote_compare.specs.declared.Comparison.{Comparison}
-use Rattle.quote_compare.specs.declared.Comparison.TheVariants.{Compared, NotCompared}
 
 -- by how many units a value between the second ends exceeds one between the first: at least the gap between the two pairs
 -- of ends, and at most from end to end
@@ -53,11 +51,15 @@ pair_of q q' =
     let u = finer q.unit q'.unit in
     record { first = q.figure; second = q'.figure; values = values_of (ends_in u q) (ends_in u q'); unit = u }
 
+-- two answers compared, or the refusal of one
+abbrev pub Comparison : Type 0
+Comparison = Result Pair Refusal
+
 -- of two answers: a refusal, the first's or, if it has none, the second's; and else the two quotes compared
 unfoldable pub comparison_of : Answer → Answer → Comparison
-comparison_of (Refused r) b = NotCompared r
-comparison_of (Quoted q) (Refused r) = NotCompared r
-comparison_of (Quoted q) (Quoted q') = Compared (pair_of q q')
+comparison_of (Err r) b = Err r
+comparison_of (Ok q) (Err r) = Err r
+comparison_of (Ok q) (Ok q') = Ok (pair_of q q')
 
 -- ---- what below, above and near say of two exact values, whatever they are the values of
 

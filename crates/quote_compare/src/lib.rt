@@ -3,7 +3,7 @@
 // differ by.
 #![tactic(auto)]
 
-ghost use Rattle.std.specs.Prelude.{◌≡◌, ◌-◌};
+ghost use Rattle.std.specs.Prelude.{◌≡◌};
 ghost use Rattle.number_exponential.specs.Units.{grid_of};
 ghost use Rattle.quote.specs.Quote.{answer_of};
 ghost use Rattle.quote_compare.specs.Compare.{excess, values_of, finer, ends_in, pair_of, comparison_of};
@@ -41,28 +41,14 @@ pub struct Pair {
 }
 
 // Two answers compared, or the refusal of one.
-#[derive(Clone, Copy)]
-pub enum Comparison {
-    Compared(Pair),
-    NotCompared(Refusal),
-}
-
-// The first number less the second, and 0 where the second is greater.
-fn less(a: u64, b: u64) -> u64
-    ensures { result ≡ a - b }
-{
-    if a < b {
-        return 0;
-    }
-    a - b
-}
+pub type Comparison = Result<Pair, Refusal>;
 
 // By how much a value between the second ends exceeds one between the first.
 fn excess_of(a: Ends, b: Ends) -> Excess
     ensures { result ≡ excess a b }
 {
-    let least = less(b.lower, a.upper);
-    let most = less(b.upper, a.lower);
+    let least = b.lower.saturating_sub(a.upper);
+    let most = b.upper.saturating_sub(a.lower);
     Excess { least, most }
 }
 
@@ -78,10 +64,7 @@ fn values_of(a: Ends, b: Ends) -> Values
     }
     let over = a.upper - b.lower;
     let under = b.upper - a.lower;
-    if over < under {
-        return Values::Near(under);
-    }
-    Values::Near(over)
+    Values::Near(over.max(under))
 }
 
 // The finer of two units.
@@ -141,13 +124,9 @@ pub fn compare(a: Answer, b: Answer) -> Comparison
     requires { SmallAnswer a × SmallAnswer b }
     ensures { result ≡ comparison_of a b }
 {
-    match a {
-        Answer::Quoted(first) => match b {
-            Answer::Quoted(second) => Comparison::Compared(pair_of(first, second)),
-            Answer::Refused(refusal) => Comparison::NotCompared(refusal),
-        },
-        Answer::Refused(refusal) => Comparison::NotCompared(refusal),
-    }
+    let first = a?;
+    let second = b?;
+    Ok(pair_of(first, second))
 }
 
 // Compares any two queries.

@@ -1,5 +1,6 @@
 -- The answer to a couple's query in the steps of the code: a set out of its limits, starts that differ, the table's refusal, and
 -- else what is answered along the two paths.
+use Rattle.std.specs.Prelude.{Err}
 use mathlib.Core.Path.{◌≡◌, refl, ap, sym, ◌∙◌}
 use mathlib.Core.Bool.{Bool, true, false, cond, ◌&&◌}
 use mathlib.Core.List.{append-nil}
@@ -23,10 +24,8 @@ use Rattle.quote_couple_kinds.specs.CoupleKinds.{single_of}
 use Rattle.quote_table_tests.specs.TableTests.{age_in_table, year_in_table, span_in_table, first_failed, table_tests}
 use Rattle.quote_table_tests.proofs.laws.TableLaws.{in_table}
 use Rattle.quote_along.specs.declared.Quote.{Quote}
-use Rattle.quote_along.specs.QuoteBy.{quote_by}
+use Rattle.quote_along.specs.QuoteBy.{quote_by, Answer}
 use Rattle.quote_along.specs.code.Code.{in_range_or}
-use Rattle.quote_along.specs.declared.Answer.{Answer}
-use Rattle.quote_along.specs.declared.Answer.TheVariants.{Refused}
 use Rattle.quote.specs.Quote.{query_path, answer_by}
 use Rattle.quote.specs.code.Code.{path_to}
 use Rattle.quote.proofs.laws.Tests.{counted, path-first, path_room, path-in}
@@ -68,22 +67,22 @@ module _ (p p' : Params) (k : CoupleKind) (age age' year span : ℤ) where
   quote = quote_by (couple_step k) (couple_ends p p' k age age' year span)
 
   answered : (r : Refusal) → (refusal_number r ≡ 0 → ⊥) → couple_refusal p p' k age age' year span ≡ r
-      → Refused r ≡ couple_answer p p' k age age' year span
+      → Err r ≡ couple_answer p p' k age age' year span
   unfolding couple_answer quote
   answered r n e = refused r quote n ∙ ap (λ (s : Refusal). answer_by s quote) (sym e)
 
   -- a set out of its limits
-  pub first_out : in_limits p ≡ false → Refused OutOfLimits ≡ couple_answer p p' k age age' year span
+  pub first_out : in_limits p ≡ false → Err OutOfLimits ≡ couple_answer p p' k age age' year span
   unfolding couple_refusal first_failed refusal_number
   first_out e = answered OutOfLimits (λ z. omega (arith, z)) (rw e)
 
-  pub second-out : T (in_limits p) → in_limits p' ≡ false → Refused OutOfLimits ≡ couple_answer p p' k age age' year span
+  pub second-out : T (in_limits p) → in_limits p' ≡ false → Err OutOfLimits ≡ couple_answer p p' k age age' year span
   unfolding couple_refusal first_failed refusal_number
   second-out l e = answered OutOfLimits (λ z. omega (arith, z)) (rw (is_true (in_limits p) l, e))
 
   module _ (l : T (in_limits p)) (l' : T (in_limits p')) where
     -- starts that differ
-    pub starts-differ : (p.start ≡ p'.start → ⊥) → Refused StartsDiffer ≡ couple_answer p p' k age age' year span
+    pub starts-differ : (p.start ≡ p'.start → ⊥) → Err StartsDiffer ≡ couple_answer p p' k age age' year span
     unfolding couple_refusal first_failed refusal_number
     starts-differ n =
         answered StartsDiffer (λ z. omega (arith, z))
@@ -92,7 +91,7 @@ module _ (p p' : Params) (k : CoupleKind) (age age' year span : ℤ) where
     module _ (same : p.start ≡ p'.start) where
       -- the table refuses
       pub table-refuses : {r : Refusal} → r ≡ first_failed (couple_table p.start (rule_of (single_of k)) age age' year span)
-          → (refusal_number r ≡ 0 → ⊥) → Refused r ≡ couple_answer p p' k age age' year span
+          → (refusal_number r ≡ 0 → ⊥) → Err r ≡ couple_answer p p' k age age' year span
       unfolding couple_refusal
       table-refuses {r} e n =
           answered r n

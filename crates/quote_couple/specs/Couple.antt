@@ -18,8 +18,7 @@ use Rattle.quote_couple_kinds.specs.CoupleKinds.{single_of, couple_width}
 use Rattle.quote_two_lives.specs.TwoLives.{couple_over}
 use Rattle.quote_two_lives.specs.Exact.{order_couple_over}
 use Rattle.quote_table_tests.specs.TableTests.{Test, age_in_table, year_in_table, span_in_table, first_failed}
-use Rattle.quote_along.specs.declared.Answer.{Answer}
-use Rattle.quote_along.specs.QuoteBy.{quote_by}
+use Rattle.quote_along.specs.QuoteBy.{Answer, quote_by}
 use Rattle.quote.specs.Quote.{query_path, answer_by}
 use Rattle.quote.specs.Demand.{printed, figure_shown, Promised}
 

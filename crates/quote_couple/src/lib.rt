@@ -4,7 +4,6 @@
 
 ghost use Rattle.std.specs.Prelude.{◌≡◌, T};
 ghost use Rattle.number_whole.specs.code.Sizes.{Under};
-ghost use Rattle.number_exponential.specs.code.Flag.{unit_by};
 ghost use Rattle.set_limits.specs.InLimits.{in_limits};
 ghost use Rattle.set_params.specs.Limits.{last_years};
 ghost use Rattle.set_params.specs.code.Within.{StartWithin};
@@ -13,6 +12,7 @@ ghost use Rattle.quote_table_tests.specs.TableTests.{first_failed};
 ghost use Rattle.quote_couple.specs.Couple.{couple_table, couple_answer, CoupleDemand3};
 ghost use Rattle.quote_couple.specs.code.Code.{paths_answer, paths_quote, Plain};
 
+use number_exponential::GridUnit;
 use quote_along::{Answer, Quote};
 use quote_couple_kinds::CoupleKind;
 use quote_kinds::Rule;
@@ -32,7 +32,7 @@ fn table_refusal(start: i64, rule: Rule, age: i64, other: i64, year: i64, span: 
 
 // The quote along the paths of the two lives on one grid, or the refusal of a cell that is out of range there.
 fn answer_on(
-    fine: bool,
+    grid: GridUnit,
     first: Params,
     second: Params,
     kind: CoupleKind,
@@ -40,25 +40,21 @@ fn answer_on(
     other: Path,
 ) -> Answer
     requires { PathWithin first path × PathWithin second other × (path.count ≡ other.count) }
-    ensures { result ≡ paths_answer (unit_by fine) first second kind (path_is path) (path_is other) }
+    ensures { result ≡ paths_answer grid first second kind (path_is path) (path_is other) }
 {
-    let one = quote_factors::factors_of(fine, first, path);
-    if !one.ok {
-        return Answer::Refused(Refusal::LogForceOutOfRange);
-    }
-    let two = quote_factors::factors_of(fine, second, other);
-    if !two.ok {
-        return Answer::Refused(Refusal::LogForceOutOfRange);
-    }
-    let ends = one.ends;
-    let others = two.ends;
-    let e = quote_two_lives::couple_over(fine, kind, ends, others, path.count);
+    let Some(one) = quote_factors::factors_of(grid, first, path) else {
+        return Err(Refusal::LogForceOutOfRange);
+    };
+    let Some(two) = quote_factors::factors_of(grid, second, other) else {
+        return Err(Refusal::LogForceOutOfRange);
+    };
+    let count = path.count;
+    let e = quote_two_lives::couple_over(grid, kind, &one[..count], &two[..count]);
     let rule = quote_kinds::rule_of(quote_couple_kinds::single_of(kind));
     let fold = rule.fold;
-    let figure = number_exact::figure_of(quote_kinds::step_on(fine, fold), e.lower, e.upper);
-    let unit = number_exponential::named_unit(fine);
-    Answer::Quoted(Quote {
-        unit,
+    let figure = number_exact::figure_of(quote_kinds::step_on(grid, fold), e.lower, e.upper);
+    Ok(Quote {
+        unit: grid,
         lower: e.lower,
         upper: e.upper,
         figure,
@@ -70,16 +66,13 @@ fn couple_along(first: Params, second: Params, kind: CoupleKind, path: Path, oth
     requires { PathWithin first path × PathWithin second other × (path.count ≡ other.count) }
     ensures { result ≡ paths_quote first second kind (path_is path) (path_is other) }
 {
-    let mut fine = false;
-    loop {
-        let answer = answer_on(fine, first, second, kind, path, other);
-        if fine {
-            return answer;
+    let mut grid = GridUnit::Coarse;
+    'round: loop {
+        let answer = answer_on(grid, first, second, kind, path, other);
+        match grid {
+            GridUnit::Coarse if quote_along::is_left_open(true, answer) => grid = GridUnit::Fine,
+            _ => return answer,
         }
-        if !quote_along::is_left_open(true, answer) {
-            return answer;
-        }
-        fine = true;
     }
 }
 
@@ -97,13 +90,13 @@ pub fn couple_within(
     ensures { result ≡ couple_answer first second kind age other year span }
 {
     if first.start != second.start {
-        return Answer::Refused(Refusal::StartsDiffer);
+        return Err(Refusal::StartsDiffer);
     }
     let single = quote_couple_kinds::single_of(kind);
     let rule = quote_kinds::rule_of(single);
     let refusal = table_refusal(first.start, rule, age, other, year, span);
     if set_refusal::refusal_number(refusal) != 0 {
-        return Answer::Refused(refusal);
+        return Err(refusal);
     }
     let path = quote::path_to(first.start, single, age, year, span);
     let apart = quote::path_to(second.start, single, other, year, span);
@@ -124,10 +117,10 @@ pub fn couple_of(
     ensures honest { CoupleDemand3 first second kind age other year span result }
 {
     if !set_limits::in_limits(first) {
-        return Answer::Refused(Refusal::OutOfLimits);
+        return Err(Refusal::OutOfLimits);
     }
     if !set_limits::in_limits(second) {
-        return Answer::Refused(Refusal::OutOfLimits);
+        return Err(Refusal::OutOfLimits);
     }
     couple_within(first, second, kind, age, other, year, span)
 }

@@ -1,8 +1,9 @@
 -- All the factors of a path, or a cell out of range.
+use Rattle.std.specs.Prelude.{Some, None}
 use mathlib.Core.Path.{◌≡◌, refl, ap, ap₂, subst, sym, ◌∙◌}
 use mathlib.Core.Bool.{Bool, true, false}
 use mathlib.Core.List.{List, ◌++◌, append-nil}
-use Prim.Native.Nat.{ℕ, zero, suc, ◌+◌, ◌-◌, ◌≤◌, ◌<◌}
+use Prim.Native.Nat.{ℕ, zero, suc, ◌+◌, ◌-◌, ◌≤◌, ◌<◌, min}
 use native.Mathlib.Nat.{le_refl}
 use native.Mathlib.Decide.{dec_lt}
 use native.Mathlib.Omega.{arith}
@@ -12,7 +13,7 @@ use lib.ListN.{length, take, get_or, replicate}
 use Rattle.number_exponential.specs.declared.Ends.{Ends}
 use Rattle.number_exponential.specs.Grid.{Grid}
 use Rattle.set_params.specs.declared.Params.{Params}
-use Rattle.model_closure.specs.Weights.{last_closed}
+use Rattle.model_closure.specs.Weights.{first_closed, last_closed}
 use Rattle.number_folds.specs.code.Code.{most_factors}
 use Rattle.model_mortality.specs.Cell.{whole_year, survival}
 use Rattle.quote_paths.specs.Path.{place_at, path_of, factors, path_in_range}
@@ -24,16 +25,16 @@ use Rattle.quote_factors.specs.code.Code.{worked_cells, empty, Repeated, Factors
 
 all_of : {g : Grid} {p : Params} {w : Path} {es : List Ends} → T (path_in_range g p (path_is w))
     → take w.count es ≡ factors g p (path_is w) → length es ≡ most_factors
-    → FactorsOf g p w (record { ok = true; ends = es })
-all_of {g} {p} {w} t e l = record { ok = sym (is_true (path_in_range g p (path_is w)) t); ends = λ b. e; size = λ b. l }
+    → FactorsOf g p w (Some es)
+all_of {g} {p} {w} t e l = record { ok = sym (is_true (path_in_range g p (path_is w)) t); ends = e; size = l }
 
 pub worked-all : {g : Grid} {p : Params} {w : Path} {es : List Ends} {s : ℕ} → Worked g p w es s → s ≡ w.count
-    → FactorsOf g p w (record { ok = true; ends = es })
+    → FactorsOf g p w (Some es)
 worked-all h e = let k = rw e at h in all_of k.range k.ends k.size
 
-pub out-all : {g : Grid} {p : Params} {w : Path} {es : List Ends} → path_in_range g p (path_is w) ≡ false
-    → FactorsOf g p w (record { ok = false; ends = es })
-out-all e = record { ok = sym e; ends = λ t. absurd t; size = λ t. absurd t }
+pub out-all : {g : Grid} {p : Params} {w : Path} → path_in_range g p (path_is w) ≡ false
+    → FactorsOf g p w None
+out-all e = record { ok = sym e; ends = tt; size = tt }
 
 -- ---- the cells that are worked
 
@@ -51,6 +52,11 @@ cells_left false x k e h l = (refl, omega arith)
 pub cells-some : (c : Bool) (x k : ℕ) {d s : ℕ} → d ≡ worked_cells c x k → x ≤ last_closed → 0 < k → d ≤ s → 0 < s
 cells-some true x k e h l m = omega arith
 cells-some false x k e h l m = omega arith
+
+-- those to age 90 among them
+pub cells-young : (c : Bool) (x k : ℕ) {d y : ℕ} → d ≡ worked_cells c x k → y ≡ min (first_closed - x) k → y ≤ d
+cells-young true x k e h = omega arith
+cells-young false x k e h = omega arith
 
 -- ---- the cell of age 120 worked once
 
@@ -78,7 +84,7 @@ suc-pred s = omega arith
 -- all the factors are those that were worked, or in one calendar year those to age 120 and then the last of them
 pub worked-rest : {g : Grid} {p : Params} {w : Path} {es r : List Ends} (s : ℕ) → 0 < s → w.count ≤ most_factors → Worked g p w es s
     → (s < w.count → (w.cohort ≡ false) × (last_closed < w.age + s)) → Repeated es s w.count r
-    → FactorsOf g p w (record { ok = true; ends = r })
+    → FactorsOf g p w (Some r)
 worked-rest zero some m h old f = absurd (omega arith)
 worked-rest {g} {p} {w} {es} {r} (suc s) some m h old f = let e = rw (suc-pred s) at f.ends in elim (dec_lt (suc s) w.count) [
   | yes l ↦

@@ -1,10 +1,10 @@
 // The kinds of figure, and what each takes of a path: one rule a kind, and a step and a fold for each of four figures.
 #![tactic(auto)]
 
-ghost use Rattle.std.specs.Prelude.{◌≡◌, ◌*◌, ◌≤◌, T, take};
+ghost use Rattle.std.specs.Prelude.{◌≡◌, ◌*◌, ◌≤◌, T};
 ghost use Rattle.number_whole.specs.code.Sizes.{Under};
 ghost use Rattle.quote_calendar.specs.Calendar.{is_day};
-ghost use Rattle.number_exponential.specs.code.Flag.{grid_by};
+ghost use Rattle.number_exponential.specs.Units.{grid_of};
 ghost use Rattle.model_closure.specs.Weights.{last_closed};
 ghost use Rattle.number_folds.specs.code.Code.{Chances};
 ghost use Rattle.quote_paths.specs.Values.{fold_over};
@@ -16,8 +16,7 @@ ghost use Rattle.quote_kinds.specs.code.Code.{RateWithin};
 
 use model_closure::LAST_CLOSED;
 use number_exact::{EXPECTANCY_STEP, PRICE_STEP, PROBABILITY_STEP};
-use number_exponential::{Ends, FINE_SCALE};
-use number_folds::MOST_FACTORS;
+use number_exponential::{Ends, FINE_SCALE, GridUnit};
 use quote_paths::{Fold, Part};
 use set_params::{LAST_YEARS, QUOTE_YEARS};
 
@@ -44,6 +43,7 @@ pub struct Rule {
 }
 
 // The rule of a kind.
+#[tactic(auto, unfolding(crate::specs::Kinds::rule_of))]
 pub fn rule_of(kind: Kind) -> Rule
     ensures { result ≡ rule_of kind }
 {
@@ -100,6 +100,7 @@ pub fn rule_of(kind: Kind) -> Rule
 }
 
 // The rate of an annuity, 0 where none is taken.
+#[tactic(auto, unfolding(crate::specs::Kinds::rate_of))]
 pub fn rate_of(fold: Fold) -> i64
     ensures { result ≡ rate_of fold }
 {
@@ -112,6 +113,7 @@ pub fn rate_of(fold: Fold) -> i64
 }
 
 // The longest span at an age of the table.
+#[tactic(auto, unfolding(crate::specs::Kinds::most_span))]
 fn most_span(fold: Fold, age: usize) -> usize
     requires { age ≤ last_closed }
     ensures { result ≡ most_span fold age }
@@ -125,6 +127,7 @@ fn most_span(fold: Fold, age: usize) -> usize
 }
 
 // The longest span of a rule at an age of the table.
+#[tactic(auto, unfolding(crate::specs::Kinds::longest_span))]
 pub fn longest_span(rule: Rule, age: usize) -> usize
     requires { age ≤ last_closed }
     ensures { result ≡ longest_span rule age }
@@ -137,6 +140,7 @@ pub fn longest_span(rule: Rule, age: usize) -> usize
 }
 
 // The years from a year on, to the last of the table.
+#[tactic(auto, unfolding(crate::specs::Kinds::years_on))]
 fn years_on(year: u64) -> usize
     requires { year ≤ last_years }
     ensures { result ≡ years_on year }
@@ -145,6 +149,7 @@ fn years_on(year: u64) -> usize
 }
 
 // How many years the path has from a year on.
+#[tactic(auto, unfolding(crate::specs::Kinds::count_of))]
 pub fn count_of(fold: Fold, year: u64, span: usize) -> usize
     requires { year ≤ last_years }
     ensures { result ≡ count_of fold year span }
@@ -183,6 +188,7 @@ pub fn part_of(rule: Rule, term: i64) -> Part
 }
 
 // The units of a figure's step.
+#[tactic(auto, unfolding(crate::specs::Kinds::step_of))]
 pub fn step_of(fold: Fold) -> u64
     ensures { result ≡ step_of fold }
 {
@@ -195,17 +201,18 @@ pub fn step_of(fold: Fold) -> u64
 }
 
 // The units of a figure's step on a grid.
-pub fn step_on(fine: bool, fold: Fold) -> u64
-    ensures { result ≡ step_of fold * (grid_by fine).scale }
+pub fn step_on(grid: GridUnit, fold: Fold) -> u64
+    ensures { result ≡ step_of fold * (grid_of grid).scale }
 {
     let step = step_of(fold);
-    if fine {
-        return step * FINE_SCALE;
+    match grid {
+        GridUnit::Coarse => step,
+        GridUnit::Fine => step * FINE_SCALE,
     }
-    step
 }
 
 // The decimals that a figure prints.
+#[tactic(auto, unfolding(crate::specs::Kinds::decimals_of))]
 pub fn decimals_of(fold: Fold) -> usize
     ensures { result ≡ decimals_of fold }
 {
@@ -217,18 +224,16 @@ pub fn decimals_of(fold: Fold) -> usize
     }
 }
 
-// The fold over the first `count` factors.
-pub fn folded(fine: bool, fold: Fold, factors: [Ends; MOST_FACTORS], count: usize) -> Ends
-    requires { Chances (grid_by fine) factors count × RateWithin fold }
-    ensures { result ≡ fold_over fold (grid_by fine) (take count factors) }
+// The fold over the factors.
+#[tactic(auto, unfolding(quote_paths::specs::Values::fold_over))]
+pub fn folded(grid: GridUnit, fold: Fold, factors: &[Ends]) -> Ends
+    requires { Chances (grid_of grid) factors.now × RateWithin fold }
+    ensures { result ≡ fold_over fold (grid_of grid) factors.now }
 {
     match fold {
-        Fold::Death => model_force::death_of(
-            fine,
-            number_folds::survival_over(fine, factors, count),
-        ),
-        Fold::Survival => number_folds::survival_over(fine, factors, count),
-        Fold::Expectancy => number_folds::expectancy_over(fine, factors, count),
-        Fold::Annuity(rate) => number_annuity::annuity_over(fine, factors, count, rate as u64),
+        Fold::Death => model_force::death_of(grid, number_folds::survival_over(grid, factors)),
+        Fold::Survival => number_folds::survival_over(grid, factors),
+        Fold::Expectancy => number_folds::expectancy_over(grid, factors),
+        Fold::Annuity(rate) => number_annuity::annuity_over(grid, factors, rate as u64),
     }
 }

@@ -1,6 +1,6 @@
 -- The year a target is reached (paper 02, E9): "for a given age and target in units of 10^-9, find the earliest of the 51 quote
 -- years in which the period expectancy reaches the target"; and what the answer says of the exact values.
-use Rattle.std.specs.Prelude.{◌≡◌, Bool, true, cond, ◌&&◌, [], ◌∷◌, ℕ, zero, suc, ◌-◌, ◌≤◌, ◌<◌, eqb, ℤ, pos, negsuc, ◌+ℤ◌}
+use Rattle.std.specs.Prelude.{◌≡◌, Bool, true, cond, ◌&&◌, [], ◌∷◌, ℕ, zero, suc, ◌-◌, ◌≤◌, ◌<◌, eqb, ℤ, pos, negsuc, ◌+ℤ◌, Result, Ok, Err}
 use Rattle.std.specs.Int.Signed.{le_z}
 use Rattle.number_exponential.specs.Units.{billionths}
 use Rattle.number_exponential.specs.Grid.{in_units}
@@ -18,7 +18,7 @@ use Rattle.quote_kinds.specs.declared.Kind.TheVariants.{PeriodExpectancy}
 use Rattle.quote_table_tests.specs.TableTests.{age_in_table, first_failed}
 use Rattle.quote.specs.Quote.{query_path, query_ends, exact_query}
 use Rattle.quote_target.specs.declared.TargetYear.{TargetYear}
-use Rattle.quote_target.specs.declared.TargetYear.TheVariants.{Reached, Open, Never, Refused}
+use Rattle.quote_target.specs.declared.TargetYear.TheVariants.{Reached, Open, Never}
 
 -- the period expectancy at an age in the year n after the start, of which "E9 still looks at coarse ends" (E11), and whether the
 -- cells that it needs are in range
@@ -57,10 +57,14 @@ target_refusal p age =
     (record { passed = in_limits p; refusal = OutOfLimits } ∷ record { passed = age_in_table age; refusal = NoSuchAge }
     ∷ record { passed = in_range_from p age first_years years_sought; refusal = LogForceOutOfRange } ∷ [])
 
-unfoldable pub target_answer : Params → ℤ → ℤ → TargetYear
+-- a year, or the refusal
+abbrev pub TargetAnswer : Type 0
+TargetAnswer = Result TargetYear Refusal
+
+unfoldable pub target_answer : Params → ℤ → ℤ → TargetAnswer
 target_answer p age target =
     let r = target_refusal p age in
-    cond (eqb (refusal_number r) 0) (sought_from p age target first_years years_sought) (Refused r)
+    cond (eqb (refusal_number r) 0) (Ok (sought_from p age target first_years years_sought)) (Err r)
 
 -- ---- what it says of the exact values
 
@@ -86,6 +90,6 @@ pub record Earliest (p : Params) (age target year : ℤ) : Type 0 where
 abbrev pub NoYear : Params → ℤ → ℤ → Type 0
 NoYear p age target = (m : ℕ) → first_years ≤ m → m ≤ quote_years → AtLeastTarget (exact_period p age m) target → ⊥
 
-pub record Honest (p : Params) (age target : ℤ) (r : TargetYear) : Type 0 where
-  pub named : (year : ℤ) → r ≡ Reached year → Earliest p age target year
-  pub none : r ≡ Never → NoYear p age target
+pub record Honest (p : Params) (age target : ℤ) (r : TargetAnswer) : Type 0 where
+  pub named : (year : ℤ) → r ≡ Ok (Reached year) → Earliest p age target year
+  pub none : r ≡ Ok Never → NoYear p age target

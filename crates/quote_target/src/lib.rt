@@ -14,14 +14,16 @@ use quote_kinds::Kind;
 use set_params::{Params, QUOTE_YEARS};
 use set_refusal::Refusal;
 
-// The year in which a target is reached, open, never among the quote years, or the refusal.
+// The year in which a target is reached, open, or never among the quote years.
 #[derive(Clone, Copy)]
 pub enum TargetYear {
     Reached(i64),
     Open,
     Never,
-    Refused(Refusal),
 }
+
+// What a year tells of a target, or the refusal.
+pub type TargetAnswer = Result<TargetYear, Refusal>;
 
 // Whether an end is at or above the target.
 fn reaches(target: i64, end: u64) -> bool
@@ -47,38 +49,36 @@ fn year_tells(target: i64, e: Ends, year: i64, later: TargetYear) -> TargetYear
 }
 
 // The answer for a set in its limits, by coarse ends: from the last quote year back to the first, so that every year is looked at.
-pub fn target_within(p: Params, age: i64, target: i64) -> TargetYear
+pub fn target_within(p: Params, age: i64, target: i64) -> TargetAnswer
     requires { T (in_limits p) }
     ensures { result ≡ target_answer p age target }
 {
     if !quote_table_tests::between(0, LAST_CLOSED as i64, age) {
-        return TargetYear::Refused(Refusal::NoSuchAge);
+        return Err(Refusal::NoSuchAge);
     }
-    let mut n = QUOTE_YEARS as u64;
     let mut found = TargetYear::Never;
-    while 0 < n {
+    for n in (1..=QUOTE_YEARS as u64).rev() {
         let year = p.start + n as i64;
         let answer = quote::answer_within(false, p, Kind::PeriodExpectancy, age, year, 0);
-        let Answer::Quoted(q) = answer else {
-            return TargetYear::Refused(Refusal::LogForceOutOfRange);
+        let Ok(q) = answer else {
+            return Err(Refusal::LogForceOutOfRange);
         };
         let e = Ends {
             lower: q.lower,
             upper: q.upper,
         };
         found = year_tells(target, e, year, found);
-        n -= 1;
     }
-    found
+    Ok(found)
 }
 
 // The answer for any set, age and target.
-pub fn target_of(p: Params, age: i64, target: i64) -> TargetYear
+pub fn target_of(p: Params, age: i64, target: i64) -> TargetAnswer
     ensures answered { result ≡ target_answer p age target }
     ensures honest { Honest p age target result }
 {
     if !set_limits::in_limits(p) {
-        return TargetYear::Refused(Refusal::OutOfLimits);
+        return Err(Refusal::OutOfLimits);
     }
     target_within(p, age, target)
 }

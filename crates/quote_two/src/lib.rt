@@ -22,14 +22,8 @@ pub enum Same {
     Different,
 }
 
-// The steps of a printed figure.
-#[derive(Clone, Copy)]
-enum Steps {
-    None,
-    At(u64),
-}
-
-// A number for each kind, whatever the rate.
+// A number for each kind, whatever the rate. A derived `==` would compare the rates too, and a match on two kinds names each
+// kind twice.
 fn kind_number(kind: Kind) -> u64
     ensures { result ≡ kind_number kind }
 {
@@ -52,25 +46,24 @@ pub fn one_kind(kind: Kind, kind2: Kind) -> bool
     kind_number(kind) == kind_number(kind2)
 }
 
-// The steps of a figure.
-fn figure_steps(figure: Figure) -> Steps
+// The steps of a figure that is printed.
+fn figure_steps(figure: Figure) -> Option<u64>
     ensures { result ≡ steps_shown (shown_of figure) }
 {
     match figure {
-        Figure::Printed(n) => Steps::At(n),
-        Figure::Open => Steps::None,
+        Figure::Printed(n) => Some(n),
+        Figure::Open => None,
     }
 }
 
-// The steps of an answer.
-fn steps_of(answer: Answer) -> Steps
+// The steps of an answer whose figure is printed.
+fn steps_of(answer: Answer) -> Option<u64>
     ensures { result ≡ steps_shown (figure_shown answer) }
 {
-    let Answer::Quoted(quote) = answer else {
-        return Steps::None;
+    let Ok(quote) = answer else {
+        return None;
     };
-    let figure = quote.figure;
-    figure_steps(figure)
+    figure_steps(quote.figure)
 }
 
 // Compares the figures of two quotes of one kind.
@@ -91,10 +84,10 @@ fn same_printed(
 {
     let first = steps_of(quote::quote_of(p, kind, age, year, term));
     let second = steps_of(quote::quote_of(p2, kind2, age2, year2, term2));
-    let Steps::At(n) = first else {
+    let Some(n) = first else {
         return Same::NotPrinted;
     };
-    let Steps::At(m) = second else {
+    let Some(m) = second else {
         return Same::NotPrinted;
     };
     if n == m {

@@ -1,59 +1,54 @@
-// Two lives on a grid: the chance of a status from the two survivals, and its expectancy in one pass over two arrays
-// of factors.
+// Two lives on a grid: the chance of a status from the two survivals, and its expectancy in one pass over the
+// factors of the two.
 #![tactic(auto)]
 
-ghost use Rattle.std.specs.Prelude.{◌≡◌, take};
-ghost use Rattle.number_exponential.specs.code.Flag.{grid_by};
+ghost use Rattle.std.specs.Prelude.{◌≡◌, length};
+ghost use Rattle.number_exponential.specs.Units.{grid_of};
 ghost use Rattle.number_folds.specs.code.Code.{AtMost, Chances};
 ghost use Rattle.quote_two_lives.specs.TwoLives.{status_chance, status_over, status_expectancy_over, couple_over};
 
 use model_force::death_of;
-use number_exponential::{Ends, unit_by};
-use number_folds::{MOST_FACTORS, with_factor};
+use number_exponential::{Ends, GridUnit, unit_by};
+use number_folds::with_factor;
 use quote_couple_kinds::{CoupleKind, Status};
 
 // The chance of a status from the survivals of the two lives.
-pub fn status_chance(fine: bool, status: Status, s: Ends, t: Ends) -> Ends
-    requires { AtMost (grid_by fine).unit s × AtMost (grid_by fine).unit t }
-    ensures { result ≡ status_chance status (grid_by fine) s t }
+#[tactic(auto, unfolding(crate::specs::TwoLives::status_chance))]
+pub fn status_chance(grid: GridUnit, status: Status, s: Ends, t: Ends) -> Ends
+    requires { AtMost (grid_of grid).unit s × AtMost (grid_of grid).unit t }
+    ensures { result ≡ status_chance status (grid_of grid) s t }
 {
     match status {
-        Status::JointLife => with_factor(fine, s, t),
+        Status::JointLife => with_factor(grid, s, t),
         Status::LastSurvivor => death_of(
-            fine,
-            with_factor(fine, death_of(fine, s), death_of(fine, t)),
+            grid,
+            with_factor(grid, death_of(grid, s), death_of(grid, t)),
         ),
     }
 }
 
-// The chance of a status after `count` years, from the first `count` factors of each life.
-pub fn status_over(
-    fine: bool,
-    status: Status,
-    first: [Ends; MOST_FACTORS],
-    second: [Ends; MOST_FACTORS],
-    count: usize,
-) -> Ends
-    requires { Chances (grid_by fine) first count × Chances (grid_by fine) second count }
-    ensures { result ≡ status_over status (grid_by fine) (take count first) (take count second) }
+// The chance of a status after as many years as each life has factors.
+#[tactic(auto, unfolding(crate::specs::TwoLives::status_over))]
+pub fn status_over(grid: GridUnit, status: Status, first: &[Ends], second: &[Ends]) -> Ends
+    requires { Chances (grid_of grid) first.now × Chances (grid_of grid) second.now × (length first.now ≡ length second.now) }
+    ensures { result ≡ status_over status (grid_of grid) first.now second.now }
 {
-    let s = number_folds::survival_over(fine, first, count);
-    let t = number_folds::survival_over(fine, second, count);
-    status_chance(fine, status, s, t)
+    let s = number_folds::survival_over(grid, first);
+    let t = number_folds::survival_over(grid, second);
+    status_chance(grid, status, s, t)
 }
 
-// The expectancy of a status: one half, and for each k below `count` its chance after k + 1 years.
+// The expectancy of a status: one half, and after each factor of the two lives its chance.
 pub fn status_expectancy_over(
-    fine: bool,
+    grid: GridUnit,
     status: Status,
-    first: [Ends; MOST_FACTORS],
-    second: [Ends; MOST_FACTORS],
-    count: usize,
+    first: &[Ends],
+    second: &[Ends],
 ) -> Ends
-    requires { Chances (grid_by fine) first count × Chances (grid_by fine) second count }
-    ensures { result ≡ status_expectancy_over status (grid_by fine) (take count first) (take count second) }
+    requires { Chances (grid_of grid) first.now × Chances (grid_of grid) second.now × (length first.now ≡ length second.now) }
+    ensures { result ≡ status_expectancy_over status (grid_of grid) first.now second.now }
 {
-    let one = unit_by(fine);
+    let one = unit_by(grid);
     // the half year that is lived, on average, in the year in which a status ends
     let half = one / 2;
     let mut sums = Ends {
@@ -68,49 +63,38 @@ pub fn status_expectancy_over(
         lower: one,
         upper: one,
     };
-    let mut k = 0;
-    while k < count {
-        let p = first[k];
-        let q = second[k];
-        s = with_factor(fine, s, p);
-        t = with_factor(fine, t, q);
-        let chance = status_chance(fine, status, s, t);
+    for (p, q) in first.iter().zip(second) {
+        s = with_factor(grid, s, *p);
+        t = with_factor(grid, t, *q);
+        let chance = status_chance(grid, status, s, t);
         sums = Ends {
             lower: sums.lower + chance.lower,
             upper: sums.upper + chance.upper,
         };
-        k += 1;
     }
     sums
 }
 
-// What a kind takes of the first `count` factors of each life.
-pub fn couple_over(
-    fine: bool,
-    kind: CoupleKind,
-    first: [Ends; MOST_FACTORS],
-    second: [Ends; MOST_FACTORS],
-    count: usize,
-) -> Ends
-    requires { Chances (grid_by fine) first count × Chances (grid_by fine) second count }
-    ensures { result ≡ couple_over kind (grid_by fine) (take count first) (take count second) }
+// What a kind takes of the two lives' factors.
+#[tactic(auto, unfolding(crate::specs::TwoLives::couple_over))]
+pub fn couple_over(grid: GridUnit, kind: CoupleKind, first: &[Ends], second: &[Ends]) -> Ends
+    requires { Chances (grid_of grid) first.now × Chances (grid_of grid) second.now × (length first.now ≡ length second.now) }
+    ensures { result ≡ couple_over kind (grid_of grid) first.now second.now }
 {
     match kind {
-        CoupleKind::JointLife => status_over(fine, Status::JointLife, first, second, count),
-        CoupleKind::LastSurvivor => status_over(fine, Status::LastSurvivor, first, second, count),
+        CoupleKind::JointLife => status_over(grid, Status::JointLife, first, second),
+        CoupleKind::LastSurvivor => status_over(grid, Status::LastSurvivor, first, second),
         CoupleKind::JointExpectancy => status_expectancy_over(
-            fine,
+            grid,
             Status::JointLife,
             first,
             second,
-            count,
         ),
         CoupleKind::LastExpectancy => status_expectancy_over(
-            fine,
+            grid,
             Status::LastSurvivor,
             first,
             second,
-            count,
         ),
     }
 }

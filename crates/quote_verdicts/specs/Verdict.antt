@@ -1,6 +1,6 @@
 -- The verdict on a published column of q for one year (paper 02, E3): "We need a verdict on whoever's column it is." A column
 -- that was read is its 121 entries by age, each a number of steps of 0.00001. And what it says of the exact values.
-use Rattle.std.specs.Prelude.{Bool, true, false, cond, not, ◌||◌, List, [], ◌∷◌, ℕ, zero, suc, ◌<◌, eqb, ℤ, pos, get_or}
+use Rattle.std.specs.Prelude.{Bool, true, false, cond, not, ◌||◌, List, [], ◌∷◌, ℕ, zero, suc, ◌<◌, eqb, ℤ, pos, get_or, Result, Ok, Err}
 use Rattle.text_tokens.specs.Text.{bytes_of, Parse, malformed, taken, is_taken}
 use Rattle.number_exponential.specs.Units.{billionths}
 use Rattle.set_params.specs.declared.Params.{Params}
@@ -18,8 +18,6 @@ use Rattle.quote.specs.Quote.{answer_of}
 use Rattle.quote.specs.Demand.{Shown, printed, marked_open, no_figure, figure_shown, RoundsAt}
 use Rattle.quote_verdicts.specs.declared.Verdict.{Verdict}
 use Rattle.quote_verdicts.specs.declared.Verdict.TheVariants.{Right, Wrong, Open}
-use Rattle.quote_verdicts.specs.declared.Judged.{Judged}
-use Rattle.quote_verdicts.specs.declared.Judged.TheVariants.{Of, Refused}
 
 -- each case's word
 unfoldable pub verdict_word : Verdict → List ℕ
@@ -91,9 +89,13 @@ unfoldable pub entries_in : Parse (List ℕ) → List ℕ
 entries_in malformed = []
 entries_in (taken column rest) = column
 
+-- a verdict, or the refusal
+abbrev pub Judged : Type 0
+Judged = Result Verdict Refusal
+
 -- a verdict where nothing is refused
 unfoldable pub judged_by : Refusal → Verdict → Judged
-judged_by r v = cond (eqb (refusal_number r) 0) (Of v) (Refused r)
+judged_by r v = cond (eqb (refusal_number r) 0) (Ok v) (Err r)
 
 unfoldable pub judged : Params → ℤ → Parse (List ℕ) → Judged
 judged p year read = judged_by (column_refusal p year read) (verdict_of p year (entries_in read))

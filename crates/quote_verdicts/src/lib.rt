@@ -3,19 +3,18 @@
 // its quote.
 #![tactic(auto)]
 
-ghost use Rattle.std.specs.Prelude.{◌≡◌, [], ◌<◌, T};
+ghost use Rattle.std.specs.Prelude.{◌≡◌, [], ◌<◌, T, length};
 ghost use Rattle.text_tokens.specs.Text.{taken};
 ghost use Rattle.number_exponential.specs.Units.{billionths};
 ghost use Rattle.set_limits.specs.InLimits.{in_limits};
 ghost use Rattle.number_folds.specs.code.Code.{AtMost, Chances};
 ghost use Rattle.quote.specs.Demand.{shown_of};
-ghost use Rattle.quote_verdicts.specs.Verdict.{column_ages, figure_here, entry_at, verdict_to, judged};
+ghost use Rattle.quote_verdicts.specs.Verdict.{column_ages, figure_here, entry_at, verdict_to, entries_in, judged};
 ghost use Rattle.quote_verdicts.specs.code.Code.{column_read, age_verdict, joined, figure_by, figure_kept, Honest};
 
 use model_closure::LAST_CLOSED;
 use number_exact::{Figure, PROBABILITY_STEP};
-use number_exponential::Ends;
-use number_folds::MOST_FACTORS;
+use number_exponential::{Ends, GridUnit};
 use quote_along::Answer;
 use quote_kinds::Kind;
 use quote_paths::Path;
@@ -34,18 +33,14 @@ pub enum Verdict {
 }
 
 // A verdict, or the refusal.
-#[derive(Clone, Copy)]
-pub enum Judged {
-    Of(Verdict),
-    Refused(Refusal),
-}
+pub type Judged = Result<Verdict, Refusal>;
 
 // The figure of q by p's ends on the coarse grid.
 fn coarse_figure(p: Ends) -> Figure
     requires { AtMost billionths.unit p }
     ensures { result ≡ figure_by p }
 {
-    let q = model_force::death_of(false, p);
+    let q = model_force::death_of(GridUnit::Coarse, p);
     number_exact::figure_of(PROBABILITY_STEP, q.lower, q.upper)
 }
 
@@ -68,7 +63,7 @@ fn verdict_again(p: Params, year: i64, age: usize, entry: u64) -> Verdict
     ensures { result ≡ age_verdict (figure_here p year age) entry }
 {
     let answer = quote::answer_within(true, p, Kind::Death, age as i64, year, 0);
-    let Answer::Quoted(q) = answer else {
+    let Ok(q) = answer else {
         // without a figure none differs and none is open
         return Verdict::Right;
     };
@@ -77,42 +72,31 @@ fn verdict_again(p: Params, year: i64, age: usize, entry: u64) -> Verdict
 }
 
 // The verdict on some ages and one more: wrong goes before open, and open before right.
+#[tactic(auto, unfolding(crate::specs::code::Code::joined))]
 fn joined(some: Verdict, more: Verdict) -> Verdict
     ensures { result ≡ joined some more }
 {
-    match some {
-        Verdict::Wrong => Verdict::Wrong,
-        Verdict::Open => match more {
-            Verdict::Wrong => Verdict::Wrong,
-            Verdict::Open => Verdict::Open,
-            Verdict::Right => Verdict::Open,
-        },
-        Verdict::Right => more,
+    match (some, more) {
+        (Verdict::Wrong, _) | (_, Verdict::Wrong) => Verdict::Wrong,
+        (Verdict::Open, _) | (_, Verdict::Open) => Verdict::Open,
+        (Verdict::Right, Verdict::Right) => Verdict::Right,
     }
 }
 
 // The verdict on a column by the factors of its year's cells, with open figures asked again.
-fn verdict_on(
-    p: Params,
-    year: i64,
-    factors: [Ends; MOST_FACTORS],
-    column: [u64; COLUMN_AGES],
-) -> Verdict
-    requires { T (in_limits p) × Chances billionths factors column_ages }
-    ensures { result ≡ verdict_to (figure_kept p year factors) (entry_at column) column_ages }
+fn verdict_on(p: Params, year: i64, factors: &[Ends], column: &[u64; COLUMN_AGES]) -> Verdict
+    requires { T (in_limits p) × Chances billionths factors.now × (length factors.now ≡ column_ages) }
+    ensures { result ≡ verdict_to (figure_kept p year factors.now) (entry_at column.now) column_ages }
 {
     let mut verdict = Verdict::Right;
-    let mut x = 0;
-    while x < COLUMN_AGES {
-        let lived = factors[x];
-        let entry = column[x];
-        let figure = coarse_figure(lived);
-        let mut more = age_verdict(figure, entry);
-        if number_exact::is_open(figure) {
-            more = verdict_again(p, year, x, entry);
-        }
+    for x in 0..COLUMN_AGES {
+        let figure = coarse_figure(factors[x]);
+        let more = if number_exact::is_open(figure) {
+            verdict_again(p, year, x, column[x])
+        } else {
+            age_verdict(figure, column[x])
+        };
         verdict = joined(verdict, more);
-        x += 1;
     }
     verdict
 }
@@ -125,7 +109,7 @@ pub fn judge_within(p: Params, year: i64, column: [u64; COLUMN_AGES]) -> Judged
     let rule = quote_kinds::rule_of(Kind::Death);
     let refusal = quote_table_tests::table_refusal(p.start, rule, 0, year, 0);
     if set_refusal::refusal_number(refusal) != 0 {
-        return Judged::Refused(refusal);
+        return Err(refusal);
     }
     let n = set_params::year_number(p.start, year);
     let cells = Path {
@@ -134,25 +118,23 @@ pub fn judge_within(p: Params, year: i64, column: [u64; COLUMN_AGES]) -> Judged
         year: n,
         count: COLUMN_AGES,
     };
-    let worked = quote_factors::factors_of(false, p, cells);
-    if !worked.ok {
-        return Judged::Refused(Refusal::LogForceOutOfRange);
-    }
-    let ends = worked.ends;
-    let verdict = verdict_on(p, year, ends, column);
-    Judged::Of(verdict)
+    let Some(ends) = quote_factors::factors_of(GridUnit::Coarse, p, cells) else {
+        return Err(Refusal::LogForceOutOfRange);
+    };
+    let verdict = verdict_on(p, year, &ends[..COLUMN_AGES], &column);
+    Ok(verdict)
 }
 
-// What is answered of any column, where the whole of it was read and where it is malformed.
-pub fn judge(p: Params, year: i64, whole: bool, column: [u64; COLUMN_AGES]) -> Judged
-    ensures answered { result ≡ judged p year (column_read whole column) }
-    ensures honest { Honest p year column result }
+// What is answered of any column: none where it is malformed.
+pub fn judge(p: Params, year: i64, column: Option<[u64; COLUMN_AGES]>) -> Judged
+    ensures answered { result ≡ judged p year (column_read column) }
+    ensures honest { Honest p year (entries_in (column_read column)) result }
 {
     if !set_limits::in_limits(p) {
-        return Judged::Refused(Refusal::OutOfLimits);
+        return Err(Refusal::OutOfLimits);
     }
-    if !whole {
-        return Judged::Refused(Refusal::MalformedColumn);
-    }
-    judge_within(p, year, column)
+    let Some(entries) = column else {
+        return Err(Refusal::MalformedColumn);
+    };
+    judge_within(p, year, entries)
 }

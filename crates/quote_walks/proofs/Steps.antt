@@ -17,8 +17,7 @@ use Rattle.number_exponential.specs.Grid.{Grid}
 use Rattle.set_params.specs.declared.Params.{Params}
 use Rattle.set_params.specs.Set.{dynamics_of}
 use Rattle.set_params.specs.Limits.{last_years}
-use Rattle.model_cells.specs.declared.Cell.{Cell}
-use Rattle.model_cells.specs.declared.Cell.TheVariants.{LogForceOutOfRange, Of}
+use Rattle.std.specs.Prelude.{Option, Some, None}
 use Rattle.model_log_force.specs.declared.Year.{Year}
 use Rattle.model_mortality.specs.Cell.{whole_year, survival, needed_in_range}
 use Rattle.model_log_force.specs.code.Year.{YearWithin}
@@ -31,21 +30,17 @@ use Rattle.quote_paths.proofs.laws.Answers.{path-length, factors-length, path-mo
 use Rattle.quote_paths.specs.declared.Path.{Path}
 use Rattle.quote_walks.specs.code.Code.{place_of, path_to, path_is, PathWithin, Advanced, Worked, YearAt}
 
--- the path of a function's locals
-abbrev pub along : Bool → ℕ → ℕ → ℕ → Path
-along cohort age year count = record { cohort = cohort; age = age; year = year; count = count }
-
 -- ---- the cell at a place
 
 -- the answer at the cell at s
-abbrev pub cell_at : Grid → Params → Path → ℕ → Cell
+abbrev pub cell_at : Grid → Params → Path → ℕ → Option Ends
 cell_at g p w s = cell_of g p (place_of w s).age (place_of w s).year
 
-cell_in : (g : Grid) (p : Params) (x n : ℕ) {e : Ends} → cell_of g p x n ≡ Of e
+cell_in : (g : Grid) (p : Params) (x n : ℕ) {e : Ends} → cell_of g p x n ≡ Some e
     → T (needed_in_range g p x n) × (e ≡ survival g p x n whole_year)
 cell_in g p x n q = cell-there (needed_in_range g p x n) (survival g p x n whole_year) q
 
-cell_out : (g : Grid) (p : Params) (x n : ℕ) → cell_of g p x n ≡ LogForceOutOfRange → needed_in_range g p x n ≡ false
+cell_out : (g : Grid) (p : Params) (x n : ℕ) → cell_of g p x n ≡ None → needed_in_range g p x n ≡ false
 cell_out g p x n q = cell-gone (needed_in_range g p x n) (survival g p x n whole_year) q
 
 -- ---- the factors
@@ -63,7 +58,7 @@ factors-more g p w s =
     ∙ factors-append g p (path_to w s) (place_of w s ∷ [])
 
 pub worked-more : {g : Grid} {p : Params} {w : Path} {es : List Ends} {s : ℕ} {e : Ends} → Worked g p w es s
-    → w.count ≤ most_factors → s < w.count → cell_at g p w s ≡ Of e → Worked g p w (set es s e) (s + 1)
+    → w.count ≤ most_factors → s < w.count → cell_at g p w s ≡ Some e → Worked g p w (set es s e) (s + 1)
 worked-more {g} {p} {w} {es} {s} {e} h m l q =
     let r = cell_in g p (place_of w s).age (place_of w s).year q in
     rw (add-one s)
@@ -89,7 +84,7 @@ worked-last {g} {p} {w} {es} {s} d h m =
     ∙ get_or_at (factors g p (path_to w s)) _ [] d s
     (factors-length g p (path_to w s) ∙ path-length w.cohort w.age w.year s)
 
-pub worked-out : (g : Grid) (p : Params) (w : Path) {s : ℕ} → s < w.count → cell_at g p w s ≡ LogForceOutOfRange → path_in_range g p (path_is w) ≡ false
+pub worked-out : (g : Grid) (p : Params) (w : Path) {s : ℕ} → s < w.count → cell_at g p w s ≡ None → path_in_range g p (path_is w) ≡ false
 worked-out g p w {s} l q =
     range-out g p w.cohort w.age w.year s w.count l (cell_out g p (place_of w s).age (place_of w s).year q)
 

@@ -81,6 +81,7 @@ fn put_answers(
     ensures { Put out.old 0 (answers_from (line_answer mode first second) input.now at)
         out.new result }
 {
+    // no `for`: each turn moves `next` by a line's length, and no iterator over lines with their line feeds is at hand
     let mut next = at;
     let mut len = 0;
     while next < input.len() {

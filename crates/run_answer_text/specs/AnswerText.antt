@@ -1,6 +1,6 @@
 -- "It echoes each with ` fig=` and a figure or `open`, or ` no=` and a refusal. .. A torn query prints `no=1` only": what is printed
 -- after a query, with the two ends and their unit before the figure where they are shown, and the answer to a line.
-use Rattle.std.specs.Prelude.{Bool, cond, List, [], ◌++◌, ℕ, ◌-◌, length, take}
+use Rattle.std.specs.Prelude.{Bool, cond, List, [], ◌++◌, ℕ, ◌-◌, length, take, Ok, Err}
 use Rattle.text_tokens.specs.Text.{bytes_of, Parse, malformed, taken}
 use Rattle.text_tokens.specs.Number.{decimal, unsigned_text}
 use Rattle.number_exponential.specs.declared.GridUnit.{GridUnit}
@@ -12,8 +12,7 @@ use Rattle.quote_kinds.specs.declared.Kind.{Kind}
 use Rattle.quote_kinds.specs.Kinds.{rule_of, decimals_of}
 use Rattle.run_figure_text.specs.FigureText.{shown_text}
 use Rattle.quote_along.specs.declared.Quote.{Quote}
-use Rattle.quote_along.specs.declared.Answer.{Answer}
-use Rattle.quote_along.specs.declared.Answer.TheVariants.{Quoted, Refused}
+use Rattle.quote_along.specs.QuoteBy.{Answer}
 
 -- `no=` and a refusal's number, as a line
 unfoldable pub refusal_line : Refusal → List ℕ
@@ -50,8 +49,8 @@ kind_decimals kind = decimals_of (rule_of kind).fold
 
 -- an answer
 unfoldable pub answer_text : Bool → ℕ → Answer → List ℕ
-answer_text ends d (Quoted a) = quote_text ends d a
-answer_text ends d (Refused r) = refused_text r
+answer_text ends d (Ok a) = quote_text ends d a
+answer_text ends d (Err r) = refused_text r
 
 -- ---- a line, whatever reads it and whatever follows it
 

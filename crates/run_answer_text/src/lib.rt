@@ -144,7 +144,7 @@ pub fn put_answer(
     ensures { Put buffer.old at (answer_text ends decimals answer) buffer.new result }
 {
     match answer {
-        Answer::Quoted(quote) => put_quote(buffer, at, ends, decimals, quote),
-        Answer::Refused(refusal) => put_refused(buffer, at, refusal),
+        Ok(quote) => put_quote(buffer, at, ends, decimals, quote),
+        Err(refusal) => put_refused(buffer, at, refusal),
     }
 }

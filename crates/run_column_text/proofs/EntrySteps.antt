@@ -4,8 +4,7 @@ use Prim.Native.Nat.{ℕ}
 use mathlib.Core.List.{List}
 use lib.IntN.{ℤ}
 use lib.ListN.{drop}
-use Rattle.text_tokens.specs.declared.UnsignedRead.{UnsignedRead}
-use Rattle.text_tokens.specs.declared.UnsignedRead.TheVariants.{Malformed, Unsigned}
+use Rattle.std.specs.Prelude.{Option, None, Some}
 use Rattle.text_tokens.specs.Text.{bytes_of, Parse, malformed, taken, take_text, and_then}
 use Rattle.text_tokens.specs.laws.Steps.{goes, stops}
 use Rattle.text_tokens.specs.Number.{read_digits}
@@ -47,9 +46,9 @@ age-taken line e = goes _ e
 -- ---- what a result of the code says was read
 
 module _ (bytes : List ℕ) where
-  pub unsigned-malformed : {r : UnsignedRead} {q : Parse ℕ} → unsigned_read bytes r ≡ q → r ≡ Malformed → q ≡ malformed
+  pub unsigned-malformed : {r : Option (ℕ × ℕ)} {q : Parse ℕ} → unsigned_read bytes r ≡ q → r ≡ None → q ≡ malformed
   unsigned-malformed e f = sym e ∙ ap (unsigned_read bytes) f
 
-  pub unsigned-taken : {r : UnsignedRead} {q : Parse ℕ} {v next : ℕ} → unsigned_read bytes r ≡ q → r ≡ Unsigned v next
+  pub unsigned-taken : {r : Option (ℕ × ℕ)} {q : Parse ℕ} {v next : ℕ} → unsigned_read bytes r ≡ q → r ≡ Some (v, next)
       → q ≡ taken v (drop next bytes)
   unsigned-taken e f = sym e ∙ ap (unsigned_read bytes) f

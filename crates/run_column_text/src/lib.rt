@@ -7,7 +7,6 @@ ghost use Rattle.run_column_text.specs.Column.{column_lines, decimals, read_q, r
 ghost use Rattle.run_column_text.specs.code.Code.{unsigned_read, entry_read, list_read, column_read, with_row};
 
 use model_closure::LAST_CLOSED;
-use text_tokens::{NumberRead, UnsignedRead};
 
 // A line for each age.
 pub const COLUMN_LINES: usize = LAST_CLOSED + 1;
@@ -22,73 +21,51 @@ pub struct Entry {
     pub steps: u64,
 }
 
-// An entry that was read.
-#[derive(Clone, Copy)]
-pub enum EntryRead {
-    Malformed,
-    Of(Entry),
-}
-
-// The steps of q by age, where nothing was malformed.
-#[derive(Clone, Copy)]
-pub struct ColumnRead {
-    pub ok: bool,
-    pub steps: [u64; COLUMN_LINES],
-}
-
-// The number that so many digits at a place stand for, after those of a first digit.
-fn digits_at(bytes: &[u8], at: usize, count: usize, first: u64) -> UnsignedRead
+// The number that so many digits at a place stand for, after those of a first digit, and the place after them.
+fn digits_at(bytes: &[u8], at: usize, count: usize, first: u64) -> Option<(u64, usize)>
     requires { (count ≤ decimals) × (first < 10) }
     ensures { unsigned_read bytes.now result ≡ read_digits first count (drop at bytes.now) }
 {
     let mut value = first;
     let mut next = at;
-    let mut left = count;
-    while 0 < left {
+    for _done in 0..count {
         if bytes.len() <= next {
-            return UnsignedRead::Malformed;
+            return None;
         }
         let digit = bytes[next];
         if digit < b'0' || b'9' < digit {
-            return UnsignedRead::Malformed;
+            return None;
         }
         value = value * 10 + (digit - b'0') as u64;
         next += 1;
-        left -= 1;
     }
-    UnsignedRead::Unsigned(value, next)
+    Some((value, next))
 }
 
-// The steps of the q at a place.
-pub fn q_at(bytes: &[u8], at: usize) -> UnsignedRead
+// The steps of the q at a place, and the place after it.
+pub fn q_at(bytes: &[u8], at: usize) -> Option<(u64, usize)>
     ensures { unsigned_read bytes.now result ≡ read_q (drop at bytes.now) }
 {
-    let UnsignedRead::Unsigned(first, after) = digits_at(bytes, at, 1, 0) else {
-        return UnsignedRead::Malformed;
-    };
+    let (first, after) = digits_at(bytes, at, 1, 0)?;
     if !text_tokens::text_at(bytes, after, b".") {
-        return UnsignedRead::Malformed;
+        return None;
     }
     digits_at(bytes, after + 1, DECIMALS, first)
 }
 
 // The entry of a line.
-pub fn entry_of(line: &[u8]) -> EntryRead
+pub fn entry_of(line: &[u8]) -> Option<Entry>
     ensures { entry_read result ≡ read_entry line.now }
 {
-    let NumberRead::Number(age, after_age) = run_query::field_at(line, 0, b"age=") else {
-        return EntryRead::Malformed;
-    };
+    let (age, after_age) = run_query::field_at(line, 0, b"age=")?;
     if !text_tokens::text_at(line, after_age, b" q=") {
-        return EntryRead::Malformed;
+        return None;
     }
-    let UnsignedRead::Unsigned(steps, after_q) = q_at(line, after_age + 3) else {
-        return EntryRead::Malformed;
-    };
+    let (steps, after_q) = q_at(line, after_age + 3)?;
     if !run_query::ends_at(line, after_q) {
-        return EntryRead::Malformed;
+        return None;
     }
-    EntryRead::Of(Entry { age, steps })
+    Some(Entry { age, steps })
 }
 
 // Puts the steps of a line of age x into their place; false where the line is malformed or of another age.
@@ -96,7 +73,7 @@ fn put_row(steps: &mut [u64; COLUMN_LINES], x: usize, line: &[u8]) -> bool
     requires { x < column_lines }
     ensures { list_read result steps.new ≡ with_row steps.old x line.now }
 {
-    let EntryRead::Of(entry) = entry_of(line) else {
+    let Some(entry) = entry_of(line) else {
         return false;
     };
     if entry.age != x as i64 {
@@ -106,23 +83,21 @@ fn put_row(steps: &mut [u64; COLUMN_LINES], x: usize, line: &[u8]) -> bool
     true
 }
 
-// The column that all the bytes are: each line's age is its place.
-pub fn column_of(bytes: &[u8]) -> ColumnRead
+// The column that all the bytes are, its steps of q by age: each line's age is its place.
+pub fn column_of(bytes: &[u8]) -> Option<[u64; COLUMN_LINES]>
     ensures { column_read result ≡ column_of bytes.now }
 {
     let mut steps = [0u64; COLUMN_LINES];
-    let mut x = 0;
     let mut at = 0;
-    while x < COLUMN_LINES {
+    for x in 0..COLUMN_LINES {
         let end = text_lines::line_end(bytes, at);
         if !put_row(&mut steps, x, &bytes[at..end]) {
-            return ColumnRead { ok: false, steps };
+            return None;
         }
         at = end;
-        x += 1;
     }
     if at < bytes.len() {
-        return ColumnRead { ok: false, steps };
+        return None;
     }
-    ColumnRead { ok: true, steps }
+    Some(steps)
 }

@@ -16,8 +16,7 @@ pub fn verdict_on(p: Params, year: i64, bytes: &[u8]) -> Judged
     ensures honest { HonestOn p year bytes.now result }
 {
     let read = run_column_text::column_of(bytes);
-    let steps = read.steps;
-    quote_verdicts::judge(p, year, read.ok, steps)
+    quote_verdicts::judge(p, year, read)
 }
 
 // What is answered of a column by a sheet.
@@ -28,7 +27,7 @@ fn sheet_verdict(sheet: &[u8], year: i64, column: &[u8]) -> Judged
     let refusal = got.refusal;
     let set = got.set;
     if set_refusal::refusal_number(refusal) != 0 {
-        return Judged::Refused(refusal);
+        return Err(refusal);
     }
     verdict_on(set, year, column)
 }
@@ -49,11 +48,11 @@ fn put_judged(place: &mut u64, judged: Judged) -> u8
     ensures { (result ≡ verdict_no judged) × (place.new ≡ verdict_after judged place.old) }
 {
     match judged {
-        Judged::Of(verdict) => {
+        Ok(verdict) => {
             *place = verdict_number(verdict);
             set_refusal::refusal_number(Refusal::Accepted)
         }
-        Judged::Refused(refusal) => set_refusal::refusal_number(refusal),
+        Err(refusal) => set_refusal::refusal_number(refusal),
     }
 }
 

@@ -57,7 +57,7 @@ pub fn put_comparison(
     ensures { Put buffer.old at (comparison_text decimals comparison) buffer.new result }
 {
     match comparison {
-        Comparison::Compared(pair) => put_pair(buffer, at, decimals, pair),
-        Comparison::NotCompared(refusal) => run_answer_text::put_refused(buffer, at, refusal),
+        Ok(pair) => put_pair(buffer, at, decimals, pair),
+        Err(refusal) => run_answer_text::put_refused(buffer, at, refusal),
     }
 }

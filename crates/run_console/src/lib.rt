@@ -6,7 +6,6 @@ ghost use Rattle.run_line.specs.code.Sizes.{most_line};
 
 use run::Program;
 use run_line::MOST_LINE;
-use run_streams::Input;
 use sheet_reader::MOST_BYTES;
 use std::io;
 use std::io::{Eprint, Print};
@@ -20,7 +19,7 @@ fn answer_in<R: io::Input + Print + Eprint>(
 )
     requires { 5 * length bytes.old + most_line ≤ length out.old }
 {
-    let Input::Read(len) = run_streams::read_all(rt, bytes) else {
+    let Some(len) = run_streams::read_all(rt, bytes) else {
         return;
     };
     let end = run::put_run(program, &bytes[..len], out);

@@ -2,7 +2,7 @@
 use Rattle.std.specs.Prelude.{true, List, ℕ}
 use Rattle.set_params.specs.declared.Params.{Params}
 use Rattle.quote_couple_kinds.specs.CoupleKinds.{single_of}
-use Rattle.quote_along.specs.declared.Answer.{Answer}
+use Rattle.quote_along.specs.QuoteBy.{Answer}
 use Rattle.quote_couple.specs.Couple.{couple_answer}
 use Rattle.run_couple_query.specs.declared.CoupleQuery.{CoupleQuery}
 use Rattle.run_couple_query.specs.CoupleQuery.{read_couple}

@@ -7,7 +7,7 @@ ghost use Rattle.set_limits.specs.InLimits.{in_limits};
 ghost use Rattle.run_couple_line.specs.CoupleLine.{query_couple, couple_reply, couple_line, most_couple};
 
 use quote_along::Answer;
-use run_couple_query::{CoupleQuery, CoupleQueryRead};
+use run_couple_query::CoupleQuery;
 use set_params::Params;
 use set_refusal::Refusal;
 
@@ -54,7 +54,7 @@ pub fn put_couple(buffer: &mut [u8], at: usize, first: Params, second: Params, l
     requires { T (in_limits first) × T (in_limits second) × (at + most_couple ≤ length buffer.old) }
     ensures { Put buffer.old at (couple_line first second line.now) buffer.new result }
 {
-    let CoupleQueryRead::Of(query) = run_couple_query::couple_query_of(line) else {
+    let Some(query) = run_couple_query::couple_query_of(line) else {
         return run_answer_text::put_refusal(buffer, at, Refusal::Malformed);
     };
     let place = run_answer_text::put_echo(buffer, at, line);

@@ -1,5 +1,6 @@
 -- A couple's query line in the steps of the code: what is still to be read after each part.
 use mathlib.Core.Path.{◌≡◌, sym, ap, ◌∙◌}
+use Rattle.std.specs.Prelude.{Option, None, Some}
 use Prim.Native.Nat.{ℕ}
 use mathlib.Core.List.{List}
 use lib.IntN.{ℤ}
@@ -9,8 +10,6 @@ use Rattle.text_tokens.specs.laws.Steps.{goes, stops}
 use Rattle.quote_couple_kinds.specs.declared.CoupleKind.{CoupleKind}
 use Rattle.run_query.specs.Query.{read_word, read_field, ended}
 use Rattle.run_couple_query.specs.declared.CoupleQuery.{CoupleQuery}
-use Rattle.run_couple_query.specs.declared.CoupleKindRead.{CoupleKindRead}
-use Rattle.run_couple_query.specs.declared.CoupleKindRead.TheVariants.{Malformed, Of}
 use Rattle.run_couple_query.specs.CoupleQuery.{couple_word, couples_on_offer, read_couple}
 use Rattle.run_couple_query.specs.code.Code.{couple_kind_read}
 
@@ -47,9 +46,9 @@ start-taken line e = goes _ e
 -- ---- what a result of the code says was read of a kind
 
 module _ (bytes : List ℕ) where
-  pub kind-malformed : {r : CoupleKindRead} {q : Parse CoupleKind} → couple_kind_read bytes r ≡ q → r ≡ Malformed → q ≡ malformed
+  pub kind-malformed : {r : Option (CoupleKind × ℕ)} {q : Parse CoupleKind} → couple_kind_read bytes r ≡ q → r ≡ None → q ≡ malformed
   kind-malformed e f = sym e ∙ ap (couple_kind_read bytes) f
 
-  pub kind-taken : {r : CoupleKindRead} {q : Parse CoupleKind} {k : CoupleKind} {next : ℕ} → couple_kind_read bytes r ≡ q
-      → r ≡ Of k next → q ≡ taken k (drop next bytes)
+  pub kind-taken : {r : Option (CoupleKind × ℕ)} {q : Parse CoupleKind} {k : CoupleKind} {next : ℕ} → couple_kind_read bytes r ≡ q
+      → r ≡ Some (k, next) → q ≡ taken k (drop next bytes)
   kind-taken e f = sym e ∙ ap (couple_kind_read bytes) f

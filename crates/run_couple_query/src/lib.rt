@@ -7,7 +7,6 @@ ghost use Rattle.run_couple_query.specs.CoupleQuery.{couple_word, couples_on_off
 ghost use Rattle.run_couple_query.specs.code.Code.{couple_kind_read, couple_read};
 
 use quote_couple_kinds::CoupleKind;
-use text_tokens::NumberRead;
 
 // What is asked of two lives: `age` is the first's and `other` the second's.
 #[derive(Clone, Copy)]
@@ -19,69 +18,42 @@ pub struct CoupleQuery {
     pub span: i64,
 }
 
-// A kind whose word was read, with the place after it.
-#[derive(Clone, Copy)]
-pub enum CoupleKindRead {
-    Malformed,
-    Of(CoupleKind, usize),
-}
-
-// A query that was read.
-#[derive(Clone, Copy)]
-pub enum CoupleQueryRead {
-    Malformed,
-    Of(CoupleQuery),
-}
-
-// The kind whose word stands at a place.
-pub fn couple_kind_at(bytes: &[u8], at: usize) -> CoupleKindRead
+// The kind whose word stands at a place, with the place after it.
+pub fn couple_kind_at(bytes: &[u8], at: usize) -> Option<(CoupleKind, usize)>
     ensures { couple_kind_read bytes.now result
         ≡ read_word couple_word couples_on_offer (drop at bytes.now) }
 {
     if text_tokens::text_at(bytes, at, b"joint") {
-        return CoupleKindRead::Of(CoupleKind::JointLife, at + 5);
+        return Some((CoupleKind::JointLife, at + 5));
     }
     if text_tokens::text_at(bytes, at, b"last") {
-        return CoupleKindRead::Of(CoupleKind::LastSurvivor, at + 4);
+        return Some((CoupleKind::LastSurvivor, at + 4));
     }
     if text_tokens::text_at(bytes, at, b"ejoint") {
-        return CoupleKindRead::Of(CoupleKind::JointExpectancy, at + 6);
+        return Some((CoupleKind::JointExpectancy, at + 6));
     }
     if text_tokens::text_at(bytes, at, b"elast") {
-        return CoupleKindRead::Of(CoupleKind::LastExpectancy, at + 5);
+        return Some((CoupleKind::LastExpectancy, at + 5));
     }
-    CoupleKindRead::Malformed
+    None
 }
 
 // The query of a line.
-pub fn couple_query_of(line: &[u8]) -> CoupleQueryRead
+pub fn couple_query_of(line: &[u8]) -> Option<CoupleQuery>
     ensures { couple_read result ≡ read_couple line.now }
 {
     if !text_tokens::text_at(line, 0, b"kind=") {
-        return CoupleQueryRead::Malformed;
+        return None;
     }
-    let CoupleKindRead::Of(kind, after_kind) = couple_kind_at(line, 5) else {
-        return CoupleQueryRead::Malformed;
-    };
-    let NumberRead::Number(age, after_age) = run_query::field_at(line, after_kind, b" age=") else {
-        return CoupleQueryRead::Malformed;
-    };
-    let NumberRead::Number(other, after_other) = run_query::field_at(line, after_age, b" age2=")
-    else {
-        return CoupleQueryRead::Malformed;
-    };
-    let NumberRead::Number(year, after_year) = run_query::field_at(line, after_other, b" year=")
-    else {
-        return CoupleQueryRead::Malformed;
-    };
-    let NumberRead::Number(span, after_span) = run_query::field_at(line, after_year, b" span=")
-    else {
-        return CoupleQueryRead::Malformed;
-    };
+    let (kind, after_kind) = couple_kind_at(line, 5)?;
+    let (age, after_age) = run_query::field_at(line, after_kind, b" age=")?;
+    let (other, after_other) = run_query::field_at(line, after_age, b" age2=")?;
+    let (year, after_year) = run_query::field_at(line, after_other, b" year=")?;
+    let (span, after_span) = run_query::field_at(line, after_year, b" span=")?;
     if !run_query::ends_at(line, after_span) {
-        return CoupleQueryRead::Malformed;
+        return None;
     }
-    CoupleQueryRead::Of(CoupleQuery {
+    Some(CoupleQuery {
         kind,
         age,
         other,

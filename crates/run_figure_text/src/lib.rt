@@ -13,10 +13,8 @@ fn without_last(n: u64, decimals: usize) -> u64
     ensures { result ≡ n / 10 ^ decimals }
 {
     let mut rest = n;
-    let mut left = decimals;
-    while 0 < left {
-        rest = rest / 10;
-        left -= 1;
+    for _taken in 0..decimals {
+        rest /= 10;
     }
     rest
 }
@@ -27,11 +25,9 @@ fn put_last_digits(buffer: &mut [u8], at: usize, decimals: usize, n: u64) -> usi
     ensures { Put buffer.old at (last_digits decimals n) buffer.new result }
 {
     let mut rest = n;
-    let mut left = decimals;
-    while 0 < left {
-        left -= 1;
-        buffer[at + left] = b'0' + (rest % 10) as u8;
-        rest = rest / 10;
+    for place in (0..decimals).rev() {
+        buffer[at + place] = b'0' + (rest % 10) as u8;
+        rest /= 10;
     }
     at + decimals
 }

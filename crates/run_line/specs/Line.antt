@@ -1,7 +1,7 @@
 -- The answer to a line, by the program's mode and two sets, of which a program of one sheet takes the first.
 use Rattle.std.specs.Prelude.{List, ℕ}
 use Rattle.set_params.specs.declared.Params.{Params}
-use Rattle.quote_along.specs.declared.Answer.{Answer}
+use Rattle.quote_along.specs.QuoteBy.{Answer}
 use Rattle.quote.specs.Quote.{answer_of}
 use Rattle.run_query.specs.declared.Query.{Query}
 use Rattle.run_query.specs.Query.{read_query}

@@ -8,7 +8,7 @@ ghost use Rattle.run_line.specs.Line.{query_answer, reply, query_line, line_answ
 
 use quote_along::Answer;
 use run_couple_line::MOST_COUPLE;
-use run_query::{Query, QueryRead};
+use run_query::Query;
 use run_target_line::MOST_TARGET;
 use set_params::Params;
 use set_refusal::Refusal;
@@ -91,7 +91,7 @@ fn put_query(
     requires { T (in_limits first) × T (in_limits second) × (at + longest_reply follows ≤ length buffer.old) }
     ensures { Put buffer.old at (query_line follows first second line.now) buffer.new result }
 {
-    let QueryRead::Of(query) = run_query::query_of(line) else {
+    let Some(query) = run_query::query_of(line) else {
         return run_answer_text::put_refusal(buffer, at, Refusal::Malformed);
     };
     let place = run_answer_text::put_echo(buffer, at, line);

@@ -1,5 +1,6 @@
 -- A query line in the steps of the code: what is still to be read after each part.
 use mathlib.Core.Path.{◌≡◌, refl, sym, ap, ◌∙◌}
+use Rattle.std.specs.Prelude.{Option, None, Some}
 use Prim.Native.Nat.{ℕ, ◌+◌, ◌≤◌, ◌<◌}
 use native.Mathlib.Decide.{dec_le}
 use native.Mathlib.Nat.{lt_of_not-le}
@@ -17,8 +18,6 @@ use Rattle.text_tokens.specs.laws.TextLaws.{text-found, text-missing}
 use Rattle.text_tokens.specs.laws.Steps.{goes, stops}
 use Rattle.quote_kinds.specs.declared.Kind.{Kind}
 use Rattle.run_query.specs.declared.Query.{Query}
-use Rattle.run_query.specs.declared.KindRead.{KindRead}
-use Rattle.run_query.specs.declared.KindRead.TheVariants.{Malformed, Of}
 use Rattle.quote_kinds.specs.Kinds.{takes_rate, with_rate}
 use Rattle.run_query.specs.Query.{word_of, on_offer, term_name, read_word, read_field, read_rate, alone, ended, whole_word, read_query}
 use Rattle.run_query.specs.code.Code.{kind_read, line_ends}
@@ -136,9 +135,9 @@ module _ (k : Kind) (bs : List ℕ) where
 -- ---- what a result of the code says was read of a kind
 
 module _ (bytes : List ℕ) where
-  pub kind-malformed : {r : KindRead} {q : Parse Kind} → kind_read bytes r ≡ q → r ≡ Malformed → q ≡ malformed
+  pub kind-malformed : {r : Option (Kind × ℕ)} {q : Parse Kind} → kind_read bytes r ≡ q → r ≡ None → q ≡ malformed
   kind-malformed e f = sym e ∙ ap (kind_read bytes) f
 
-  pub kind-taken : {r : KindRead} {q : Parse Kind} {k : Kind} {next : ℕ} → kind_read bytes r ≡ q → r ≡ Of k next
+  pub kind-taken : {r : Option (Kind × ℕ)} {q : Parse Kind} {k : Kind} {next : ℕ} → kind_read bytes r ≡ q → r ≡ Some (k, next)
       → q ≡ taken k (drop next bytes)
   kind-taken e f = sym e ∙ ap (kind_read bytes) f

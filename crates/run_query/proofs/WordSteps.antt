@@ -4,8 +4,7 @@ use Prim.Native.Nat.{ℕ, ◌+◌}
 use mathlib.Core.Bool.{Bool, true, false}
 use mathlib.Core.List.{List, ◌∷◌}
 use lib.ListN.{length, drop}
-use Rattle.text_tokens.specs.declared.NumberRead.{NumberRead}
-use Rattle.text_tokens.specs.declared.NumberRead.TheVariants.{Malformed, Number}
+use Rattle.std.specs.Prelude.{Option, None, Some, ℤ}
 use Rattle.text_tokens.specs.Text.{malformed, taken}
 use Rattle.text_tokens.specs.Number.{read_number}
 use Rattle.text_tokens.specs.code.Places.{text_at, number_at, number_read}
@@ -15,10 +14,10 @@ use Rattle.text_tokens.specs.laws.Steps.{goes, stops}
 use Rattle.run_query.specs.Query.{read_word, read_field}
 
 -- the number that the code's result at a place says was read
-number-said : (bytes : List ℕ) (at : ℕ) (r : NumberRead) → r ≡ number_at bytes at
+number-said : (bytes : List ℕ) (at : ℕ) (r : Option (ℤ × ℕ)) → r ≡ number_at bytes at
     → number_read bytes r ≡ read_number (drop at bytes)
-number-said bytes at Malformed e = sym (number-malformed bytes at (sym e))
-number-said bytes at (Number v next) e = sym (number-found bytes at (sym e))
+number-said bytes at None e = sym (number-malformed bytes at (sym e))
+number-said bytes at (Some (v, next)) e = sym (number-found bytes at (sym e))
 
 module _ (bytes : List ℕ) (at : ℕ) where
   -- the first word on offer is found, or the others are left
@@ -39,7 +38,7 @@ module _ (bytes : List ℕ) (at : ℕ) where
     unfolding read_field
     name-missing h = stops _ (text-missing bytes at name h)
 
-    pub number-follows : text_at bytes at name ≡ true → {r : NumberRead} → r ≡ number_at bytes (at + length name)
+    pub number-follows : text_at bytes at name ≡ true → {r : Option (ℤ × ℕ)} → r ≡ number_at bytes (at + length name)
         → number_read bytes r ≡ read_field name (drop at bytes)
     unfolding read_field
     number-follows h {r} e = number-said bytes (at + length name) r e ∙ sym (goes _ (text-found bytes at name h))

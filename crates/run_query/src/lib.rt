@@ -9,7 +9,6 @@ ghost use Rattle.run_query.specs.Query.{word_of, on_offer, term_name, read_word,
 ghost use Rattle.run_query.specs.code.Code.{kind_read, query_read, line_ends};
 
 use quote_kinds::Kind;
-use text_tokens::NumberRead;
 
 // What is asked of a life; the term is a span, or of the kind `day` a date.
 #[derive(Clone, Copy)]
@@ -18,20 +17,6 @@ pub struct Query {
     pub age: i64,
     pub year: i64,
     pub term: i64,
-}
-
-// A kind whose word was read, with the place after it.
-#[derive(Clone, Copy)]
-pub enum KindRead {
-    Malformed,
-    Of(Kind, usize),
-}
-
-// A query that was read.
-#[derive(Clone, Copy)]
-pub enum QueryRead {
-    Malformed,
-    Of(Query),
 }
 
 // Whether a kind takes a rate.
@@ -66,50 +51,50 @@ pub fn with_rate(kind: Kind, rate: i64) -> Kind
     }
 }
 
-// The kind whose word stands at a place, rates aside.
-pub fn kind_at(bytes: &[u8], at: usize) -> KindRead
+// The kind whose word stands at a place, rates aside, with the place after it.
+pub fn kind_at(bytes: &[u8], at: usize) -> Option<(Kind, usize)>
     ensures { kind_read bytes.now result ≡ read_word word_of on_offer (drop at bytes.now) }
 {
     if text_tokens::text_at(bytes, at, b"q") {
-        return KindRead::Of(Kind::Death, at + 1);
+        return Some((Kind::Death, at + 1));
     }
     if text_tokens::text_at(bytes, at, b"coh") {
-        return KindRead::Of(Kind::CohortSurvival, at + 3);
+        return Some((Kind::CohortSurvival, at + 3));
     }
     if text_tokens::text_at(bytes, at, b"per") {
-        return KindRead::Of(Kind::PeriodSurvival, at + 3);
+        return Some((Kind::PeriodSurvival, at + 3));
     }
     if text_tokens::text_at(bytes, at, b"ecoh") {
-        return KindRead::Of(Kind::CohortExpectancy, at + 4);
+        return Some((Kind::CohortExpectancy, at + 4));
     }
     if text_tokens::text_at(bytes, at, b"eper") {
-        return KindRead::Of(Kind::PeriodExpectancy, at + 4);
+        return Some((Kind::PeriodExpectancy, at + 4));
     }
     if text_tokens::text_at(bytes, at, b"acoh") {
-        return KindRead::Of(Kind::CohortAnnuity(0), at + 4);
+        return Some((Kind::CohortAnnuity(0), at + 4));
     }
     if text_tokens::text_at(bytes, at, b"aper") {
-        return KindRead::Of(Kind::PeriodAnnuity(0), at + 4);
+        return Some((Kind::PeriodAnnuity(0), at + 4));
     }
     if text_tokens::text_at(bytes, at, b"day") {
-        return KindRead::Of(Kind::Day, at + 3);
+        return Some((Kind::Day, at + 3));
     }
-    KindRead::Malformed
+    None
 }
 
-// The number behind a name at a place.
-pub fn field_at(bytes: &[u8], at: usize, name: &[u8]) -> NumberRead
+// The number behind a name at a place, with the place after it.
+pub fn field_at(bytes: &[u8], at: usize, name: &[u8]) -> Option<(i64, usize)>
     ensures { number_read bytes.now result
         ≡ read_field name.now (drop at bytes.now) }
 {
     if !text_tokens::text_at(bytes, at, name) {
-        return NumberRead::Malformed;
+        return None;
     }
     text_numbers::number_at(bytes, at + name.len())
 }
 
 // The term of a kind at a place: a date, or a span.
-fn term_at(bytes: &[u8], at: usize, kind: Kind) -> NumberRead
+fn term_at(bytes: &[u8], at: usize, kind: Kind) -> Option<(i64, usize)>
     ensures { number_read bytes.now result ≡ read_field (term_name kind) (drop at bytes.now) }
 {
     let rule = quote_kinds::rule_of(kind);
@@ -119,55 +104,40 @@ fn term_at(bytes: &[u8], at: usize, kind: Kind) -> NumberRead
     field_at(bytes, at, b" span=")
 }
 
-// The kind with the rate that stands at a place, where it takes one.
-fn rate_at(bytes: &[u8], at: usize, kind: Kind) -> KindRead
+// The kind with the rate that stands at a place, where it takes one, and the place after it.
+fn rate_at(bytes: &[u8], at: usize, kind: Kind) -> Option<(Kind, usize)>
     ensures { kind_read bytes.now result ≡ read_rate kind (drop at bytes.now) }
 {
     if !takes_rate(kind) {
-        return KindRead::Of(kind, at);
+        return Some((kind, at));
     }
-    let NumberRead::Number(rate, next) = field_at(bytes, at, b" rate=") else {
-        return KindRead::Malformed;
-    };
-    KindRead::Of(with_rate(kind, rate), next)
+    let (rate, next) = field_at(bytes, at, b" rate=")?;
+    Some((with_rate(kind, rate), next))
 }
 
 // Whether a line ends at a place: a line feed, and nothing behind it.
 pub fn ends_at(line: &[u8], at: usize) -> bool
     ensures { result ≡ line_ends (drop at line.now) }
 {
-    if !text_tokens::text_at(line, at, b"\n") {
-        return false;
-    }
-    line.len() <= at + 1
+    text_tokens::text_at(line, at, b"\n") && line.len() <= at + 1
 }
 
 // The query of a line.
-pub fn query_of(line: &[u8]) -> QueryRead
+pub fn query_of(line: &[u8]) -> Option<Query>
     ensures { query_read result ≡ read_query line.now }
 {
     if !text_tokens::text_at(line, 0, b"kind=") {
-        return QueryRead::Malformed;
+        return None;
     }
-    let KindRead::Of(word, after_word) = kind_at(line, 5) else {
-        return QueryRead::Malformed;
-    };
-    let NumberRead::Number(age, after_age) = field_at(line, after_word, b" age=") else {
-        return QueryRead::Malformed;
-    };
-    let NumberRead::Number(year, after_year) = field_at(line, after_age, b" year=") else {
-        return QueryRead::Malformed;
-    };
-    let NumberRead::Number(term, after_term) = term_at(line, after_year, word) else {
-        return QueryRead::Malformed;
-    };
-    let KindRead::Of(kind, after_rate) = rate_at(line, after_term, word) else {
-        return QueryRead::Malformed;
-    };
+    let (word, after_word) = kind_at(line, 5)?;
+    let (age, after_age) = field_at(line, after_word, b" age=")?;
+    let (year, after_year) = field_at(line, after_age, b" year=")?;
+    let (term, after_term) = term_at(line, after_year, word)?;
+    let (kind, after_rate) = rate_at(line, after_term, word)?;
     if !ends_at(line, after_rate) {
-        return QueryRead::Malformed;
+        return None;
     }
-    QueryRead::Of(Query {
+    Some(Query {
         kind,
         age,
         year,

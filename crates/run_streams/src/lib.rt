@@ -10,13 +10,6 @@ use std::io::{Eprint, ErrorKind, Print, Read, Write};
 // How often one read or write is tried where signals interrupt it.
 const TRIES: usize = 1000;
 
-// What came of reading: so many bytes, none at the end of the input, or that it failed.
-#[derive(Clone, Copy)]
-pub enum Input {
-    Read(usize),
-    Failed,
-}
-
 // Writes an error's words into the bytes; how many it wrote.
 fn told(bytes: &mut [u8], why: io::Error) -> usize
     ensures { result ≤ length bytes.old }
@@ -54,8 +47,7 @@ fn read_some<R: io::Input>(rt: &R, bytes: &mut [u8]) -> io::Result<usize>
     ensures { IfOk result (λ n. n ≤ length bytes.new) }
 {
     let mut input = rt.reader();
-    let mut tries = TRIES;
-    while 1 < tries {
+    for _ in 1..TRIES {
         let got = input.read(bytes);
         let Err(error) = got else {
             return got;
@@ -63,31 +55,31 @@ fn read_some<R: io::Input>(rt: &R, bytes: &mut [u8]) -> io::Result<usize>
         if error.kind() != ErrorKind::Interrupted {
             return got;
         }
-        tries -= 1;
     }
     input.read(bytes)
 }
 
-// Reads standard input to its end, or until the bytes are full.
-pub fn read_all<R: io::Input + Eprint>(rt: &R, bytes: &mut [u8]) -> Input
+// Reads standard input to its end, or until the bytes are full: how many it read, or none where reading failed, which is told.
+pub fn read_all<R: io::Input + Eprint>(rt: &R, bytes: &mut [u8]) -> Option<usize>
     ensures { ReadIn (length bytes.new) result }
 {
+    // no `for`: each turn moves `done` by as many bytes as were read
     let mut done = 0;
     while done < bytes.len() {
         match read_some(rt, &mut bytes[done..]) {
             Ok(more) => {
                 if more == 0 {
-                    return Input::Read(done);
+                    return Some(done);
                 }
                 done += more;
             }
             Err(error) => {
                 complain(rt, "reading standard input failed", error);
-                return Input::Failed;
+                return None;
             }
         }
     }
-    Input::Read(done)
+    Some(done)
 }
 
 // One write of the bytes; how many it wrote.
@@ -95,8 +87,7 @@ fn write_some<R: Print>(rt: &R, bytes: &[u8]) -> io::Result<usize>
     ensures { IfOk result (λ n. n ≤ length bytes.now) }
 {
     let mut output = io::writer(rt);
-    let mut tries = TRIES;
-    while 1 < tries {
+    for _ in 1..TRIES {
         let put = output.write(bytes);
         let Err(error) = put else {
             return put;
@@ -104,13 +95,13 @@ fn write_some<R: Print>(rt: &R, bytes: &[u8]) -> io::Result<usize>
         if error.kind() != ErrorKind::Interrupted {
             return put;
         }
-        tries -= 1;
     }
     output.write(bytes)
 }
 
 // Writes all bytes to standard output.
 pub fn write_all<R: Print + Eprint>(rt: &R, bytes: &[u8]) {
+    // no `for`: each turn moves `done` by as many bytes as were written
     let mut done = 0;
     while done < bytes.len() {
         match write_some(rt, &bytes[done..]) {

@@ -6,13 +6,12 @@ ghost use Rattle.std.specs.Prelude.{◌≡◌, ◌+◌, ◌^◌, ◌≤◌, ◌<
 ghost use Rattle.text_tokens.specs.Number.{most_digits};
 ghost use Rattle.text_printing.specs.code.Put.{Room, Put};
 ghost use Rattle.set_limits.specs.InLimits.{in_limits};
-ghost use Rattle.run_target_line.specs.TargetLine.{read_target, year_text, found_text, target_reply, target_line, most_target};
-ghost use Rattle.run_target_line.specs.code.Code.{target_read, SizedFound};
+ghost use Rattle.run_target_line.specs.TargetLine.{read_target, year_text, told_text, found_text, target_reply, target_line, most_target};
+ghost use Rattle.run_target_line.specs.code.Code.{target_read, SizedTold, SizedFound};
 
-use quote_target::TargetYear;
+use quote_target::{TargetAnswer, TargetYear};
 use set_params::Params;
 use set_refusal::Refusal;
-use text_tokens::NumberRead;
 
 // What is asked: an age, and an expectancy in units of 10^-9.
 #[derive(Clone, Copy)]
@@ -21,28 +20,16 @@ pub struct TargetQuery {
     pub target: i64,
 }
 
-// A target's line that was read.
-#[derive(Clone, Copy)]
-pub enum TargetQueryRead {
-    Malformed,
-    Of(TargetQuery),
-}
-
 // What a line asks.
-pub fn target_query_of(line: &[u8]) -> TargetQueryRead
+pub fn target_query_of(line: &[u8]) -> Option<TargetQuery>
     ensures { target_read result ≡ read_target line.now }
 {
-    let NumberRead::Number(age, after_age) = run_query::field_at(line, 0, b"age=") else {
-        return TargetQueryRead::Malformed;
-    };
-    let NumberRead::Number(target, after_target) = run_query::field_at(line, after_age, b" target=")
-    else {
-        return TargetQueryRead::Malformed;
-    };
+    let (age, after_age) = run_query::field_at(line, 0, b"age=")?;
+    let (target, after_target) = run_query::field_at(line, after_age, b" target=")?;
     if !run_query::ends_at(line, after_target) {
-        return TargetQueryRead::Malformed;
+        return None;
     }
-    TargetQueryRead::Of(TargetQuery { age, target })
+    Some(TargetQuery { age, target })
 }
 
 // No answer to a target's line is longer.
@@ -57,16 +44,26 @@ fn put_year(buffer: &mut [u8], at: usize, year: i64) -> usize
     text_printing::put_text(buffer, end, b"\n")
 }
 
+// Writes what a year tells; the place after it.
+fn put_told(buffer: &mut [u8], at: usize, told: TargetYear) -> usize
+    requires { SizedTold told × Room buffer.old at (told_text told) }
+    ensures { Put buffer.old at (told_text told) buffer.new result }
+{
+    match told {
+        TargetYear::Reached(year) => put_year(buffer, at, year),
+        TargetYear::Open => text_printing::put_text(buffer, at, b" year=open\n"),
+        TargetYear::Never => text_printing::put_text(buffer, at, b" year=none\n"),
+    }
+}
+
 // Writes what was found behind what was asked; the place after it.
-fn put_found(buffer: &mut [u8], at: usize, found: TargetYear) -> usize
+fn put_found(buffer: &mut [u8], at: usize, found: TargetAnswer) -> usize
     requires { SizedFound found × Room buffer.old at (found_text found) }
     ensures { Put buffer.old at (found_text found) buffer.new result }
 {
     match found {
-        TargetYear::Reached(year) => put_year(buffer, at, year),
-        TargetYear::Open => text_printing::put_text(buffer, at, b" year=open\n"),
-        TargetYear::Never => text_printing::put_text(buffer, at, b" year=none\n"),
-        TargetYear::Refused(refusal) => run_answer_text::put_refused(buffer, at, refusal),
+        Ok(told) => put_told(buffer, at, told),
+        Err(refusal) => run_answer_text::put_refused(buffer, at, refusal),
     }
 }
 
@@ -84,7 +81,7 @@ pub fn put_target(buffer: &mut [u8], at: usize, p: Params, line: &[u8]) -> usize
     requires { T (in_limits p) × (at + most_target ≤ length buffer.old) }
     ensures { Put buffer.old at (target_line p line.now) buffer.new result }
 {
-    let TargetQueryRead::Of(query) = target_query_of(line) else {
+    let Some(query) = target_query_of(line) else {
         return run_answer_text::put_refusal(buffer, at, Refusal::Malformed);
     };
     let place = run_answer_text::put_echo(buffer, at, line);

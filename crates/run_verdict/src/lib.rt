@@ -11,20 +11,17 @@ ghost use Rattle.run_verdict.specs.code.Code.{PlaceIn};
 
 use run_sheets::Sheets;
 use set_refusal::Refusal;
-use text_tokens::NumberRead;
 
-// The year of the line at a place.
-fn year_at(bytes: &[u8], at: usize) -> NumberRead
+// The year of the line at a place, and the place after the line.
+fn year_at(bytes: &[u8], at: usize) -> Option<(i64, usize)>
     ensures { (number_read bytes.now result ≡ read_year (drop at bytes.now))
         × PlaceIn (length bytes.now) result }
 {
-    let NumberRead::Number(year, after) = run_query::field_at(bytes, at, b"year=") else {
-        return NumberRead::Malformed;
-    };
+    let (year, after) = run_query::field_at(bytes, at, b"year=")?;
     if !text_tokens::text_at(bytes, after, b"\n") {
-        return NumberRead::Malformed;
+        return None;
     }
-    NumberRead::Number(year, after + 1)
+    Some((year, after + 1))
 }
 
 // Writes the one line of an input into a buffer that has room for any; the place after it.
@@ -33,7 +30,7 @@ pub fn put_verdict(input: &[u8], out: &mut [u8]) -> usize
     ensures { Put out.old 0 (verdict_run input.now) out.new result }
 {
     let front = run_sheets::read_front(Sheets::One, input);
-    let NumberRead::Number(year, next) = year_at(input, front.next) else {
+    let Some((year, next)) = year_at(input, front.next) else {
         return run_answer_text::put_refusal(out, 0, Refusal::Malformed);
     };
     let refusal = front.refusal;

@@ -1,12 +1,11 @@
 -- The line that the program `verdict` prints of a year (paper 02, E3): `year=2020 verdict=right`, `wrong` or `open`, or
 -- `year=2020 no=` and the number.
-use Rattle.std.specs.Prelude.{List, ◌++◌, ℕ, ℤ}
+use Rattle.std.specs.Prelude.{List, ◌++◌, ℕ, ℤ, Ok, Err}
 use Rattle.text_tokens.specs.Text.{bytes_of}
 use Rattle.text_tokens.specs.Number.{number_text}
 use Rattle.run_answer_text.specs.AnswerText.{refused_text}
 use Rattle.quote_verdicts.specs.declared.Verdict.{Verdict}
-use Rattle.quote_verdicts.specs.declared.Judged.{Judged}
-use Rattle.quote_verdicts.specs.declared.Judged.TheVariants.{Of, Refused}
+use Rattle.quote_verdicts.specs.Verdict.{Judged}
 use Rattle.quote_verdicts.specs.Verdict.{verdict_word}
 
 -- a verdict's word
@@ -15,8 +14,8 @@ word_text v = bytes_of " verdict=" ++ (verdict_word v ++ bytes_of "\n")
 
 -- what follows the year
 unfoldable pub judged_text : Judged → List ℕ
-judged_text (Of v) = word_text v
-judged_text (Refused r) = refused_text r
+judged_text (Ok v) = word_text v
+judged_text (Err r) = refused_text r
 
 unfoldable pub verdict_line : ℤ → Judged → List ℕ
 verdict_line year j = (bytes_of "year=" ++ number_text year) ++ judged_text j

@@ -29,8 +29,8 @@ fn put_judged(out: &mut [u8], at: usize, judged: Judged) -> usize
     ensures { Put out.old at (judged_text judged) out.new result }
 {
     match judged {
-        Judged::Of(verdict) => put_word(out, at, verdict),
-        Judged::Refused(refusal) => run_answer_text::put_refused(out, at, refusal),
+        Ok(verdict) => put_word(out, at, verdict),
+        Err(refusal) => run_answer_text::put_refused(out, at, refusal),
     }
 }
 

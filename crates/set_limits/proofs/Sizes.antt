@@ -1,12 +1,5 @@
--- What the proofs about limits share: a number against a limit either side of zero, and a test among several.
-use mathlib.Core.Path.{◌≡◌, refl, sym, ap, ◌∙◌}
-use mathlib.Core.Bool.{Bool, true, false, not, ◌&&◌, true≢false, false≢true}
-use Prim.Native.Nat.{ℕ, zero, suc}
-use native.Mathlib.Omega.{arith}
-use borrow.Author.Tests.{not-true, not-false}
-use lib.Dec.{leb-suc-zero, leb-suc-suc}
-use lib.IntN.{ℤ, pos, negsuc, neg_ℤ, nat_abs, ◌-ℤ◌, +ℤ_idl}
-use lib.Signed.{◌≤ℤ◌, lt_z, le_z}
+-- What the proofs about limits share: a number against a limit either side of zero, and tests joined by "and".
+use Rattle.std.proofs.Common.{◌≡◌, refl, ap, ◌∙◌, ℕ, Bool, true, false, ◌&&◌, ℤ}
 use mir.Syntax.{w64}
 use mir.Val.{SFits, to_z, of_z}
 use mir.Facts.{to_z-of_z}
@@ -14,43 +7,33 @@ use Rattle.number_whole.specs.code.Sizes.{Under}
 use Rattle.number_whole.proofs.laws.Bound.{under-lit}
 use Rattle.set_params.specs.Limits.{within}
 
--- −limit fits
-neg-fits : (limit : ℤ) → pos 0 ≤ℤ limit → SFits w64 limit → SFits w64 (neg_ℤ limit)
-neg-fits (pos zero) h f = record { sfits = omega arith }
-neg-fits (pos (suc k)) h f = record { sfits = omega (arith, f.sfits) }
-neg-fits (negsuc k) h f = absurd h.le
-
-pub minus-fits : (limit : ℤ) → pos 0 ≤ℤ limit → SFits w64 limit → SFits w64 (pos 0 -ℤ limit)
-minus-fits limit h f = rw (+ℤ_idl (neg_ℤ limit)) (neg-fits limit h f)
-
--- below zero, v is within the limit where −limit ≤ v
-below-neg : (v limit : ℤ) → pos 0 ≤ℤ limit → lt_z v (pos 0) ≡ true → le_z (neg_ℤ limit) v ≡ within (nat_abs limit) v
-below-neg (pos n) limit h e = absurd (false≢true (sym (leb-suc-zero n) ∙ e))
-below-neg (negsuc n) (pos zero) h e = sym (leb-suc-zero n)
-below-neg (negsuc n) (pos (suc k)) h e = sym (leb-suc-suc n k)
-below-neg (negsuc n) (negsuc k) h e = absurd h.le
-
-pub below-within : (v limit : ℤ) → pos 0 ≤ℤ limit → lt_z v (pos 0) ≡ true
-    → le_z (pos 0 -ℤ limit) v ≡ within (nat_abs limit) v
-below-within v limit h e = rw (+ℤ_idl (neg_ℤ limit)) (below-neg v limit h e)
-
--- at zero and above, where v ≤ limit
-pub above_within : (v limit : ℤ) → pos 0 ≤ℤ limit → lt_z v (pos 0) ≡ false → le_z v limit ≡ within (nat_abs limit) v
-above_within (pos n) (pos k) h e = refl
-above_within (pos n) (negsuc k) h e = absurd h.le
-above_within (negsuc n) limit h e = absurd (true≢false e)
-
--- a test of v is one of z, where v reads back as z
-pub tested : (k : ℕ) {b : Bool} {v z : ℤ} → b ≡ within k (to_z w64 (of_z w64 v)) → SFits w64 v → v ≡ z → b ≡ within k z
-tested k e f q = e ∙ ap (within k) (to_z-of_z f ∙ q)
+-- a test of a number as it is read is one of the number
+pub tested : (k : ℕ) {b : Bool} {v : ℤ} → b ≡ within k (to_z w64 (of_z w64 v)) → SFits w64 v → b ≡ within k v
+tested k e f = e ∙ ap (within k) (to_z-of_z f)
 
 -- a test that passed is a bound
-pub passed : {r : Bool} {z : ℤ} (k : ℕ) → not r ≡ false → r ≡ within k z → Under z k
-passed {r} k e q = under-lit (rw (← q, not-false r e) tt)
+pub passed : (k : ℕ) (z : ℤ) → within k z ≡ true → Under z k
+passed k z e = under-lit (rw e tt)
 
--- the first of several tests fails, or it passes and the others decide
-pub fails : {r a : Bool} (b : Bool) → not r ≡ true → r ≡ a → false ≡ (a && b)
-fails {r} b e q = rw (← q, not-true r e)
+-- a first test passes and the next one decides, or it fails
+pub then-both : {r a x b v : Bool} → r ≡ true → r ≡ a → x ≡ b → v ≡ x → v ≡ (a && b)
+then-both e q f h = rw (← q, e) (h ∙ f)
 
-pub passes : {r a b x : Bool} → not r ≡ false → r ≡ a → x ≡ b → x ≡ (a && b)
-passes {r} e q h = rw (← q, not-false r e) h
+pub else-both : {r a v : Bool} (b : Bool) → r ≡ false → r ≡ a → v ≡ r → v ≡ (a && b)
+else-both b e q h = rw (← q, e) (h ∙ e)
+
+-- four tests and five, however they are grouped, and the last two of three that pass
+pub four-regrouped : (a b c d : Bool) → (((a && b) && c) && d) ≡ (a && (b && (c && d)))
+four-regrouped true true true d = refl
+four-regrouped true true false d = refl
+four-regrouped true false c d = refl
+four-regrouped false b c d = refl
+
+pub regrouped : (a b c d e : Bool) → ((((a && b) && c) && d) && e) ≡ (a && (b && (c && (d && e))))
+regrouped true b c d e = four-regrouped b c d e
+regrouped false b c d e = refl
+
+pub last-two : (a b c : Bool) → ((a && b) && c) ≡ true → (b ≡ true) × (c ≡ true)
+last-two true true c h = (refl, h)
+last-two true false c h = absurd cc
+last-two false b c h = absurd cc

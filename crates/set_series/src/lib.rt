@@ -3,13 +3,13 @@
 
 ghost use Rattle.std.specs.Prelude.{◌≡◌, ◌*◌, ◌≤◌};
 ghost use Rattle.number_whole.specs.code.Sizes.{Under, Within};
-ghost use Rattle.number_exponential.specs.Units.{ten_trillionths};
-ghost use Rattle.number_exponential.specs.code.Flag.{grid_by};
+ghost use Rattle.number_exponential.specs.Units.{ten_trillionths, grid_of};
 ghost use Rattle.set_params.specs.Limits.{kappa_limit, last_years};
 ghost use Rattle.set_params.specs.code.Within.{PeriodWithin, DynamicsWithin};
 ghost use Rattle.set_series.specs.Series.{in_grid, period_in, kappa_step, kappa_in};
 ghost use Rattle.set_series.specs.code.Within.{number_limit, mixed_over, MixedWithin, KappaWithin};
 
+use number_exponential::GridUnit;
 use number_whole::SignedEnds;
 use set_params::Dynamics;
 
@@ -37,14 +37,14 @@ pub fn period_index(start: i64, theta: i64, n: u64) -> i64
 }
 
 // A number of a set in a grid's units.
-pub fn in_grid(fine: bool, z: i64) -> i64
+pub fn in_grid(grid: GridUnit, z: i64) -> i64
     requires { Under z number_limit }
-    ensures { result ≡ in_grid (grid_by fine) z }
+    ensures { result ≡ in_grid (grid_of grid) z }
 {
-    if fine {
-        return FINE_SCALE * z;
+    match grid {
+        GridUnit::Coarse => z,
+        GridUnit::Fine => FINE_SCALE * z,
     }
-    z
 }
 
 // p and c·z over 10^8 in fine units: each is cut into a multiple of the divisor, which is divided exactly, and a rest.
@@ -61,44 +61,42 @@ fn fine_over(p: i64, c: i64, z: i64, upper: bool) -> i64
 }
 
 // p and c·z over 10^8, p a set's number and z in a grid's units: rounded up for an upper end and down for a lower one.
-pub fn mixed_over(fine: bool, p: i64, c: i64, z: i64, upper: bool) -> i64
-    requires { MixedWithin (grid_by fine) p c z }
-    ensures { result ≡ mixed_over (grid_by fine) p c z upper }
+pub fn mixed_over(grid: GridUnit, p: i64, c: i64, z: i64, upper: bool) -> i64
+    requires { MixedWithin (grid_of grid) p c z }
+    ensures { result ≡ mixed_over (grid_of grid) p c z upper }
 {
-    if fine {
-        return fine_over(p, c, z, upper);
+    match grid {
+        GridUnit::Coarse => number_whole::outward_div(p + c * z, UNIT_DIVISOR, UNITS_AWAY, upper),
+        GridUnit::Fine => fine_over(p, c, z, upper),
     }
-    number_whole::outward_div(p + c * z, UNIT_DIVISOR, UNITS_AWAY, upper)
 }
 
 // Kappa a year on: multiplied by a and divided by the rate's unit, outward, and then c added.
-pub fn kappa_step(fine: bool, d: Dynamics, e: SignedEnds) -> SignedEnds
-    requires { DynamicsWithin d × Within ((grid_by fine).scale * kappa_limit) e }
-    ensures { result ≡ kappa_step (grid_by fine) d e }
+pub fn kappa_step(grid: GridUnit, d: Dynamics, e: SignedEnds) -> SignedEnds
+    requires { DynamicsWithin d × Within ((grid_of grid).scale * kappa_limit) e }
+    ensures { result ≡ kappa_step (grid_of grid) d e }
 {
-    let added = in_grid(fine, d.c);
+    let added = in_grid(grid, d.c);
     let a = d.a;
     let low = number_whole::end_by(a, e.lower, e.upper);
     let high = number_whole::end_by(a, e.upper, e.lower);
-    let lower = added + mixed_over(fine, 0, a, low, false);
-    let upper = added + mixed_over(fine, 0, a, high, true);
+    let lower = added + mixed_over(grid, 0, a, low, false);
+    let upper = added + mixed_over(grid, 0, a, high, true);
     SignedEnds { lower, upper }
 }
 
 // Kappa in year n, of kappa in the start year.
-pub fn kappa_at(fine: bool, d: Dynamics, start: i64, n: u64) -> SignedEnds
-    requires { DynamicsWithin d × Under start number_limit × KappaWithin (grid_by fine) d start n }
-    ensures { result ≡ kappa_in (grid_by fine) d start n }
+pub fn kappa_at(grid: GridUnit, d: Dynamics, start: i64, n: u64) -> SignedEnds
+    requires { DynamicsWithin d × Under start number_limit × KappaWithin (grid_of grid) d start n }
+    ensures { result ≡ kappa_in (grid_of grid) d start n }
 {
-    let first = in_grid(fine, start);
+    let first = in_grid(grid, start);
     let mut e = SignedEnds {
         lower: first,
         upper: first,
     };
-    let mut i = 0;
-    while i < n {
-        e = kappa_step(fine, d, e);
-        i += 1;
+    for _year in 0..n {
+        e = kappa_step(grid, d, e);
     }
     e
 }

@@ -1,5 +1,6 @@
 -- A line at a place, in the steps of the code: its key with the `=`, its number and the line feed, each of which is found at
 -- its place or leaves the line malformed.
+use Rattle.std.specs.Prelude.{Some, None}
 use mathlib.Core.Path.{◌≡◌, sym, ap, ◌∙◌}
 use Prim.Native.Nat.{ℕ, ◌+◌}
 use mathlib.Core.Bool.{true, false}
@@ -10,7 +11,6 @@ use Rattle.text_words.specs.declared.Short.{Short}
 use Rattle.text_words.specs.code.Word.{byte_bits}
 use Rattle.text_words.specs.laws.LaneLaws.{lanes-length}
 use Rattle.text_words.specs.code.ShortText.{text_of}
-use Rattle.text_tokens.specs.declared.NumberRead.TheVariants.{Malformed, Number}
 use Rattle.text_tokens.specs.Text.{bytes_of, malformed, taken, take_text}
 use Rattle.text_tokens.specs.Number.{read_number}
 use Rattle.text_tokens.specs.code.Places.{text_at, number_at}
@@ -32,11 +32,11 @@ module _ (bytes : List ℕ) (at : ℕ) (head : Short) {key : List ℕ} (k : Head
         ∙ ap (λ (n : ℕ). taken tt (drop (at + n) bytes))
         (ap length (sym k.text) ∙ lanes-length byte_bits head.len head.word)
 
-    pub no_number : number_at bytes (at + head.len) ≡ Malformed → read_line key (drop at bytes) ≡ malformed
+    pub no_number : number_at bytes (at + head.len) ≡ None → read_line key (drop at bytes) ≡ malformed
     unfolding read_line
     no_number n = goes _ headed ∙ stops _ (number-malformed bytes (at + head.len) n)
 
-    module _ {v : ℤ} {next : ℕ} (n : number_at bytes (at + head.len) ≡ Number v next) where
+    module _ {v : ℤ} {next : ℕ} (n : number_at bytes (at + head.len) ≡ Some (v, next)) where
       number : read_number (drop (at + head.len) bytes) ≡ taken v (drop next bytes)
       number = number-found bytes (at + head.len) n
 

@@ -1,5 +1,4 @@
 pub mod BySheet
 pub mod FourLaws
-pub mod ResultLaws
 pub mod SetTrip
 pub mod SheetTrip

@@ -7,7 +7,6 @@ ghost use Rattle.sheet.specs.code.Lines.{LineOf, FourOf};
 
 use set_params::Params;
 use set_refusal::Refusal;
-use text_tokens::NumberRead;
 use text_words::Short;
 
 // What reading a sheet gives.
@@ -24,46 +23,36 @@ pub struct Written {
     pub len: usize,
 }
 
-// The numbers of four lines that were read, after the place that follows the lines.
-#[derive(Clone, Copy)]
-pub enum FourRead {
-    Malformed,
-    Four(usize, i64, i64, i64, i64),
-}
-
 // The number of the line at a place, from its key and the `=` after it.
-pub fn line_at(bytes: &[u8], at: usize, head: Short) -> NumberRead
+pub fn line_at(bytes: &[u8], at: usize, head: Short) -> Option<(i64, usize)>
     requires { Sized head }
     ensures { LineOf bytes.now at head result }
 {
     if !text_tokens::short_at(bytes, at, head) {
-        return NumberRead::Malformed;
+        return None;
     }
-    let NumberRead::Number(v, after_number) = text_numbers::number_at(bytes, at + head.len) else {
-        return NumberRead::Malformed;
-    };
+    let (v, after_number) = text_numbers::number_at(bytes, at + head.len)?;
     if !text_tokens::byte_at(bytes, after_number, b'\n') {
-        return NumberRead::Malformed;
+        return None;
     }
-    NumberRead::Number(v, after_number + 1)
+    Some((v, after_number + 1))
 }
 
 // The four lines at a place, from their keys, each with the `=` after it.
-pub fn four_at(bytes: &[u8], at: usize, h0: Short, h1: Short, h2: Short, h3: Short) -> FourRead
+pub fn four_at(
+    bytes: &[u8],
+    at: usize,
+    h0: Short,
+    h1: Short,
+    h2: Short,
+    h3: Short,
+) -> Option<([i64; 4], usize)>
     requires { (Sized h0) × (Sized h1) × (Sized h2) × (Sized h3) }
     ensures { FourOf bytes.now at h0 h1 h2 h3 result }
 {
-    let NumberRead::Number(v0, second) = line_at(bytes, at, h0) else {
-        return FourRead::Malformed;
-    };
-    let NumberRead::Number(v1, third) = line_at(bytes, second, h1) else {
-        return FourRead::Malformed;
-    };
-    let NumberRead::Number(v2, fourth) = line_at(bytes, third, h2) else {
-        return FourRead::Malformed;
-    };
-    let NumberRead::Number(v3, next) = line_at(bytes, fourth, h3) else {
-        return FourRead::Malformed;
-    };
-    FourRead::Four(next, v0, v1, v2, v3)
+    let (v0, second) = line_at(bytes, at, h0)?;
+    let (v1, third) = line_at(bytes, second, h1)?;
+    let (v2, fourth) = line_at(bytes, third, h2)?;
+    let (v3, next) = line_at(bytes, fourth, h3)?;
+    Some(([v0, v1, v2, v3], next))
 }

@@ -68,11 +68,9 @@ pub fn sheet_len(p: Params) -> usize
 {
     let table = p.table;
     let mut len = table_len(table) + SEX_BYTES + series_len(p) + start_len(table, p.start, p.c);
-    let mut x: usize = 0;
-    while x < AGES {
+    for x in 0..AGES {
         let age = set_params::age_of_runs(&p.level, &p.slope, &p.alpha, &p.beta, x);
         len += age_len(age, x);
-        x += 1;
     }
     len
 }

@@ -1,13 +1,12 @@
 // Reads a parameter sheet.
 #![tactic(auto)]
 
-ghost use Rattle.std.specs.Prelude.{◌≡◌, cond, [], drop};
-ghost use Rattle.text_tokens.specs.Text.{malformed, taken};
-ghost use Rattle.set_refusal.specs.declared.Refusal.TheVariants.{Malformed};
+ghost use Rattle.std.specs.Prelude.{◌≡◌, [], drop};
+ghost use Rattle.text_tokens.specs.Text.{taken};
 ghost use Rattle.sheet.specs.Sheet.{sheet_lines, read_front, refused, reading_of, read_sheet};
 ghost use Rattle.sheet_set.specs.code.Ages.{set_read};
 ghost use Rattle.sheet_reader.specs.Front.{table_at, sheet_of, sheet_end};
-ghost use Rattle.sheet_reader.specs.code.Read.{from_sex, at_end, refusal_of};
+ghost use Rattle.sheet_reader.specs.code.Read.{from_sex};
 
 use set_params::{Params, Sex, Table};
 use set_refusal::Refusal;
@@ -36,59 +35,31 @@ pub struct First {
     pub next: usize,
 }
 
-// What is handed back for a malformed sheet.
-fn malformed() -> Reading
-    ensures { result ≡ refused Malformed }
+// What is handed back for a sheet that is refused.
+fn refused(refusal: Refusal) -> Reading
+    ensures { result ≡ refused refusal }
 {
     Reading {
-        refusal: Refusal::Malformed,
+        refusal,
         set: set_params::blank(),
     }
 }
 
-// Whether a sheet's lines were read, and nothing follows them in so many bytes.
-fn at_end(ok: bool, next: usize, len: usize) -> bool
-    ensures { result ≡ at_end ok next len }
+// The reading of a whole sheet with this set.
+fn reading_of(set: Params) -> Reading
+    ensures { result ≡ reading_of (taken set []) }
 {
-    if !ok {
-        return false;
+    if !set_limits::in_limits(set) {
+        return refused(Refusal::OutOfLimits);
     }
-    if next < len {
-        return false;
+    Reading {
+        refusal: Refusal::Accepted,
+        set,
     }
-    true
-}
-
-// The refusal of a sheet that is or is not whole, and whose numbers are or are not within the limits.
-fn refusal_of(whole: bool, within: bool) -> Refusal
-    ensures { result ≡ refusal_of whole within }
-{
-    if !whole {
-        return Refusal::Malformed;
-    }
-    if !within {
-        return Refusal::OutOfLimits;
-    }
-    Refusal::Accepted
-}
-
-// A sheet that is or is not whole, with its set.
-fn reading_of(whole: bool, set: Params) -> Reading
-    ensures { result ≡ reading_of (cond whole (taken set []) malformed) }
-{
-    let refusal = refusal_of(whole, set_limits::in_limits(set));
-    if set_refusal::refusal_number(refusal) != 0 {
-        let nothing = set_params::blank();
-        return Reading {
-            refusal,
-            set: nothing,
-        };
-    }
-    Reading { refusal, set }
 }
 
 // A sheet of the table, from its second line on, at a place: its set, and the place after it.
-fn from_sex(bytes: &[u8], at: usize, table: Table) -> SetRead
+fn from_sex(bytes: &[u8], at: usize, table: Table) -> Option<SetRead>
     ensures { set_read bytes.now result ≡ from_sex table (drop at bytes.now) }
 {
     if text_tokens::text_at(bytes, at, b"sex=M\n") {
@@ -97,11 +68,11 @@ fn from_sex(bytes: &[u8], at: usize, table: Table) -> SetRead
     if text_tokens::text_at(bytes, at, b"sex=F\n") {
         return sheet_set::set_at(bytes, at + SEX_BYTES, table, Sex::F);
     }
-    sheet_set::none()
+    None
 }
 
 // The sheet at the front of the bytes, and the place after it.
-fn front(bytes: &[u8]) -> SetRead
+fn front(bytes: &[u8]) -> Option<SetRead>
     ensures { set_read bytes.now result ≡ read_front bytes.now }
 {
     if text_tokens::text_at(bytes, 0, b"table=AG2014\n") {
@@ -110,7 +81,7 @@ fn front(bytes: &[u8]) -> SetRead
     if text_tokens::text_at(bytes, 0, b"table=LILEE\n") {
         return from_sex(bytes, LILEE_BYTES, Table::LiLee);
     }
-    sheet_set::none()
+    None
 }
 
 // How many lines the sheet at the front of the bytes has.
@@ -128,11 +99,12 @@ pub fn read(bytes: &[u8]) -> Reading
     ensures { result ≡ read_sheet bytes.now }
 {
     if MOST_BYTES < bytes.len() {
-        return malformed();
+        return refused(Refusal::Malformed);
     }
-    let got = front(bytes);
-    let set = got.set;
-    reading_of(at_end(got.ok, got.next, bytes.len()), set)
+    match front(bytes) {
+        Some(SetRead { set, next }) if bytes.len() <= next => reading_of(set),
+        _ => refused(Refusal::Malformed),
+    }
 }
 
 // The sheet at the front of the bytes, which others may follow, and the place after it. It is read where it stands; only where
@@ -140,21 +112,14 @@ pub fn read(bytes: &[u8]) -> Reading
 pub fn read_first(bytes: &[u8]) -> First
     ensures { (result.sheet ≡ sheet_of bytes.now) × (result.next ≡ sheet_end bytes.now) }
 {
-    let got = front(bytes);
-    let set = got.set;
-    let sheet = reading_of(got.ok, set);
-    if !got.ok {
-        let end = text_lines::lines_end(bytes, line_count(bytes));
-        return First { sheet, next: end };
-    }
-    if got.next < bytes.len() {
+    let Some(SetRead { set, next }) = front(bytes) else {
         return First {
-            sheet,
-            next: got.next,
+            sheet: refused(Refusal::Malformed),
+            next: text_lines::lines_end(bytes, line_count(bytes)),
         };
-    }
+    };
     First {
-        sheet,
-        next: bytes.len(),
+        sheet: reading_of(set),
+        next: next.min(bytes.len()),
     }
 }

@@ -18,11 +18,9 @@ fn put_ages(buffer: &mut [u8], at: usize, p: Params) -> usize
     ensures { Put buffer.old at (ages_text p ages) buffer.new result }
 {
     let mut place = at;
-    let mut age: usize = 0;
-    while age < AGES {
+    for age in 0..AGES {
         let four = set_params::age_of_runs(&p.level, &p.slope, &p.alpha, &p.beta, age);
         place = sheet_line_writer::put_age(buffer, place, four, age);
-        age += 1;
     }
     place
 }

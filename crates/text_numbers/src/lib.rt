@@ -10,7 +10,7 @@ ghost use Rattle.text_tokens.specs.code.Unsigned.{DigitsRead, unsigned_at, minus
 ghost use Rattle.text_numbers.specs.code.DigitWord.{Worked};
 ghost use Rattle.text_numbers.specs.code.Parts.{mark, numeral};
 
-use text_tokens::{Digits, NumberRead, UnsignedRead};
+use text_tokens::Digits;
 
 // The top bit of each byte that is no digit, and no other bit. With 0x46 added the low seven bits reach the top bit
 // after `9`, and with 0x50 from `0` on; no sum leaves its byte.
@@ -76,17 +76,17 @@ fn digits_at(bytes: &[u8], at: usize) -> Digits
 }
 
 // The number without a sign at a place.
-fn unsigned_at(bytes: &[u8], at: usize) -> UnsignedRead
+fn unsigned_at(bytes: &[u8], at: usize) -> Option<(u64, usize)>
     ensures { result ≡ unsigned_at bytes.now at }
 {
     let run = digits_at(bytes, at);
     if run.count == 0 || 15 < run.count {
-        return UnsignedRead::Malformed;
+        return None;
     }
     if 1 < run.count && bytes[at] == b'0' {
-        return UnsignedRead::Malformed;
+        return None;
     }
-    UnsignedRead::Unsigned(run.value, at + run.count)
+    Some((run.value, at + run.count))
 }
 
 // 1 where a minus stands at a place, and else 0: a count and no branch, since either sign is as likely.
@@ -94,28 +94,23 @@ fn minus_at(bytes: &[u8], at: usize) -> usize
     requires { at < length bytes.now }
     ensures { result ≡ minuses (get_or bytes.now at 0) }
 {
-    if bytes[at] == b'-' {
-        return 1;
-    }
-    0
+    usize::from(bytes[at] == b'-')
 }
 
 // The number at a place.
-pub fn number_at(bytes: &[u8], at: usize) -> NumberRead
+pub fn number_at(bytes: &[u8], at: usize) -> Option<(i64, usize)>
     ensures { result ≡ number_at bytes.now at }
 {
     if bytes.len() <= at {
-        return NumberRead::Malformed;
+        return None;
     }
     let minus = minus_at(bytes, at);
-    let UnsignedRead::Unsigned(value, next) = unsigned_at(bytes, at + minus) else {
-        return NumberRead::Malformed;
-    };
+    let (value, next) = unsigned_at(bytes, at + minus)?;
     if minus == 0 {
-        return NumberRead::Number(value as i64, next);
+        return Some((value as i64, next));
     }
     if value == 0 {
-        return NumberRead::Malformed;
+        return None;
     }
-    NumberRead::Number(-(value as i64), next)
+    Some((-(value as i64), next))
 }

@@ -10,10 +10,7 @@ fn magnitude(v: i64) -> u64
     requires { nat_abs v < 10 ^ most_digits }
     ensures { result ≡ nat_abs v }
 {
-    if v < 0 {
-        return (0 - v) as u64;
-    }
-    v as u64
+    v.unsigned_abs()
 }
 
 // How many decimal digits a number has.
@@ -21,6 +18,7 @@ fn digit_count(n: u64) -> usize
     requires { n < 10 ^ most_digits }
     ensures { result ≡ length (unsigned_text n) }
 {
+    // A `while`: no range says how often a number can be divided by ten.
     let mut rest = n;
     let mut count = 1;
     while 10 <= rest {
@@ -47,14 +45,9 @@ pub fn put_text(buffer: &mut [u8], at: usize, text: &[u8]) -> usize
     requires { at + length text.now ≤ length buffer.old }
     ensures { (result ≡ at + length text.now) × (buffer.new ≡ overwritten buffer.old at text.now) }
 {
-    let mut place = at;
-    let mut i = 0;
-    while i < text.len() {
-        buffer[place] = text[i];
-        place += 1;
-        i += 1;
-    }
-    place
+    let end = at + text.len();
+    buffer[at..end].copy_from_slice(text);
+    end
 }
 
 // Writes the decimal digits of a number from a place on, the last digit first; the place after them.
@@ -64,6 +57,7 @@ pub fn put_digits(buffer: &mut [u8], at: usize, n: u64) -> usize
 {
     let end = at + digit_count(n);
     let mut place = end - 1;
+    // A `while` here too: the digits end where less than ten is left.
     let mut rest = n;
     while 10 <= rest {
         buffer[place] = b'0' + (rest % 10) as u8;

@@ -1,4 +1,6 @@
 -- A number from its digits: when they are one, its place and its sign.
+use Rattle.std.specs.Prelude.{Option, Some, None}
+use Rattle.std.proofs.lemmas.Option.{some_pair_parts}
 use mathlib.Core.Path.{◌≡◌, refl, sym, ap, ◌∙◌}
 use Prim.Native.Nat.{ℕ, zero, suc, ◌+◌, ◌-◌, ◌^◌, ◌≤◌, ◌<◌, min}
 use native.Mathlib.Nat.{add-zero}
@@ -16,9 +18,6 @@ use mir.Val.{SFits, to_z, of_z}
 use mir.Facts.{to_z-of_z, to_z_pos}
 use Rattle.number_whole.proofs.laws.Clash.{clash}
 use Rattle.text_tokens.specs.declared.Digits.{Digits}
-use Rattle.text_tokens.specs.declared.UnsignedRead.{UnsignedRead}
-use Rattle.text_tokens.specs.declared.UnsignedRead.TheVariants.{Malformed as NoUnsigned, Unsigned}
-use Rattle.text_tokens.specs.declared.NumberRead.TheVariants.{Malformed, Number}
 use Rattle.text_tokens.specs.Text.{Parse, malformed, taken}
 use Rattle.text_tokens.specs.Number.{minus_sign, zero_digit, most_digits, digits, after_digits, value_from, value, well_formed}
 use Rattle.text_tokens.specs.Number.{read_unsigned, negated, positive, read_number}
@@ -49,21 +48,21 @@ module _ {bytes : List ℕ} {at : ℕ} {r : Digits} (d : DigitsRead bytes at r) 
       ∙ ap (λ (i : ℕ). get_or bytes i 0) (add-zero at)
 
   -- digits that are no number, and digits that are one
-  ill : well_formed (digits (drop at bytes)) ≡ false → unsigned_at bytes at ≡ NoUnsigned
+  ill : well_formed (digits (drop at bytes)) ≡ false → unsigned_at bytes at ≡ None
   unfolding unsigned_at read_unsigned
   ill e = rw e
 
-  pub malformed-none : r.count ≡ 0 → unsigned_at bytes at ≡ NoUnsigned
+  pub malformed-none : r.count ≡ 0 → unsigned_at bytes at ≡ None
   malformed-none h = ill (ill-none _ (omega (arith, count-is)))
 
-  pub malformed-long : most_digits < r.count → unsigned_at bytes at ≡ NoUnsigned
+  pub malformed-long : most_digits < r.count → unsigned_at bytes at ≡ None
   malformed-long h = ill (ill-long _ (omega (arith, count-is)))
 
-  pub malformed-zero : 1 < r.count → get_or bytes at 0 ≡ zero_digit → unsigned_at bytes at ≡ NoUnsigned
+  pub malformed-zero : 1 < r.count → get_or bytes at 0 ≡ zero_digit → unsigned_at bytes at ≡ None
   malformed-zero h e = ill (ill-zero _ (omega (arith, count-is)) (first-digit (omega arith) ∙ e))
 
   well : 0 < r.count → r.count ≤ most_digits → well_formed (digits (drop at bytes)) ≡ true
-      → unsigned_at bytes at ≡ Unsigned r.value (at + r.count)
+      → unsigned_at bytes at ≡ Some (r.value, at + r.count)
   unfolding unsigned_at read_unsigned leading
   well h k e =
       let l : length (digits (drop at bytes)) ≤ suc most_digits = omega (arith, count-is) in
@@ -73,11 +72,11 @@ module _ {bytes : List ℕ} {at : ℕ} {r : Digits} (d : DigitsRead bytes at r) 
       omega (arith, count-is, digits-length (drop at bytes), length-drop at bytes) in
       rw (e, v, n)
 
-  pub taken-one : r.count ≡ 1 → unsigned_at bytes at ≡ Unsigned r.value (at + r.count)
+  pub taken-one : r.count ≡ 1 → unsigned_at bytes at ≡ Some (r.value, at + r.count)
   taken-one h = well (omega arith) (omega arith) (well-one _ (omega (arith, count-is)))
 
   pub taken_more : 1 < r.count → r.count ≤ most_digits → (get_or bytes at 0 ≡ zero_digit → ⊥)
-      → unsigned_at bytes at ≡ Unsigned r.value (at + r.count)
+      → unsigned_at bytes at ≡ Some (r.value, at + r.count)
   taken_more h k n =
       well (omega arith) k
       (well-more _ (omega (arith, count-is)) (omega (arith, count-is)) (λ e. n (sym (first-digit (omega arith)) ∙ e)))
@@ -85,31 +84,28 @@ module _ {bytes : List ℕ} {at : ℕ} {r : Digits} (d : DigitsRead bytes at r) 
 -- ---- the sign
 
 -- what a number without its sign gives, after a minus and with none
-placed-zero : (n : ℕ) (p : Parse ℕ) {v next : ℕ} → placed_unsigned n p ≡ Unsigned v next → v ≡ 0
-    → placed n (negated p) ≡ Malformed
+placed-zero : (n : ℕ) (p : Parse ℕ) {v next : ℕ} → placed_unsigned n p ≡ Some (v, next) → v ≡ 0
+    → placed n (negated p) ≡ None
 unfolding negated
 placed-zero n malformed e h = cc
 placed-zero n (taken zero rest) e h = refl
-placed-zero n (taken (suc w) rest) {v} e h = let q : suc w ≡ v = cc in absurd (omega arith)
+placed-zero n (taken (suc w) rest) {v} e h = let q : suc w ≡ v = (some_pair_parts _ _ _ _ e).0 in absurd (omega arith)
 
-placed-minus : (n : ℕ) (p : Parse ℕ) {v next : ℕ} → placed_unsigned n p ≡ Unsigned v next → (v ≡ 0 → ⊥)
-    → placed n (negated p) ≡ Number (neg_ℤ (pos v)) next
+placed-minus : (n : ℕ) (p : Parse ℕ) {v next : ℕ} → placed_unsigned n p ≡ Some (v, next) → (v ≡ 0 → ⊥)
+    → placed n (negated p) ≡ Some (neg_ℤ (pos v), next)
 unfolding negated
 placed-minus n malformed e h = cc
-placed-minus n (taken zero rest) {v} e h = let q : 0 ≡ v = cc in absurd (h (sym q))
-placed-minus n (taken (suc w) rest) {v} {next} e h =
-    let ev : suc w ≡ v = cc in
-    let en : n - length rest ≡ next = cc in
-    rw (← ev, ← en)
+placed-minus n (taken zero rest) e h = absurd (h (sym (some_pair_parts _ _ _ _ e).0))
+placed-minus n (taken (suc w) rest) e h = let parts = some_pair_parts _ _ _ _ e in rw (← parts.0, ← parts.1)
 
-placed-plain : (n : ℕ) (p : Parse ℕ) {v next : ℕ} → placed_unsigned n p ≡ Unsigned v next
-    → placed n (positive p) ≡ Number (pos v) next
+placed-plain : (n : ℕ) (p : Parse ℕ) {v next : ℕ} → placed_unsigned n p ≡ Some (v, next)
+    → placed n (positive p) ≡ Some (pos v, next)
 unfolding positive
 placed-plain n malformed e = cc
-placed-plain n (taken w rest) e = cc
+placed-plain n (taken w rest) e = let parts = some_pair_parts _ _ _ _ e in rw (← parts.0, ← parts.1)
 
-placed-malformed : (n : ℕ) (p : Parse ℕ) → placed_unsigned n p ≡ NoUnsigned
-    → (placed n (negated p) ≡ Malformed) × (placed n (positive p) ≡ Malformed)
+placed-malformed : (n : ℕ) (p : Parse ℕ) → placed_unsigned n p ≡ None
+    → (placed n (negated p) ≡ None) × (placed n (positive p) ≡ None)
 unfolding negated positive
 placed-malformed n malformed e = (refl, refl)
 placed-malformed n (taken w rest) e = (cc, cc)
@@ -117,15 +113,16 @@ placed-malformed n (taken w rest) e = (cc, cc)
 -- ---- in 64 bits
 
 -- a number without its sign is below 10¹⁵
-pub unsigned_small : (bytes : List ℕ) (at : ℕ) {r : UnsignedRead} {v next : ℕ} → r ≡ unsigned_at bytes at
-    → r ≡ Unsigned v next → v < 10 ^ most_digits
+pub unsigned_small : (bytes : List ℕ) (at : ℕ) {r : Option (ℕ × ℕ)} {v next : ℕ} → r ≡ unsigned_at bytes at
+    → r ≡ Some (v, next) → v < 10 ^ most_digits
 unfolding unsigned_at
 unsigned_small bytes at {v} {next} e w = go (read_unsigned (drop at bytes)) refl (sym e ∙ w)
   where
-    go : (p : Parse ℕ) → read_unsigned (drop at bytes) ≡ p → placed_unsigned (length bytes) p ≡ Unsigned v next
+    go : (p : Parse ℕ) → read_unsigned (drop at bytes) ≡ p → placed_unsigned (length bytes) p ≡ Some (v, next)
         → v < 10 ^ most_digits
     go malformed q u = clash cc
-    go (taken w rest) q u = let ev : w ≡ v = cc in omega (arith, (unsigned-taken (drop at bytes) q).small)
+    go (taken w rest) q u =
+        let ev : w ≡ v = (some_pair_parts _ _ _ _ u).0 in omega (arith, (unsigned-taken (drop at bytes) q).small)
 
 -- v and −v fit, and are read back from their bits
 pub positive-fits : (v : ℕ) → v < 10 ^ most_digits → SFits w64 (pos v)
@@ -150,7 +147,7 @@ minus-back v h = rw (positive_back v h, less v) (to_z-of_z (negative_fits v h))
 
 -- ---- what stands at the place: nothing, a minus, or another byte
 
-pub number_past : (bytes : List ℕ) (at : ℕ) → length bytes ≤ at → number_at bytes at ≡ Malformed
+pub number_past : (bytes : List ℕ) (at : ℕ) → length bytes ≤ at → number_at bytes at ≡ None
 unfolding number_at read_number
 number_past bytes at h = rw (drop_of_length-le bytes h)
 
@@ -170,23 +167,23 @@ minus-most b = go (eqb b minus_sign) refl
     go true e = rw (minus_one b (eqb-true b minus_sign e)) (omega arith)
     go false e = rw (minus-none b (eqb-false b minus_sign e)) (omega arith)
 
-module _ (bytes : List ℕ) (at : ℕ) {r : UnsignedRead} (h : at < length bytes) where
+module _ (bytes : List ℕ) (at : ℕ) {r : Option (ℕ × ℕ)} (h : at < length bytes) where
   -- after a minus, with what was read behind it
   module _ (e : get_or bytes at 0 ≡ minus_sign) (u : r ≡ unsigned_at bytes (at + 1)) where
     minus_is : number_at bytes at ≡ placed (length bytes) (negated (read_unsigned (drop (at + 1) bytes)))
     unfolding number_at
     minus_is = rw (add-one at, drop-cons bytes at 0, read-minus _ (drop (suc at) bytes) e)
 
-    pub minus-malformed : r ≡ NoUnsigned → number_at bytes at ≡ Malformed
+    pub minus-malformed : r ≡ None → number_at bytes at ≡ None
     unfolding unsigned_at
     minus-malformed w = minus_is ∙ (placed-malformed _ _ (sym u ∙ w)).0
 
-    module _ {v next : ℕ} (w : r ≡ Unsigned v next) where
-      pub minus-zero : v ≡ 0 → number_at bytes at ≡ Malformed
+    module _ {v next : ℕ} (w : r ≡ Some (v, next)) where
+      pub minus-zero : v ≡ 0 → number_at bytes at ≡ None
       unfolding unsigned_at
       minus-zero z = minus_is ∙ placed-zero _ _ (sym u ∙ w) z
 
-      pub minus_number : (v ≡ 0 → ⊥) → number_at bytes at ≡ Number (to_z w64 (of_z w64 (pos 0 -ℤ to_z w64 v))) next
+      pub minus_number : (v ≡ 0 → ⊥) → number_at bytes at ≡ Some (to_z w64 (of_z w64 (pos 0 -ℤ to_z w64 v)), next)
       unfolding unsigned_at
       minus_number z =
           rw (minus-back v (unsigned_small bytes (at + 1) u w)) (minus_is ∙ placed-minus _ _ (sym u ∙ w) z)
@@ -197,17 +194,17 @@ module _ (bytes : List ℕ) (at : ℕ) {r : UnsignedRead} (h : at < length bytes
     unfolding number_at
     plain-is = rw (drop-cons bytes at 0, read_plain _ (drop (suc at) bytes) e)
 
-    pub plain-malformed : r ≡ NoUnsigned → number_at bytes at ≡ Malformed
+    pub plain-malformed : r ≡ None → number_at bytes at ≡ None
     unfolding unsigned_at
     plain-malformed w = plain-is ∙ (placed-malformed _ _ (sym u ∙ w)).1
 
-    pub plain-number : {v next : ℕ} → r ≡ Unsigned v next → number_at bytes at ≡ Number (to_z w64 v) next
+    pub plain-number : {v next : ℕ} → r ≡ Some (v, next) → number_at bytes at ≡ Some (to_z w64 v, next)
     unfolding unsigned_at
     plain-number {v} w =
         rw (positive_back v (unsigned_small bytes at u w)) (plain-is ∙ placed-plain _ _ (sym u ∙ w))
 
 -- the sign and then what was read behind it, by the count of minuses
-module _ (bytes : List ℕ) (at : ℕ) {m : ℕ} {r : UnsignedRead} (h : at < length bytes) (c : m ≡ minuses (get_or bytes at 0))
+module _ (bytes : List ℕ) (at : ℕ) {m : ℕ} {r : Option (ℕ × ℕ)} (h : at < length bytes) (c : m ≡ minuses (get_or bytes at 0))
     (u : r ≡ unsigned_at bytes (at + m)) where
   by_sign : {P : Type 0} → (get_or bytes at 0 ≡ minus_sign → m ≡ 1 → P) → ((get_or bytes at 0 ≡ minus_sign → ⊥) → m ≡ 0 → P) → P
   by_sign {P} f g = go (eqb (get_or bytes at 0) minus_sign) refl
@@ -216,18 +213,18 @@ module _ (bytes : List ℕ) (at : ℕ) {m : ℕ} {r : UnsignedRead} (h : at < le
       go true e = let k = eqb-true _ _ e in f k (c ∙ minus_one _ k)
       go false e = let k = eqb-false _ _ e in g k (c ∙ minus-none _ k)
 
-  pub sign-malformed : r ≡ NoUnsigned → number_at bytes at ≡ Malformed
+  pub sign-malformed : r ≡ None → number_at bytes at ≡ None
   sign-malformed w =
       by_sign (λ e k. minus-malformed bytes at h e (rw k at u) w)
       (λ e k. plain-malformed bytes at h e (rw (k, add-zero at) at u) w)
 
-  module _ {v next : ℕ} (w : r ≡ Unsigned v next) where
-    pub sign-none : m ≡ 0 → number_at bytes at ≡ Number (to_z w64 v) next
+  module _ {v next : ℕ} (w : r ≡ Some (v, next)) where
+    pub sign-none : m ≡ 0 → number_at bytes at ≡ Some (to_z w64 v, next)
     sign-none z =
         by_sign (λ e k. absurd (omega arith)) (λ e k. plain-number bytes at h e (rw (k, add-zero at) at u) w)
 
-    pub sign_zero : (m ≡ 0 → ⊥) → v ≡ 0 → number_at bytes at ≡ Malformed
+    pub sign_zero : (m ≡ 0 → ⊥) → v ≡ 0 → number_at bytes at ≡ None
     sign_zero n z = by_sign (λ e k. minus-zero bytes at h e (rw k at u) w z) (λ e k. absurd (n k))
 
-    pub sign-minus : (m ≡ 0 → ⊥) → (v ≡ 0 → ⊥) → number_at bytes at ≡ Number (to_z w64 (of_z w64 (pos 0 -ℤ to_z w64 v))) next
+    pub sign-minus : (m ≡ 0 → ⊥) → (v ≡ 0 → ⊥) → number_at bytes at ≡ Some (to_z w64 (of_z w64 (pos 0 -ℤ to_z w64 v)), next)
     sign-minus n z = by_sign (λ e k. minus_number bytes at h e (rw k at u) w z) (λ e k. absurd (n k))

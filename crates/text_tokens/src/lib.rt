@@ -8,20 +8,6 @@ ghost use Rattle.text_words.specs.code.ShortText.{Sized, text_of};
 
 use text_words::Short;
 
-// A number that was read, with the place after it.
-#[derive(Clone, Copy)]
-pub enum NumberRead {
-    Malformed,
-    Number(i64, usize),
-}
-
-// A number without its sign that was read, with the place after it.
-#[derive(Clone, Copy)]
-pub enum UnsignedRead {
-    Malformed,
-    Unsigned(u64, usize),
-}
-
 // Digits that were read: how many, and the number that they stand for.
 #[derive(Clone, Copy)]
 pub struct Digits {
@@ -33,10 +19,7 @@ pub struct Digits {
 pub fn room(len: usize, at: usize) -> usize
     ensures { result ≡ len - at }
 {
-    if len < at {
-        return 0;
-    }
-    len - at
+    len.saturating_sub(at)
 }
 
 // Whether the bytes from a place on begin with the text, byte by byte.
@@ -46,12 +29,10 @@ fn text_walk(bytes: &[u8], at: usize, text: &[u8]) -> bool
     if room(bytes.len(), at) < text.len() {
         return false;
     }
-    let mut i = 0;
-    while i < text.len() {
-        if bytes[at + i] != text[i] {
+    for (i, byte) in text.iter().enumerate() {
+        if bytes[at + i] != *byte {
             return false;
         }
-        i += 1;
     }
     true
 }
@@ -63,6 +44,7 @@ pub fn text_at(bytes: &[u8], at: usize, text: &[u8]) -> bool
     if room(bytes.len(), at) < text.len() {
         return false;
     }
+    // A `while`: a `for` over chunks of eight bytes would count their places in `bytes` beside them.
     let mut done = 0;
     while text_words::BYTES <= text.len() - done {
         let here = text_words::word_at(bytes, at + done);
@@ -91,29 +73,21 @@ pub fn short_at(bytes: &[u8], at: usize, text: Short) -> bool
 pub fn byte_at(bytes: &[u8], at: usize, byte: u8) -> bool
     ensures { result ≡ text_at bytes.now at (byte ∷ []) }
 {
-    if bytes.len() <= at {
-        return false;
-    }
-    bytes[at] == byte
+    bytes.get(at) == Some(&byte)
 }
 
 // The digits from a place on, byte by byte, at most 16: one more than a number has, so that one too many is seen.
 pub fn digits_walk(bytes: &[u8], at: usize) -> Digits
     ensures { DigitsRead bytes.now at result }
 {
-    let mut most = room(bytes.len(), at);
-    if 16 < most {
-        most = 16;
-    }
+    let most = room(bytes.len(), at).min(16);
     let mut value: u64 = 0;
-    let mut count: usize = 0;
-    while count < most {
+    for count in 0..most {
         let digit = bytes[at + count];
-        if digit < b'0' || b'9' < digit {
-            break;
+        if !digit.is_ascii_digit() {
+            return Digits { count, value };
         }
-        value = value * 10 + (digit - b'0') as u64;
-        count += 1;
+        value = value * 10 + u64::from(digit - b'0');
     }
-    Digits { count, value }
+    Digits { count: most, value }
 }

@@ -15,26 +15,21 @@ pub struct Short {
     pub len: usize,
 }
 
-// A byte as a number of 64 bits.
-fn wide(b: u8) -> u64
-    ensures { (result ≡ b) × (result < 256) }
-{
-    b as u64
-}
-
-// The eight bytes at a place as a word: their sum times powers of 256, which the compiler makes one load nearly everywhere.
+// The eight bytes at a place as a word, which the compiler makes one load nearly everywhere.
 pub fn word_at(bytes: &[u8], at: usize) -> u64
     requires { at + word_bytes ≤ length bytes.now }
     ensures { bytes_in word_bytes result ≡ take word_bytes (drop at bytes.now) }
 {
-    wide(bytes[at])
-        + wide(bytes[at + 1]) * 256
-        + wide(bytes[at + 2]) * 65_536
-        + wide(bytes[at + 3]) * 16_777_216
-        + wide(bytes[at + 4]) * 4_294_967_296
-        + wide(bytes[at + 5]) * 1_099_511_627_776
-        + wide(bytes[at + 6]) * 281_474_976_710_656
-        + wide(bytes[at + 7]) * 72_057_594_037_927_936
+    u64::from_le_bytes([
+        bytes[at],
+        bytes[at + 1],
+        bytes[at + 2],
+        bytes[at + 3],
+        bytes[at + 4],
+        bytes[at + 5],
+        bytes[at + 6],
+        bytes[at + 7],
+    ])
 }
 
 // Whether the first n bytes of two words are the same.
@@ -50,23 +45,7 @@ pub fn same_bytes(w: u64, v: u64, n: usize) -> bool
 pub fn bytes_of(word: u64) -> [u8; 8]
     ensures { result ≡ bytes_in word_bytes word }
 {
-    let w1 = word / 256;
-    let w2 = w1 / 256;
-    let w3 = w2 / 256;
-    let w4 = w3 / 256;
-    let w5 = w4 / 256;
-    let w6 = w5 / 256;
-    let w7 = w6 / 256;
-    [
-        (word % 256) as u8,
-        (w1 % 256) as u8,
-        (w2 % 256) as u8,
-        (w3 % 256) as u8,
-        (w4 % 256) as u8,
-        (w5 % 256) as u8,
-        (w6 % 256) as u8,
-        (w7 % 256) as u8,
-    ]
+    word.to_le_bytes()
 }
 
 // The short texts of two and of three bytes.
@@ -74,7 +53,7 @@ pub fn two(a: u8, b: u8) -> Short
     ensures { Holds result (a ∷ b ∷ []) }
 {
     Short {
-        word: wide(a) + wide(b) * 256,
+        word: u64::from(a) + u64::from(b) * 256,
         len: 2,
     }
 }
@@ -83,7 +62,7 @@ pub fn three(a: u8, b: u8, c: u8) -> Short
     ensures { Holds result (a ∷ b ∷ c ∷ []) }
 {
     Short {
-        word: wide(a) + wide(b) * 256 + wide(c) * 65_536,
+        word: u64::from(a) + u64::from(b) * 256 + u64::from(c) * 65_536,
         len: 3,
     }
 }

@@ -2,7 +2,7 @@
 -- rates they are given, that give 0 and print their figures, the numbers of steps are equal exactly when the exact values of the
 -- two sets that the bytes are read as round half up to one step. Calls with one kind's word are of one kind. It is had from the
 -- calls' contracts alone.
-use Rattle.std.specs.Prelude.{◌≡◌, refl, ◌↔◌, Bool, ◌||◌, ℕ, zero, suc, T, eqb, ℤ, length}
+use Rattle.std.specs.Prelude.{◌≡◌, refl, ◌↔◌, Bool, ◌||◌, ℕ, zero, suc, T, eqb, ℤ, length, Err}
 use Rattle.std.proofs.Math.Path.{ap}
 use Rattle.std.proofs.Common.{sym, ◌∙◌, arith, ne_eqb}
 use Rattle.std.proofs.Math.Bool.{true, false, cond}
@@ -19,8 +19,7 @@ use Rattle.number_exact.specs.declared.Figure.TheVariants.{Printed, Open}
 use Rattle.quote_kinds.specs.declared.Kind.{Kind}
 use Rattle.quote_kinds.specs.declared.Kind.TheVariants as kind
 use Rattle.quote_kinds.specs.Kinds.{rule_of, takes_rate, with_rate, rate_aside, OneKind}
-use Rattle.quote_along.specs.declared.Answer.{Answer}
-use Rattle.quote_along.specs.declared.Answer.TheVariants.{Refused}
+use Rattle.quote_along.specs.QuoteBy.{Answer}
 use Rattle.quote.specs.Quote.{answer_of}
 use Rattle.quote.specs.Demand.{printed, shown_of, number_of, figure_shown}
 use Rattle.quote.proofs.laws.Theorem.{same-figure}
@@ -91,7 +90,7 @@ accepted-by malformed got age year term e = absurd (omega arith)
 accepted-by (taken kind rest) got age year term e = go (refusal_number got.refusal) refl e
   where
     go : (n : ℕ) → refusal_number got.refusal ≡ n
-        → number_of (cond (eqb n 0) (answer_of got.set kind age year term) (Refused got.refusal)) ≡ 0
+        → number_of (cond (eqb n 0) (answer_of got.set kind age year term) (Err got.refusal)) ≡ 0
         → Accepted (taken kind rest) got age year term
     go zero r z = record { rest = rest; reads = refl; answered = rw r }
     go (suc n) r z = absurd (omega (arith, r, rw (ne_eqb (suc n) 0 (λ q. omega arith)) at z))

@@ -1,5 +1,4 @@
 -- `couple_into` meets its contract: malformed where the word is, else the numbers of the sheets' answer.
-use borrow.Author.Rules.{rules}
 use mathlib.Core.Path.{sym, ap, ◌∙◌}
 use mir.Facts.{to_z-of_z}
 use Rattle.run_couple_query.specs.code.Code.{couple_kind_read}
@@ -23,7 +22,7 @@ returns c =
     let w = k in
     let f = w.ranges in
     let m = put-taken c.args.first.now c.args.second.now c.args.age c.args.other c.args.year c.args.span c.args.numbers.now
-    (sym w.couple_kind_of.ensures ∙ ap (couple_kind_read _) k.in-Of.is)
+    (sym w.couple_kind_of.ensures ∙ ap (couple_kind_read _) k.in-Some.is)
     (rw (to_z-of_z f.age, to_z-of_z f.other, to_z-of_z f.year, to_z-of_z f.span) at a.sheets_answer.ensures)
     (p.put_answer.ensures.value, p.put_answer.ensures.numbers_after) in
     record { value = m.0; numbers_after = m.1 }

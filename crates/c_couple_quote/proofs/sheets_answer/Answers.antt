@@ -1,5 +1,4 @@
 -- `sheets_answer` meets its contract: the sheets' refusal, else the answer of their sets.
-use borrow.Author.Rules.{rules}
 use native.Mathlib.Omega.{arith}
 use mir.Facts.{to_z-of_z}
 use Rattle.c_couple_quote.specs.laws.CoupleLaws.{both-refused, both_read}

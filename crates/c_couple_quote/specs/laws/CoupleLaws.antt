@@ -1,5 +1,5 @@
 -- What a query of two sheets is answered, and what stands in the numbers after, in each case.
-use Rattle.std.specs.Prelude.{◌≡◌, List, ℕ, ℤ}
+use Rattle.std.specs.Prelude.{◌≡◌, List, ℕ, ℤ, Err}
 use Rattle.std.proofs.Common.{◌∙◌}
 use borrow.Author.Tests.{ne_eqb}
 use Rattle.text_tokens.specs.Text.{Parse, malformed, taken}
@@ -8,8 +8,7 @@ use Rattle.set_refusal.specs.declared.Refusal.TheVariants.{Malformed}
 use Rattle.set_refusal.specs.Refusals.{refusal_number, lower_refusal}
 use Rattle.sheet.specs.declared.Reading.{Reading}
 use Rattle.sheet.specs.Sheet.{read_sheet}
-use Rattle.quote_along.specs.declared.Answer.{Answer}
-use Rattle.quote_along.specs.declared.Answer.TheVariants.{Refused}
+use Rattle.quote_along.specs.QuoteBy.{Answer}
 use Rattle.quote_couple_kinds.specs.declared.CoupleKind.{CoupleKind}
 use Rattle.quote_couple.specs.Couple.{couple_answer}
 use Rattle.c_sheet_quote.specs.laws.AnswerLaws.{PutAnswer, put_refused}
@@ -20,7 +19,7 @@ use Rattle.c_couple_quote.specs.SheetsCouple.{readings_answer, sheets_answer}
 module _ (sheet sheet' : List ℕ) (kind : CoupleKind) (age other year span : ℤ) {first second : Reading}
     (f : first ≡ read_sheet sheet) (s : second ≡ read_sheet sheet') {r : Refusal}
     (e : r ≡ lower_refusal first.refusal second.refusal) {number : ℕ} (n : number ≡ refusal_number r) where
-  pub both-refused : (number ≡ 0 → ⊥) → Refused r ≡ readings_answer (read_sheet sheet) (read_sheet sheet') kind age other year span
+  pub both-refused : (number ≡ 0 → ⊥) → Err r ≡ readings_answer (read_sheet sheet) (read_sheet sheet') kind age other year span
   unfolding readings_answer
   both-refused h = rw (← f, ← s, ← e, ← n, ne_eqb number 0 h)
 

@@ -1,6 +1,6 @@
 -- The starred edges hold, each row by computing the definitions. A set's sheet is not computed byte by byte: it reads back as the
 -- set where the set is in limits, and else is refused.
-use Rattle.std.specs.Prelude.{◌≡◌, refl, false, List, [], ℕ, T, ℤ, pos}
+use Rattle.std.specs.Prelude.{◌≡◌, refl, false, List, [], ℕ, T, ℤ, pos, Ok, Err}
 use Rattle.std.proofs.Math.Path.{ap}
 use Rattle.std.proofs.Common.{◌∙◌, arith}
 use Rattle.std.specs.Float.Ieee.Bits.{is_true}
@@ -36,8 +36,7 @@ use Rattle.quote_kinds.specs.declared.Kind.{Kind}
 use Rattle.quote_kinds.specs.declared.Kind.TheVariants as kind
 use Rattle.quote_kinds.specs.Kinds.{takes_rate, rule_of, rate_of, most_span, longest_span, span_of, part_of, count_of, step_of, decimals_of}
 use Rattle.quote_table_tests.specs.TableTests.{age_in_table, year_in_table, date_in_table, span_in_table, rate_in_table, first_failed, table_tests}
-use Rattle.quote_along.specs.declared.Answer.{Answer}
-use Rattle.quote_along.specs.declared.Answer.TheVariants.{Quoted, Refused}
+use Rattle.quote_along.specs.QuoteBy.{Answer}
 use Rattle.quote.specs.Quote.{query_path, refusal_of, answer_of}
 use Rattle.quote.specs.Demand.{number_of}
 use Rattle.quote.proofs.laws.Theorem.{demand-met}
@@ -50,8 +49,8 @@ use Rattle.c_edges.specs.examples.Edges.{set_of, with_theta, with_force, call_nu
 
 answer-number : (a : Answer) → quote_no a quote_length ≡ number_of a
 unfolding quote_no quoted_no number_of refusal_number
-answer-number (Quoted q) = refl
-answer-number (Refused r) = refl
+answer-number (Ok q) = refl
+answer-number (Err r) = refl
 
 module _ (word : List ℕ) (kind : Kind) (read : kind_of word ≡ taken kind []) (p : Params) (age year term : ℤ) where
   -- of a kind's word the answer is that of what was read

@@ -3,7 +3,6 @@ use native.Mathlib.Omega.{arith}
 use lib.ListN.{length-set}
 use mir.Facts.{to_z-of_z}
 use Rattle.c_set_numbers.specs.laws.SetNumbersLaws.{four-stores}
-use borrow.Author.Rules.{rules}
 use Rattle.c_set_numbers.proofs.put_four.Goals as goal
 
 pub bounds-values-at-2 : goal.bounds-values-at-2

@@ -2,7 +2,6 @@
 use mathlib.Core.Path.{◌≡◌}
 use native.Mathlib.Omega.{arith}
 use Rattle.c_set_numbers.specs.laws.AnswerLaws.{read-refused, read_short, read-accepted}
-use borrow.Author.Rules.{rules}
 use Rattle.c_set_numbers.proofs.read_into.Goals as goal
 
 pub returns-then-number-ne0 : goal.returns-then-number-ne0

@@ -1,5 +1,4 @@
 -- `sex_number` meets its contract.
-use borrow.Author.Rules.{rules}
 use mathlib.Core.Path.{sym, ap}
 use Rattle.c_set_numbers.specs.SetNumbers.{sex_number}
 use Rattle.c_set_numbers.proofs.sex_number.Goals as goal

@@ -1,5 +1,4 @@
 -- `table_number` meets its contract.
-use borrow.Author.Rules.{rules}
 use mathlib.Core.Path.{sym, ap}
 use Rattle.c_set_numbers.specs.SetNumbers.{table_number}
 use Rattle.c_set_numbers.proofs.table_number.Goals as goal

@@ -1,6 +1,5 @@
 -- `tell` meets its contract: the length is told where the number is 0.
 use mathlib.Core.Path.{◌≡◌}
-use borrow.Author.Rules.{rules}
 use native.Mathlib.Omega.{arith}
 use Rattle.c_set_numbers.specs.laws.AnswerLaws.{told-accepted, told-refused}
 use Rattle.c_set_numbers.proofs.tell.Goals as goal

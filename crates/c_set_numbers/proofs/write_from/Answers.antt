@@ -1,12 +1,9 @@
 -- `write_from` meets its contract: malformed where the numbers are no set's, else what the writer answers.
 use mathlib.Core.Bool.{not}
 use mathlib.Core.Path.{ap}
-use mathlib.Core.Path.{◌≡◌, sym, ◌∙◌}
-use mathlib.Core.Bool.{true}
+use mathlib.Core.Path.{sym, ◌∙◌}
 use borrow.Author.Tests.{not-true, not-false}
-use Rattle.c_set_numbers.specs.SetNumbers.{are_set}
 use Rattle.c_set_numbers.specs.laws.AnswerLaws.{as_many, write-malformed, write-told}
-use borrow.Author.Rules.{rules}
 use Rattle.c_set_numbers.proofs.write_from.Goals as goal
 
 pub returns-then-not-are_set : goal.returns-then-not-are_set

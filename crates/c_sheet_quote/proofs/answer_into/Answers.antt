@@ -1,5 +1,4 @@
 -- `answer_into` meets its contract: malformed where no kind was read, else the numbers of the answer.
-use borrow.Author.Rules.{rules}
 use mathlib.Core.Path.{ap}
 use mathlib.Core.List.{[]}
 use mir.Facts.{to_z-of_z}
@@ -20,7 +19,7 @@ returns c =
     let k = a in
     let f = k.ranges in
     let m = put-taken c.args.sheet.now c.args.age c.args.year c.args.term c.args.numbers.now
-    (ap (kind_read []) k.in-Of.is)
+    (ap (kind_read []) k.in-Some.is)
     (rw (to_z-of_z f.age, to_z-of_z f.year, to_z-of_z f.term) at a.sheet_answer.ensures)
     (p.put_answer.ensures.value, p.put_answer.ensures.numbers_after) in
     record { value = m.0; numbers_after = m.1 }

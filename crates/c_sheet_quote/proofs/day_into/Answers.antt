@@ -1,5 +1,4 @@
 -- `day_into` meets its contract: the numbers of the answer to a day.
-use borrow.Author.Rules.{rules}
 use mathlib.Core.List.{[]}
 use Rattle.text_tokens.specs.Text.{taken}
 use Rattle.quote_kinds.specs.declared.Kind.TheVariants.{Day}

@@ -1,5 +1,4 @@
 -- `printed_number` meets its contract.
-use borrow.Author.Rules.{rules}
 use mathlib.Core.Path.{sym, ap}
 use Rattle.c_sheet_quote.specs.SheetQuote.{printed_number}
 use Rattle.c_sheet_quote.proofs.printed_number.Goals as goal

@@ -1,5 +1,4 @@
 -- `put_five` meets its contract: five stores in a row.
-use borrow.Author.Rules.{rules}
 use native.Mathlib.Omega.{arith}
 use lib.ListN.{length-set}
 use Rattle.c_sheet_quote.specs.laws.AnswerLaws.{five-put}

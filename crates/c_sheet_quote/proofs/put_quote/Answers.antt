@@ -1,5 +1,4 @@
 -- `put_quote` meets its contract: short, or the five numbers.
-use borrow.Author.Rules.{rules}
 use native.Mathlib.Omega.{arith}
 use Rattle.c_sheet_quote.specs.laws.AnswerLaws.{put-short, put_whole}
 use Rattle.c_sheet_quote.proofs.put_quote.Goals as goal

@@ -1,5 +1,4 @@
 -- `quote_into` meets its contract: the answer of the kind that was read of the word, a kind that takes no rate.
-use borrow.Author.Rules.{rules}
 use mir.Facts.{to_z-of_z}
 use Rattle.c_sheet_quote.specs.laws.AnswerLaws.{put-read}
 use Rattle.c_sheet_quote.proofs.quote_into.Goals as goal

@@ -1,5 +1,4 @@
 -- `sheet_answer` meets its contract: the sheet's refusal, else the answer of its set.
-use borrow.Author.Rules.{rules}
 use native.Mathlib.Omega.{arith}
 use mir.Facts.{to_z-of_z}
 use Rattle.c_sheet_quote.specs.laws.AnswerLaws.{answer-refused, answer-given}

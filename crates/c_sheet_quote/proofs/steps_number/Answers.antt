@@ -1,5 +1,4 @@
 -- `steps_number` meets its contract.
-use borrow.Author.Rules.{rules}
 use mathlib.Core.Path.{sym, ap}
 use Rattle.c_sheet_quote.specs.SheetQuote.{steps_number}
 use Rattle.c_sheet_quote.proofs.steps_number.Goals as goal

@@ -1,5 +1,4 @@
 -- `unit_number` meets its contract.
-use borrow.Author.Rules.{rules}
 use mathlib.Core.Path.{sym, ap}
 use Rattle.c_sheet_quote.specs.SheetQuote.{unit_number}
 use Rattle.c_sheet_quote.proofs.unit_number.Goals as goal

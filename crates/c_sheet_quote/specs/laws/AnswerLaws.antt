@@ -1,5 +1,5 @@
 -- What a query of a sheet is answered, and what stands in the numbers after, in each case.
-use Rattle.std.specs.Prelude.{◌≡◌, true, false, List, [], ◌∷◌, ℕ, ◌≤◌, ◌<◌, ℤ, length, set}
+use Rattle.std.specs.Prelude.{Option, None, Some, ◌≡◌, true, false, List, [], ◌∷◌, ℕ, ◌≤◌, ◌<◌, ℤ, length, set, Ok, Err}
 use Rattle.std.proofs.Math.Path.{refl, ap}
 use Rattle.std.proofs.Common.{◌∙◌}
 use borrow.Author.Tests.{le-leb, lt-leb}
@@ -14,15 +14,12 @@ use Rattle.sheet.specs.Sheet.{read_sheet}
 use Rattle.sheet.proofs.laws.BySheet.{sheet-refused, sheet-given}
 use Rattle.quote_kinds.specs.declared.Kind.{Kind}
 use Rattle.quote_along.specs.declared.Quote.{Quote}
-use Rattle.quote_along.specs.declared.Answer.{Answer}
-use Rattle.quote_along.specs.declared.Answer.TheVariants.{Quoted, Refused}
+use Rattle.quote_along.specs.QuoteBy.{Answer}
 use Rattle.quote.specs.Quote.{answer_of}
 use Rattle.quote_kinds.specs.Kinds.{rule_of, takes_rate, with_rate}
 use Rattle.c_sheet_quote.specs.SheetQuote.{word_kind, kind_of, rated_kind_of, answer_to, sheet_answer}
 use Rattle.c_sheet_quote.specs.SheetQuote.{quote_length, printed_number, steps_number, unit_number, quote_numbers, quote_over}
 use Rattle.c_sheet_quote.specs.SheetQuote.{quoted_no, quoted_after, quote_no, quote_after}
-use Rattle.run_query.specs.declared.KindRead.{KindRead}
-use Rattle.run_query.specs.declared.KindRead.TheVariants.{Malformed as NoKind, Of}
 use Rattle.run_query.specs.code.Code.{kind_read}
 
 -- ---- the kind of a word
@@ -64,7 +61,7 @@ module _ (word : List ℕ) where
 module _ (sheet : List ℕ) (age year term : ℤ) where
   -- of a malformed kind, and of one that was read, whatever follows it
   module _ {k : Parse Kind} where
-    pub answer-malformed : k ≡ malformed → sheet_answer sheet k age year term ≡ Refused Malformed
+    pub answer-malformed : k ≡ malformed → sheet_answer sheet k age year term ≡ Err Malformed
     unfolding sheet_answer answer_to
     answer-malformed e = ap (λ (q : Parse Kind). answer_to q (read_sheet sheet) age year term) e
 
@@ -75,14 +72,14 @@ module _ (sheet : List ℕ) (age year term : ℤ) where
 
   module _ (kind : Kind) {got : Reading} (r : got ≡ read_sheet sheet) {number : ℕ}
       (n : number ≡ refusal_number got.refusal) where
-    pub answer-refused : (number ≡ 0 → ⊥) → Refused got.refusal ≡ sheet_answer sheet (taken kind []) age year term
+    pub answer-refused : (number ≡ 0 → ⊥) → Err got.refusal ≡ sheet_answer sheet (taken kind []) age year term
     unfolding sheet_answer answer_to
-    answer-refused h = sheet-refused Refused (λ p. answer_of p kind age year term) sheet r n h
+    answer-refused h = sheet-refused Err (λ p. answer_of p kind age year term) sheet r n h
 
     pub answer-given : number ≡ 0 → {a : Answer} → a ≡ answer_of got.set kind age year term
         → a ≡ sheet_answer sheet (taken kind []) age year term
     unfolding sheet_answer answer_to
-    answer-given h q = sheet-given Refused (λ p. answer_of p kind age year term) sheet r n h q
+    answer-given h q = sheet-given Err (λ p. answer_of p kind age year term) sheet r n h q
 
 -- ---- the numbers
 
@@ -111,11 +108,11 @@ module _ (q : Quote) (before : List ℕ) {number : ℕ} where
   put_whole h e k = let t = le-leb quote_length (length before) h in (rw t e, rw t k)
 
 module _ {a : Answer} (before : List ℕ) {number : ℕ} where
-  pub put-quoted : {q : Quote} → a ≡ Quoted q → {after : List ℕ} → PutQuote q before number after → PutAnswer a before number after
+  pub put-quoted : {q : Quote} → a ≡ Ok q → {after : List ℕ} → PutQuote q before number after → PutAnswer a before number after
   unfolding quote_no quote_after
   put-quoted e k = rw e k
 
-  pub put_refused : {r : Refusal} → a ≡ Refused r → number ≡ refusal_number r → PutAnswer a before number before
+  pub put_refused : {r : Refusal} → a ≡ Err r → number ≡ refusal_number r → PutAnswer a before number before
   unfolding quote_no quote_after
   put_refused e k = rw e (k, refl)
 
@@ -131,12 +128,12 @@ module _ (sheet : List ℕ) {k : Parse Kind} (age year term : ℤ) (before : Lis
 
 -- the same by what the code read of the word, whatever follows it there
 module _ (sheet word : List ℕ) (age year term : ℤ) where
-  read-alone : (r : KindRead) → sheet_answer sheet (kind_read [] r) age year term ≡ sheet_answer sheet (kind_read word r) age year term
+  read-alone : (r : Option (Kind × ℕ)) → sheet_answer sheet (kind_read [] r) age year term ≡ sheet_answer sheet (kind_read word r) age year term
   unfolding sheet_answer answer_to
-  read-alone NoKind = refl
-  read-alone (Of kind next) = refl
+  read-alone None = refl
+  read-alone (Some (kind, next)) = refl
 
-  pub put-read : (r : KindRead) {k : Parse Kind} → kind_read word r ≡ k → (before : List ℕ) {number : ℕ} {after : List ℕ}
+  pub put-read : (r : Option (Kind × ℕ)) {k : Parse Kind} → kind_read word r ≡ k → (before : List ℕ) {number : ℕ} {after : List ℕ}
       → PutAnswer (sheet_answer sheet (kind_read [] r) age year term) before number after
       → PutAnswer (sheet_answer sheet k age year term) before number after
   put-read r e before put = rw (← e, ← read-alone r) put

@@ -1,16 +1,14 @@
 -- `case_of` is safe: a day's year is at most 9999, the days of a year at most 366, and those before a day fewer.
 use mathlib.Core.Bool.{not}
-use mathlib.Core.Path.{◌≡◌, ap, sym, subst, ◌∙◌}
-use mathlib.Core.Bool.{Bool, true}
-use Prim.Native.Nat.{◌≤◌, ◌<◌}
+use mathlib.Core.Path.{ap, sym, ◌∙◌}
+use Prim.Native.Nat.{◌≤◌}
 use native.Mathlib.Omega.{arith}
-use borrow.Author.Rules.{rules}
 use borrow.Author.Tests.{not-false}
 use lib.Dec.{T}
 use lib.IntN.{nat_abs}
 use mir.Syntax.{w64}
 use mir.Val.{to_z, of_z}
-use Rattle.quote_calendar.specs.Calendar.{date_year, year_days, is_day}
+use Rattle.quote_calendar.specs.Calendar.{date_year, is_day}
 use Rattle.quote_calendar.specs.laws.Days.{day-plain, day-year, day-below, year-days}
 use Rattle.day_cases.proofs.case_of.Goals as goal
 

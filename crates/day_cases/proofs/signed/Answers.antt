@@ -1,7 +1,6 @@
 -- `signed` is safe: −1 − (2⁶⁴ − 1 − word) is at least −2⁶³ where the word is at least 2⁶³.
 use Prim.Native.Nat.{ℕ, suc, ◌-◌, ◌^◌, ◌<◌}
 use native.Mathlib.Omega.{arith}
-use borrow.Author.Rules.{rules}
 use lib.IntN.{pos, negsuc, ◌-ℤ◌}
 use mir.Syntax.{w64}
 use mir.Val.{SFits}

@@ -10,7 +10,6 @@ use Rattle.number_whole.proofs.laws.Bound.{bits, fits, under-lit}
 use Rattle.number_whole.proofs.Signed.{EndsFit, read}
 use Rattle.number_exponential.specs.declared.GridUnit.{GridUnit}
 use Rattle.number_exponential.specs.Units.{grid_of}
-use Rattle.number_exponential.specs.code.Flag.{unit_by, grid_by}
 use Rattle.number_exponential.proofs.laws.Scales.{under-scaled}
 use Rattle.set_series.specs.Series.{in_grid}
 use Rattle.set_series.specs.code.Within.{number_limit}
@@ -26,15 +25,15 @@ ends-fit s = record { lower = search rules; upper = search rules }
 bound : (u : GridUnit) {r z : ℤ} → Under z number_limit → r ≡ in_grid (grid_of u) z → bits r ≡ in_grid (grid_of u) z
 bound u k e = read e (fits (under-scaled u number_limit (in_grid-under (grid_of u) k)) tt)
 
-lowest : (c : After-in_grid-highest) → let s = c.before.before in bits c.before.in_grid-lowest.result ≡ in_grid (grid_by s.args.fine) lowest_force
-lowest c = bound (unit_by c.before.before.args.fine) (under-lit tt) c.before.in_grid-lowest.ensures
+lowest : (c : After-in_grid-highest) → let s = c.before.before in bits c.before.in_grid-lowest.result ≡ in_grid (grid_of s.args.grid) lowest_force
+lowest c = bound c.before.before.args.grid (under-lit tt) c.before.in_grid-lowest.ensures
 
-highest : (c : After-in_grid-highest) → let s = c.before.before in bits c.in_grid-highest.result ≡ in_grid (grid_by s.args.fine) highest_force
-highest c = bound (unit_by c.before.before.args.fine) (under-lit tt) c.in_grid-highest.ensures
+highest : (c : After-in_grid-highest) → let s = c.before.before in bits c.in_grid-highest.result ≡ in_grid (grid_of s.args.grid) highest_force
+highest c = bound c.before.before.args.grid (under-lit tt) c.in_grid-highest.ensures
 
 -- the range, by the test of the lower end as the code has it
 tested : (c : After-in_grid-highest) {b : Bool} → let s = c.before.before in le_z (bits c.before.in_grid-lowest.result) (bits s.args.m.lower) ≡ b
-    → in_range (grid_by s.args.fine) s.args.m ≡ b && le_z s.args.m.upper (in_grid (grid_by s.args.fine) highest_force)
+    → in_range (grid_of s.args.grid) s.args.m ≡ b && le_z s.args.m.upper (in_grid (grid_of s.args.grid) highest_force)
 unfolding in_range
 tested c e = rw (← e, lowest c, to_z-of_z (ends-fit c.before.before).lower)
 

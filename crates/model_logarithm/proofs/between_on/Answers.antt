@@ -1,13 +1,10 @@
--- `between_on` meets its contract. The loop's invariant: the k-th powers and the sums of k terms, rounded down and up; the
--- measure is the terms left.
+-- `between_on` meets its contract. The loop's invariant: the k-th powers and the sums of k terms, rounded down and up.
 use mathlib.Core.Path.{◌≡◌, ◌∙◌}
-use Prim.Native.Nat.{ℕ, ◌+◌, ◌-◌, ◌*◌, ◌/◌, ◌≤◌}
+use Prim.Native.Nat.{ℕ, ◌+◌, ◌*◌, ◌/◌, ◌≤◌}
 use native.Mathlib.Nat.{div-le_self}
 use native.Mathlib.Omega.{arith}
-use borrow.Author.Rules.{rules}
 use Rattle.number_exponential.specs.Grid.{Grid}
-use Rattle.number_exponential.specs.Units.{billionths, grid_of, ten_trillionths}
-use Rattle.number_exponential.specs.code.Flag.{unit_by, grid_by}
+use Rattle.number_exponential.specs.Units.{billionths, ten_trillionths, grid_of}
 use Rattle.number_exponential.proofs.laws.RunOut.{count_fits, sum_fits}
 use Rattle.number_products.specs.laws.Units.{unit-least, unit-most}
 use Rattle.model_logarithm.specs.Logarithm.{log_upper}
@@ -21,7 +18,7 @@ abbrev start : goal.After-next_up-up → Start
 start c = c.before.before.before
 
 abbrev grid : goal.After-next_up-up → Grid
-grid c = grid_by (start c).args.fine
+grid c = grid_of (start c).args.grid
 
 abbrev terms : goal.After-next_up-up → ℕ
 terms c = c.before.before.terms_of-terms.result
@@ -36,7 +33,7 @@ record Sizes (unit log_terms n : ℕ) : Type 0 where
 
 sizes : (c : goal.After-next_up-up) → Sizes (grid c).unit (grid c).log_terms (terms c)
 sizes c =
-    let u = unit_by (start c).args.fine in
+    let u = (start c).args.grid in
     let f = few-terms u in
     record { all = c.before.before.terms_of-terms.ensures; two = f.0; few = f.1; least = unit-least u; most = unit-most u }
 
@@ -105,14 +102,14 @@ pub overflow_add-least-in-loop-k : goal.overflow_add-least-in-loop-k
 overflow_add-least-in-loop-k c =
     let b = c.before.before.before.before in
     let t = lower-turned c in
-    omega (arith, room (unit_by (start b.before).args.fine) (b.loop-k.k + 1) t.counted t.sum-small)
+    omega (arith, room (start b.before).args.grid (b.loop-k.k + 1) t.counted t.sum-small)
 
 -- the upper sum after a turn fits
 most-fits : (c : goal.After-over-most) → let n = c.before.before in let b = n.before.before.before in
     b.loop-k.most + c.over-most.result ≤ 50 * ten_trillionths.unit
 most-fits c =
     let b = c.before.before.before.before.before in
-    let t = upper-turned c in room (unit_by (start b.before).args.fine) (b.loop-k.k + 1) t.counted t.sum-small
+    let t = upper-turned c in room (start b.before).args.grid (b.loop-k.k + 1) t.counted t.sum-small
 
 pub overflow_add-most-in-loop-k : goal.overflow_add-most-in-loop-k
 overflow_add-most-in-loop-k c = omega (arith, most-fits c)
@@ -176,7 +173,7 @@ rest-fits c =
     let l = c.before.before in
     let i = l.loop-k.invariant.1 in
     let s = sizes l.before in
-    (room (unit_by (start l.before).args.fine) l.loop-k.k i.counted i.sum-small, omega (arith, c.next_up.ensures.1))
+    (room (start l.before).args.grid l.loop-k.k i.counted i.sum-small, omega (arith, c.next_up.ensures.1))
 
 pub over-requires : goal.over-requires
 over-requires c =

@@ -1,6 +1,6 @@
 -- Powers that have run out: from one on whose lower end is 0, and whose upper end is 0 or 1, each further one has the same ends,
 -- and what is left of the logarithm's sum, with its rest, is a count.
-use Rattle.std.specs.Prelude.{◌≡◌, refl}
+use Rattle.std.specs.Prelude.{◌≡◌}
 use Rattle.std.proofs.Common.{sym, ◌∙◌, add-zero, add-suc, mul_comm, zero-lt-suc}
 use Rattle.std.proofs.Math.Path.{ap}
 use Prim.Native.Nat.{ℕ, zero, suc, ◌+◌, ◌-◌, ◌*◌, ◌/◌, ◌≤◌, ◌<◌}

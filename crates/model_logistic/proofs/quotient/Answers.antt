@@ -6,26 +6,25 @@ use native.Mathlib.Nat.{add-zero}
 use native.Mathlib.Omega.{arith}
 use Rattle.number_exponential.specs.Grid.{Grid}
 use Rattle.number_exponential.specs.Units.{grid_of}
-use Rattle.number_exponential.specs.code.Flag.{unit_by, grid_by}
 use Rattle.number_products.specs.laws.Products.{quotient-up}
 use Rattle.model_logistic.proofs.quotient.Goals as goal
 use Rattle.model_logistic.proofs.quotient.Goals.{Start}
 
 -- the divisor is some units
 divisor : (s : Start) → 0 < s.args.d
-divisor s = omega (arith, s.requires.1, (grid_by s.args.fine).positive)
+divisor s = omega (arith, s.requires.1, (grid_of s.args.grid).positive)
 
 pub returns-then-upper : goal.returns-then-upper
 returns-then-upper c =
     let t = c.before in
     let s = t.before in
-    rw t.if-upper.true (c.quotient_by.ensures ∙ quotient-up (grid_by s.args.fine) s.args.n s.args.d)
+    rw t.if-upper.true (c.quotient_by.ensures ∙ quotient-up (grid_of s.args.grid) s.args.n s.args.d)
 
 pub returns : goal.returns
 returns c =
     let t = c.before in
     let s = t.before in
-    rw t.if-upper.false (c.quotient_by-2.ensures ∙ ap (λ (n : ℕ). n / s.args.d) (add-zero (s.args.n * (grid_by s.args.fine).unit)))
+    rw t.if-upper.false (c.quotient_by-2.ensures ∙ ap (λ (n : ℕ). n / s.args.d) (add-zero (s.args.n * (grid_of s.args.grid).unit)))
 
 pub overflow_sub-d : goal.overflow_sub-d
 overflow_sub-d c = divisor c.before

@@ -1,16 +1,13 @@
 -- `force_at` meets its contract: to age 90 by the age's parameters, above by the closure of its year.
 use mathlib.Core.Path.{◌≡◌, ap, ◌∙◌}
 use mathlib.Core.List.{[]}
-use Prim.Native.Nat.{ℕ, ◌-◌, ◌≤◌}
-use native.Mathlib.Omega.{arith}
-use borrow.Author.Rules.{rules}
+use Prim.Native.Nat.{◌-◌}
 use lib.ListN.{get_or}
 use Rattle.number_exponential.specs.Units.{grid_of}
-use Rattle.number_exponential.specs.code.Flag.{unit_by, grid_by}
 use Rattle.set_params.specs.Set.{age_of}
 use Rattle.set_params.specs.laws.SetLaws.{four-age}
 use Rattle.model_log_force.proofs.laws.YearLaws.{year-asked, year-given, cell-within, year-force}
-use Rattle.model_closure.specs.Weights.{first_closed, last_closed}
+use Rattle.model_closure.specs.Weights.{first_closed}
 use Rattle.model_closure.specs.code.Table.{weight_row}
 use Rattle.model_closure.proofs.laws.WeightLaws.{table-row}
 use Rattle.model_closure.proofs.examples.Rows.{row_within}
@@ -35,21 +32,12 @@ pub returns-then-x-lt-FIRST_CLOSED : goal.returns-then-x-lt-FIRST_CLOSED
 returns-then-x-lt-FIRST_CLOSED c =
     let y = year-given _ _ c.requires.0 c.requires.2 c.year_at-y.ensures in
     rw (age-read c.before, year-force y c.args.x) at c.young_force.ensures
-    ∙ young-force (grid_by c.args.fine) c.args.p c.year_at-y.result.number c.if-x-lt-FIRST_CLOSED.true
-    ∙ ap (force_cell (grid_by c.args.fine) c.args.p c.args.x) c.year_at-y.ensures.number
+    ∙ young-force (grid_of c.args.grid) c.args.p c.year_at-y.result.number c.if-x-lt-FIRST_CLOSED.true
+    ∙ ap (force_cell (grid_of c.args.grid) c.args.p c.args.x) c.year_at-y.ensures.number
 
 -- ---- above
 
-pub bounds-table-x : goal.bounds-table-x
-bounds-table-x c = omega (arith, c.requires.1, c.if-x-lt-FIRST_CLOSED.false)
-
-pub offset_bounds-table-x : goal.offset_bounds-table-x
-offset_bounds-table-x c = omega (arith, c.requires.1, c.if-x-lt-FIRST_CLOSED.false)
-
-pub fitted_in-fitted-requires : goal.fitted_in-fitted-requires
-fitted_in-fitted-requires c = lent (year-given _ _ c.requires.0 c.requires.2 c.year_at-y.ensures)
-
-heights : (c : goal.After-fitted_in-fitted) → FittedOf (grid_by c.args.fine) c.args.p c.year_at-y.result.number c.fitted_in-fitted.result
+heights : (c : goal.After-fitted_in-fitted) → FittedOf (grid_of c.args.grid) c.args.p c.year_at-y.result.number c.fitted_in-fitted.result
 heights c = c.fitted_in-fitted.ensures (lent (year-given _ _ c.requires.0 c.requires.2 c.year_at-y.ensures))
 
 row_read : (c : goal.After-fitted_in-fitted) → get_or c.table-table.result (c.args.x - first_closed) [] ≡ weight_row c.args.x
@@ -62,4 +50,4 @@ old_force-requires c =
 pub returns : goal.returns
 returns c =
     rw (row_read c.before) at c.old_force.ensures ∙ old-force (heights c.before) c.if-x-lt-FIRST_CLOSED.false
-    ∙ ap (force_cell (grid_by c.args.fine) c.args.p c.args.x) c.year_at-y.ensures.number
+    ∙ ap (force_cell (grid_of c.args.grid) c.args.p c.args.x) c.year_at-y.ensures.number

@@ -6,7 +6,7 @@ use Rattle.std.specs.Prelude.{length}
 use Rattle.number_fraction.specs.Ratio.{Ratio, whole/, quotient/, ◌*/◌}
 use Rattle.number_fraction.specs.Bracket.{Bracket}
 use Rattle.number_fraction.proofs.laws.Places.{places-length, places-take}
-use Rattle.number_exponential.specs.Grid.{Grid, in_units}
+use Rattle.number_exponential.specs.Grid.{Grid}
 use Rattle.number_exponential.specs.declared.Ends.{Ends}
 use Rattle.number_exponential.proofs.laws.OutwardLaws.{outward-holds}
 use Rattle.number_folds.specs.Exact.{exactly}

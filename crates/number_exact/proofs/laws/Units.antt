@@ -1,7 +1,7 @@
 -- A step of a figure, counted in units of any grid: a value rounds to n of them on one grid exactly when it does on another.
-use Rattle.std.specs.Prelude.{◌≡◌, ℕ, ◌+◌, ◌*◌, ◌-◌, ◌<◌}
+use Rattle.std.specs.Prelude.{◌≡◌, ℕ, ◌+◌, ◌*◌, ◌-◌}
 use Rattle.std.proofs.Common.{ap, arith}
-use Rattle.number_fraction.specs.Ratio.{Ratio, ◌≤/◌}
+use Rattle.number_fraction.specs.Ratio.{◌≤/◌}
 use Rattle.number_fraction.proofs.laws.RatioLaws.{</-≤/-trans}
 use Rattle.number_exponential.specs.Grid.{Grid}
 use Rattle.number_exact.specs.Value.{Exact, lower_edge, upper_edge, RoundsTo}

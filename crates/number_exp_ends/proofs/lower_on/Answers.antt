@@ -1,9 +1,7 @@
 -- `lower_on` meets its contract: below the cut-off by the lower sum and the constant, from the cut-off on 0.
 use Prim.Native.Nat.{zero-le}
-use borrow.Author.Rules.{rules}
 use Rattle.number_exponential.specs.Grid.{Grid}
 use Rattle.number_exponential.specs.Units.{grid_of}
-use Rattle.number_exponential.specs.code.Flag.{unit_by, grid_by}
 use Rattle.number_exponential.proofs.laws.Facts.{Sound}
 use Rattle.number_exponential.proofs.laws.Soundness.{step-positive, rest-small}
 use Rattle.number_exponential.proofs.laws.GridFacts.{unit-sound}
@@ -14,10 +12,10 @@ use Rattle.number_exp_ends.proofs.lower_on.Lts as lts
 use Rattle.number_exp_ends.proofs.lower_on.Reads as reads
 
 abbrev grid : lts.After-cutoff_of tie.the-claims reads.Pre reads.Post → Grid
-grid c = grid_by c.before.before.args.fine
+grid c = grid_of c.before.before.args.grid
 
 sound : (c : lts.After-cutoff_of tie.the-claims reads.Pre reads.Post) → Sound (grid c)
-sound c = unit-sound (unit_by c.before.before.args.fine)
+sound c = unit-sound c.before.before.args.grid
 
 pub nonzero_rem-z : goal.nonzero_rem-z
 nonzero_rem-z c = rw c.before.before.step_of-step.ensures (step-positive _ (sound c.before))

@@ -1,6 +1,6 @@
 -- `sum_lower` meets its contract. The loop's invariant: i pairs of terms are summed, the even ones by their lower ends and
--- the odd ones by their upper ends; the measure is the pairs left.
-use mathlib.Core.Path.{◌≡◌, refl, sym, ◌∙◌}
+-- the odd ones by their upper ends.
+use mathlib.Core.Path.{◌≡◌, refl, sym}
 use Prim.Native.Nat.{ℕ, suc, ◌+◌, ◌-◌, ◌*◌, ◌≤◌, ◌<◌}
 use native.Mathlib.Omega.{arith}
 use borrow.Author.Rules.{rules}
@@ -11,23 +11,20 @@ use Rattle.number_exponential.specs.Exponential.{next_lower, next_upper, term_lo
 use Rattle.number_exponential.specs.declared.GridUnit.{GridUnit}
 use Rattle.number_exponential.specs.declared.GridUnit.TheVariants.{Coarse, Fine}
 use Rattle.number_exponential.specs.Units.{ten_trillionths, grid_of}
-use Rattle.number_exponential.specs.code.Flag.{unit_by, grid_by}
 use Rattle.number_exponential.proofs.laws.GridFacts.{unit-sound, unit-narrow}
 use Rattle.number_exponential.proofs.laws.Sums.{double-two}
 use Rattle.number_products.specs.laws.Units.{unit-most}
 use Rattle.number_exp_ends.specs.code.Code.{PairCount}
 use Rattle.number_exp_ends.proofs.Pairs.{Lower, Less, LowerPairs, room, positive, none, more, all, lower-next, less-next, first-upper, lower-sum, lower-out}
 use Rattle.number_exp_ends.proofs.sum_lower.Goals as goal
-use Rattle.number_exp_ends.proofs.sum_lower.Tie as tie
-use Rattle.number_exp_ends.proofs.sum_lower.Lts as lts
-use Rattle.number_exp_ends.proofs.sum_lower.Reads as reads
+use Rattle.number_exp_ends.proofs.sum_lower.Goals.{Start}
 
 -- what stands before the loop: the function's start, the grid, f, which is not 0, and the pairs
-abbrev start : goal.Else-f-eq0 → lts.Start tie.the-claims reads.Pre reads.Post goal.the-invariant-loop-i goal.the-decreases-loop-i
+abbrev start : goal.Else-f-eq0 → Start
 start e = e.before.before.before
 
 abbrev grid : goal.Else-f-eq0 → Grid
-grid e = grid_by (start e).args.fine
+grid e = grid_of (start e).args.grid
 
 abbrev at : goal.Else-f-eq0 → ℕ
 at e = (start e).args.f
@@ -53,7 +50,7 @@ even-lower : (c : goal.After-next_lower-even) → let t = c.before in
     Lower (grid (begun t)) (at (begun t)) (suc (suc (twice t))) c.next_lower-even.result
 even-lower c =
     let l = c.before.before in
-    lower-next _ _ (start l.before).requires l.loop-i.invariant.0.lower (omega (arith, double-two l.loop-i.i)) c.next_lower-even.ensures
+    lower-next _ _ (start l.before).requires l.loop-i.invariant.lower (omega (arith, double-two l.loop-i.i)) c.next_lower-even.ensures
 
 odd-lower : (c : goal.After-next_lower-low) → let t = c.before.before in
     Lower (grid (begun t)) (at (begun t)) (suc (suc (suc (twice t)))) c.next_lower-low.result
@@ -65,7 +62,7 @@ even-less : (c : goal.After-next_less) → let t = c.before.before.before in
     Less (grid (begun t)) (at (begun t)) (suc (suc (twice t))) c.next_less.result
 even-less c =
     let l = c.before.before.before.before in
-    less-next _ _ (start l.before).requires l.loop-i.invariant.0.upper (omega (arith, double-two l.loop-i.i)) c.next_less.ensures
+    less-next _ _ (start l.before).requires l.loop-i.invariant.upper (omega (arith, double-two l.loop-i.i)) c.next_less.ensures
 
 odd-less : (c : goal.After-next_less-less) → let t = c.before.before.before.before in
     Less (grid (begun t)) (at (begun t)) (suc (suc (suc (twice t)))) c.next_less-less.result
@@ -82,12 +79,12 @@ at_none Fine = refl
 pub returns-then-f-eq0 : goal.returns-then-f-eq0
 returns-then-f-eq0 c =
     let s = c.before.before.before in
-    rw (c.if-f-eq0.true, c.before.before.unit_by-one.ensures) (at_none (unit_by s.args.fine))
+    rw (c.if-f-eq0.true, c.before.before.unit_by-one.ensures) (at_none s.args.grid)
 
 pub loop-i-init : goal.loop-i-init
 unfolding term_lower
 loop-i-init c =
-    (none _ _ (some c) (start c).requires _ _ _ _ c.before.before.unit_by-one.ensures refl (sym (first-upper _ (at c))), omega arith)
+    none _ _ (some c) (start c).requires _ _ _ _ c.before.before.unit_by-one.ensures refl (sym (first-upper _ (at c)))
 
 -- the pairs after a turn
 turned : (c : goal.After-next_less-less) → let o = c.before.before in let e = o.before in let t = e.before in
@@ -98,7 +95,7 @@ turned c =
     let o = c.before.before in
     let e = o.before in
     let h = odd-less c in
-    more e.before.before.loop-i.invariant.0 (odd-lower o) h (even-lower e) h
+    more e.before.before.loop-i.invariant (odd-lower o) h (even-lower e) h
 
 -- ---- what each step asks
 
@@ -124,9 +121,9 @@ sums-fit : (t : goal.In-loop-i) → let l = t.before.loop-i in
     (l.evens ≤ 41 * ten_trillionths.unit) × (l.odds ≤ 41 * ten_trillionths.unit) × ((grid (begun t)).unit ≤ ten_trillionths.unit)
 sums-fit t =
     let l = t.before.loop-i in
-    let u = unit_by (start (begun t)).args.fine in
+    let u = (start (begun t)).args.grid in
     let h : l.i ≤ 40 = omega (arith, (count (begun t)).few) in
-    (room u l.i h l.invariant.0.evens-small, room u l.i h l.invariant.0.odds-small, unit-most u)
+    (room u l.i h l.invariant.evens-small, room u l.i h l.invariant.odds-small, unit-most u)
 
 pub overflow_add-evens : goal.overflow_add-evens
 overflow_add-evens c =
@@ -137,7 +134,7 @@ pub overflow_add-odds : goal.overflow_add-odds
 overflow_add-odds c = omega (arith, (odd-less c).small, sums-fit c.before.before.before.before)
 
 pub overflow_add-less : goal.overflow_add-less
-overflow_add-less c = omega (arith, (turned c).lower.small, (turned c).upper.small, unit-most (unit_by (start (begun c.before.before.before.before)).args.fine))
+overflow_add-less c = omega (arith, (turned c).lower.small, (turned c).upper.small, unit-most (start (begun c.before.before.before.before)).args.grid)
 
 -- ---- where the terms have run out
 
@@ -154,28 +151,28 @@ left c =
     let u = c.before in
     let t = u.before.before.before.before in
     let b = begun t in
-    let v = unit_by (start b).args.fine in
+    let v = (start b).args.grid in
     lower-out (grid b) (unit-sound v) (unit-narrow v) (count b) _ (start b).requires t.before.loop-i.i (turned u) (omega arith)
     (omega (arith, c.if-less-low-eq0.true)) (omega (arith, c.if-less-low-eq0.true))
 
 -- ---- one turn more, and after the last
 
 pub loop-i-preserved : goal.loop-i-preserved
-loop-i-preserved c = (turned c.before, omega arith)
+loop-i-preserved c = turned c.before
 
 pub overflow_add-result-2 : goal.overflow_add-result-2
 overflow_add-result-2 c =
     let l = c.before.loop-i in
     let b = c.before.before in
     let h : l.i ≤ 40 = omega (arith, (count b).few) in
-    omega (arith, room (unit_by (start b).args.fine) l.i h l.invariant.0.odds-small, (count b).few)
+    omega (arith, room (start b).args.grid l.i h l.invariant.odds-small, (count b).few)
 
 whole : (c : goal.After-loop-i) → let l = c.before.loop-i in let b = c.before.before in
     (l.odds + pairs b ≤ l.evens) × (l.evens - (l.odds + pairs b) ≡ sum_lower (grid b) (at b))
 whole c =
     let b = c.before.before in
-    let v = unit_by (start b).args.fine in
-    lower-sum (grid b) (unit-sound v) (unit-narrow v) (count b) _ (start b).requires (all (pairs b) c.before.loop-i.invariant.0 (omega arith))
+    let v = (start b).args.grid in
+    lower-sum (grid b) (unit-sound v) (unit-narrow v) (count b) _ (start b).requires (all (pairs b) c.before.loop-i.invariant (omega arith))
 
 pub overflow_sub-less : goal.overflow_sub-less
 overflow_sub-less c = some c
@@ -191,9 +188,6 @@ overflow_add-k-in-loop-i c = omega (arith, (count (begun c.before)).few)
 
 pub overflow_add-k-in-loop-i-2 : goal.overflow_add-k-in-loop-i-2
 overflow_add-k-in-loop-i-2 c = omega (arith, (count (begun c.before.before.before)).few)
-
-pub overflow_add-i : goal.overflow_add-i
-overflow_add-i c = omega (arith, (count (begun c.before.before.before.before)).few)
 
 pub overflow_sub-result : goal.overflow_sub-result
 overflow_sub-result c = (left c).0

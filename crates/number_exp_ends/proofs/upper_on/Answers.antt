@@ -1,10 +1,8 @@
 -- `upper_on` meets its contract: below the cut-off by the upper sum and the constant, from the cut-off on 1.
 use Prim.Native.Nat.{◌+◌, ◌≤◌}
 use native.Mathlib.Omega.{arith}
-use borrow.Author.Rules.{rules}
 use Rattle.number_exponential.specs.Grid.{Grid}
 use Rattle.number_exponential.specs.Units.{grid_of}
-use Rattle.number_exponential.specs.code.Flag.{unit_by, grid_by}
 use Rattle.number_exponential.proofs.laws.Facts.{Sound}
 use Rattle.number_exponential.proofs.laws.Soundness.{step-positive, rest-small}
 use Rattle.number_exponential.proofs.laws.GridFacts.{unit-sound}
@@ -16,10 +14,10 @@ use Rattle.number_exp_ends.proofs.upper_on.Lts as lts
 use Rattle.number_exp_ends.proofs.upper_on.Reads as reads
 
 abbrev grid : lts.After-cutoff_of tie.the-claims reads.Pre reads.Post → Grid
-grid c = grid_by c.before.before.args.fine
+grid c = grid_of c.before.before.args.grid
 
 sound : (c : lts.After-cutoff_of tie.the-claims reads.Pre reads.Post) → Sound (grid c)
-sound c = unit-sound (unit_by c.before.before.args.fine)
+sound c = unit-sound c.before.before.args.grid
 
 pub nonzero_rem-z : goal.nonzero_rem-z
 nonzero_rem-z c = rw c.before.before.step_of-step.ensures (step-positive _ (sound c.before))
@@ -45,7 +43,7 @@ more c =
     c.whole_part.ensures
 
 pub overflow_add-whole_part : goal.overflow_add-whole_part
-overflow_add-whole_part c = omega (arith, more c, unit-most (unit_by c.before.before.before.before.before.before.args.fine))
+overflow_add-whole_part c = omega (arith, more c, unit-most c.before.before.before.before.before.before.args.grid)
 
 pub overflow_sub-unit_by : goal.overflow_sub-unit_by
 overflow_sub-unit_by c = rw c.unit_by.ensures (grid c.before.before.before.before.before).positive

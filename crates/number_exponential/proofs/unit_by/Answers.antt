@@ -1,14 +1,12 @@
 -- `unit_by` meets its contract, case by case.
 use mathlib.Core.Path.{sym, ap}
-use Rattle.number_exponential.specs.Grid.{Grid}
 use Rattle.number_exponential.specs.Units.{grid_of}
-use Rattle.number_exponential.specs.code.Flag.{unit_by, grid_by}
 use Rattle.number_exponential.proofs.unit_by.Goals as goal
 
-pub returns-then-fine : goal.returns-then-fine
-unfolding grid_of unit_by
-returns-then-fine c = sym (ap (λ b. (grid_by b).unit) c.if-fine.true)
+pub returns-in-Coarse : goal.returns-in-Coarse
+unfolding grid_of
+returns-in-Coarse c = sym (ap (λ g. (grid_of g).unit) c.in-Coarse.is)
 
-pub returns : goal.returns
-unfolding grid_of unit_by
-returns c = sym (ap (λ b. (grid_by b).unit) c.if-fine.false)
+pub returns-in-Fine : goal.returns-in-Fine
+unfolding grid_of
+returns-in-Fine c = sym (ap (λ g. (grid_of g).unit) c.in-Fine.is)

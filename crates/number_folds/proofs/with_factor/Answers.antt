@@ -3,18 +3,16 @@ use mathlib.Core.Path.{◌≡◌, ap, ap₂, ◌∙◌}
 use Prim.Native.Nat.{ℕ, ◌+◌, ◌-◌, ◌*◌, ◌/◌}
 use native.Mathlib.Nat.{add-zero}
 use native.Mathlib.Omega.{arith}
-use borrow.Author.Rules.{rules}
 use Rattle.number_exponential.specs.Grid.{Grid}
 use Rattle.number_exponential.specs.declared.Ends.{Ends}
 use Rattle.number_exponential.specs.Units.{grid_of}
-use Rattle.number_exponential.specs.code.Flag.{unit_by, grid_by}
 use Rattle.number_exponential.specs.Outward.{outward_over}
 use Rattle.number_products.specs.laws.Products.{product-up}
 use Rattle.number_folds.specs.Folds.{with_factor}
 use Rattle.number_folds.proofs.with_factor.Goals as goal
 
 pub overflow_sub-up : goal.overflow_sub-up
-overflow_sub-up c = omega (arith, c.unit_by-up.ensures, (grid_by c.before.args.fine).positive)
+overflow_sub-up c = omega (arith, c.unit_by-up.ensures, (grid_of c.before.args.grid).positive)
 
 -- the two products
 made : (g : Grid) (s p : Ends) (n : ℕ) {l h : ℕ} → n ≡ g.unit → l ≡ (s.lower * p.lower + 0) / g.unit

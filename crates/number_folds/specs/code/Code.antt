@@ -1,5 +1,5 @@
 -- What the code's contracts say beside the definitions: the factors that the code takes.
-use Rattle.std.specs.Prelude.{List, ℕ, ◌≤◌, take}
+use Rattle.std.specs.Prelude.{List, ℕ, ◌≤◌, length}
 use Rattle.number_exponential.specs.Grid.{Grid}
 use Rattle.number_exponential.specs.declared.Ends.{Ends}
 use Rattle.number_folds.specs.laws.Each.{Each}
@@ -13,7 +13,7 @@ pub record AtMost (m : ℕ) (e : Ends) : Type 0 where
 abbrev pub most_factors : ℕ
 most_factors = 171
 
--- the first `count` factors of an array are chances: no end is above 1
-pub record Chances (g : Grid) (factors : List Ends) (count : ℕ) : Type 0 where
-  pub room : count ≤ most_factors
-  pub each : Each (AtMost g.unit) (take count factors)
+-- factors are chances: no more of them than the longest path has, and no end above 1
+pub record Chances (g : Grid) (factors : List Ends) : Type 0 where
+  pub room : length factors ≤ most_factors
+  pub each : Each (AtMost g.unit) factors

@@ -1,5 +1,5 @@
 -- What is promised of an answer by its refusal, where the quote's ends hold its exact value.
-use Rattle.std.specs.Prelude.{◌≡◌, refl, ◌↔◌, cond, ℕ, ◌+◌, ◌*◌, ◌≤◌, ◌<◌}
+use Rattle.std.specs.Prelude.{◌≡◌, refl, ◌↔◌, cond, ℕ, ◌+◌, ◌*◌, ◌≤◌, ◌<◌, Ok, Err}
 use Rattle.std.proofs.Common.{ap, sym, ◌∙◌, mul-one, mul-pos, arith}
 use Rattle.number_whole.proofs.laws.Clash.{clash}
 use Rattle.number_taylor.specs.Order.{least_order}
@@ -22,9 +22,7 @@ use Rattle.number_exact.proofs.laws.Units.{rounds-on}
 use Rattle.number_exact.proofs.laws.FigureLaws.{figure-printed, figure-open}
 use Rattle.number_exact.proofs.laws.Rounding.{printed-rounds, rounds-once}
 use Rattle.quote_along.specs.declared.Quote.{Quote}
-use Rattle.quote_along.specs.QuoteBy.{quote_on, quote_by}
-use Rattle.quote_along.specs.declared.Answer.{Answer}
-use Rattle.quote_along.specs.declared.Answer.TheVariants.{Quoted, Refused}
+use Rattle.quote_along.specs.QuoteBy.{quote_on, quote_by, Answer}
 use Rattle.quote.specs.Quote.{answer_by}
 use Rattle.quote.specs.Demand.{printed, marked_open, no_figure, shown_of, number_of, unit_of, lower_of, upper_of, figure_shown, LeftOpen, KeptBy, Promised}
 use Rattle.quote.proofs.laws.AnswerLaws.{AnswerBy, quoted, refused, answer-by}
@@ -43,8 +41,8 @@ answer-number r q = go (answer-by r q)
 -- an answer with a number has ends 0 and 0 in units of 10^-9 and no figure
 refused-empty : (a : Answer) → (number_of a ≡ 0 → ⊥) → (unit_of a ≡ Coarse) × (lower_of a ≡ 0) × (upper_of a ≡ 0) × (figure_shown a ≡ no_figure)
 unfolding number_of unit_of lower_of upper_of figure_shown
-refused-empty (Quoted q) n = absurd (n refl)
-refused-empty (Refused r) n = (refl, refl, refl, refl)
+refused-empty (Ok q) n = absurd (n refl)
+refused-empty (Err r) n = (refl, refl, refl, refl)
 
 -- an answer with no number is a quote
 no_number : (r : Refusal) (q : Quote) → number_of (answer_by r q) ≡ 0 → r ≡ Accepted
@@ -112,7 +110,7 @@ scale-some : (g : Grid) → 0 < g.scale
 scale-some g = omega (arith, g.positive, g.scaled)
 
 module _ {e : GridUnit → Ends} {x : Exact} {s w : ℕ} (h : Held e x s w) where
-  quote-kept : {q : Quote} → WorkedIn s e q → KeptBy e x s w (Quoted q)
+  quote-kept : {q : Quote} → WorkedIn s e q → KeptBy e x s w (Ok q)
   unfolding unit_of lower_of upper_of figure_shown
   quote-kept (worked-in u f) =
       let o = figure-open (s * (grid_of u).scale) (e u) in

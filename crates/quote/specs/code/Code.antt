@@ -6,7 +6,7 @@ use Rattle.set_params.specs.Set.{year_number}
 use Rattle.quote_paths.specs.declared.Path.{Path}
 use Rattle.quote_kinds.specs.declared.Kind.{Kind}
 use Rattle.quote_kinds.specs.Kinds.{rule_of, count_of, span_of, step_of}
-use Rattle.quote_along.specs.declared.Answer.{Answer}
+use Rattle.quote_along.specs.QuoteBy.{Answer}
 use Rattle.quote_along.specs.code.Code.{quote_for}
 use Rattle.quote.specs.Quote.{query_ends, refusal_of, answer_by}
 

@@ -1,5 +1,5 @@
 -- What contracts say beside the definitions: the answer of a fold along a path.
-use Rattle.std.specs.Prelude.{◌≡◌, Bool, true, false, cond, List, ℕ, suc, eqb}
+use Rattle.std.specs.Prelude.{◌≡◌, Bool, true, false, cond, List, ℕ, suc, eqb, Ok, Err}
 use Rattle.number_fraction.specs.Ratio.{Ratio}
 use Rattle.number_exponential.specs.declared.Ends.{Ends}
 use Rattle.number_exponential.specs.Units.{billionths, grid_of}
@@ -16,14 +16,12 @@ use Rattle.quote_paths.specs.code.Code.{IsPart}
 use Rattle.quote_factors.specs.code.Code.{all_places}
 use Rattle.quote_paths.specs.declared.Fold.{Fold}
 use Rattle.quote_kinds.specs.Kinds.{step_of}
-use Rattle.quote_along.specs.QuoteBy.{quote_on, quote_by}
+use Rattle.quote_along.specs.QuoteBy.{quote_on, quote_by, Answer}
 use Rattle.quote_along.specs.declared.Quote.{Quote}
-use Rattle.quote_along.specs.declared.Answer.{Answer}
-use Rattle.quote_along.specs.declared.Answer.TheVariants.{Quoted, Refused}
 
 -- a quote, or the refusal of a cell out of range
 unfoldable pub in_range_or : Bool → Quote → Answer
-in_range_or inside q = cond inside (Quoted q) (Refused LogForceOutOfRange)
+in_range_or inside q = cond inside (Ok q) (Err LogForceOutOfRange)
 
 -- the answer of a fold in one unit
 unfoldable pub path_answer : GridUnit → Params → Fold → List Place → Answer
@@ -31,8 +29,8 @@ path_answer u p fold path = in_range_or (path_in_range (grid_of u) p path) (quot
 
 -- an answer is a quote whose figure is open
 unfoldable pub left_open : Answer → Bool
-left_open (Quoted q) = is_open q.figure
-left_open (Refused r) = false
+left_open (Ok q) = is_open q.figure
+left_open (Err r) = false
 
 -- the quote of the ends in each unit, or of the coarse ends alone
 unfoldable pub quote_for : Bool → ℕ → (GridUnit → Ends) → Quote

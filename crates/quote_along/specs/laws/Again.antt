@@ -1,16 +1,13 @@
 -- A quote that is worked again: coarse ends that leave the figure open give the answer of the fine ones, where cells in range on the
 -- coarse grid are so on the fine one.
-use Rattle.std.specs.Prelude.{◌≡◌, Bool, cond, ◌&&◌, ℕ}
+use Rattle.std.specs.Prelude.{◌≡◌, Bool, ◌&&◌, ℕ}
 use Rattle.std.proofs.Math.Path.{refl}
-use Rattle.std.proofs.Common.{ap}
 use Rattle.std.proofs.Math.Bool.{true, false}
 use Rattle.number_whole.proofs.laws.Clash.{clash}
 use Rattle.number_exponential.specs.declared.Ends.{Ends}
 use Rattle.number_exponential.specs.declared.GridUnit.{GridUnit}
 use Rattle.number_exponential.specs.declared.GridUnit.TheVariants.{Coarse, Fine}
-use Rattle.number_exact.specs.Figure.{is_open}
-use Rattle.quote_along.specs.QuoteBy.{quote_on, quote_by}
-use Rattle.quote_along.specs.declared.Answer.{Answer}
+use Rattle.quote_along.specs.QuoteBy.{quote_on, quote_by, Answer}
 use Rattle.quote_along.specs.code.Code.{in_range_or, left_open, quote_for}
 
 module _ (s : ℕ) (ends : GridUnit → Ends) where
@@ -31,3 +28,8 @@ module _ (s : ℕ) (ends : GridUnit → Ends) where
   worked-once true false e = refl
   worked-once false true e = refl
   worked-once false false e = refl
+
+-- the rounds after one on a grid
+abbrev pub rounds_left : GridUnit → ℕ
+rounds_left Coarse = 1
+rounds_left Fine = 0

@@ -2,7 +2,6 @@
 use mathlib.Core.Path.{ap, ◌∙◌}
 use native.Mathlib.Nat.{zero-add}
 use native.Mathlib.Omega.{arith}
-use borrow.Author.Rules.{rules}
 use Rattle.number_whole.proofs.laws.Table.{listed_at}
 use Rattle.quote_calendar.specs.Calendar.{days_before}
 use Rattle.quote_calendar.proofs.days_before.Goals as goal

@@ -1,31 +1,20 @@
 -- `is_day` meets its contract, by the sign.
-use mathlib.Core.Path.{◌≡◌, refl, ap, ◌∙◌}
-use mathlib.Core.Bool.{true, false}
-use borrow.Author.Rules.{rules}
-use lib.IntN.{ℤ, pos, nat_abs}
+use mathlib.Core.Path.{◌≡◌, refl, ◌∙◌}
+use mathlib.Core.Bool.{false}
+use lib.IntN.{ℤ, pos, negsuc}
+use Rattle.std.proofs.Math.Dec.{leb-zero}
+use lib.Signed.{le_z}
 use mir.Facts.{to_z-of_z}
-use Rattle.number_whole.proofs.laws.Sign.{Sign, minus, plain, sign}
+use Rattle.number_whole.proofs.laws.Clash.{clash}
 use Rattle.quote_calendar.specs.Calendar.{is_day}
 use Rattle.quote_calendar.proofs.is_day.Goals as goal
 
-below-zero : {z : ℤ} → Sign z true → false ≡ is_day z
+below-zero : (z : ℤ) → le_z (pos 0) z ≡ false → false ≡ is_day z
 unfolding is_day
-below-zero (minus n) = refl
+below-zero (pos n) e = clash (cc (leb-zero n))
+below-zero (negsuc n) e = refl
 
-natural : {z : ℤ} → Sign z false → pos (nat_abs z) ≡ z
-natural (plain n) = refl
-
-date-natural : (c : goal.Else-date-lt0) → let z = c.before.args.date in pos (nat_abs z) ≡ z
-date-natural c = natural (sign c.before.args.date (rw (to_z-of_z c.before.ranges.date) at c.if-date-lt0.false))
-
-pub returns-then-date-lt0 : goal.returns-then-date-lt0
-returns-then-date-lt0 c = below-zero (sign c.before.args.date (rw (to_z-of_z c.before.ranges.date) at c.if-date-lt0.true))
-
-pub plain-requires : goal.plain-requires
-plain-requires c = rw (to_z-of_z c.before.ranges.date) (date-natural c)
-
-pub returns : goal.returns
-returns c =
-    let e = c.before.before in
-    c.is_plain_day.ensures ∙ ap (λ n. is_day (pos n)) (c.before.plain.ensures ∙ ap nat_abs (to_z-of_z e.before.ranges.date))
-    ∙ ap is_day (date-natural e)
+pub returns-else-date-ge0 : goal.returns-else-date-ge0
+returns-else-date-ge0 c =
+    let e = rw (to_z-of_z c.ranges.date) at c.if-date-ge0.false in
+    c.if-date-ge0.false ∙ below-zero c.args.date e

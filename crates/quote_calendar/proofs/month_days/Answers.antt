@@ -1,6 +1,5 @@
 -- `month_days` meets its contract: what the days before the next month exceed those before the month by.
 use native.Mathlib.Omega.{arith}
-use borrow.Author.Rules.{rules}
 use Rattle.quote_calendar.specs.laws.Days.{before-next}
 use Rattle.quote_calendar.proofs.month_days.Goals as goal
 

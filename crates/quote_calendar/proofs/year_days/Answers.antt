@@ -1,6 +1,5 @@
 -- `year_days` meets its contract, by whether the year is a leap year.
 use mathlib.Core.Path.{sym, ◌∙◌}
-use borrow.Author.Rules.{rules}
 use Rattle.quote_calendar.specs.Calendar.{year_days}
 use Rattle.quote_calendar.proofs.year_days.Goals as goal
 

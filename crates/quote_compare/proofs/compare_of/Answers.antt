@@ -1,5 +1,4 @@
 -- `compare_of` meets its contract: the answers of `quote_of`, whose ends are small.
-use borrow.Author.Rules.{rules}
 use mathlib.Core.Path.{◌≡◌}
 use mir.Facts.{to_z-of_z}
 use Rattle.quote.specs.Quote.{answer_of}

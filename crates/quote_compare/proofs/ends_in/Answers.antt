@@ -1,5 +1,4 @@
 -- `ends_in` meets its contract: each end by how many of the unit make one of its own.
-use borrow.Author.Rules.{rules}
 use mathlib.Core.Path.{◌≡◌}
 use Prim.Native.Nat.{ℕ, ◌*◌, ◌/◌, ◌≤◌}
 use native.Mathlib.Omega.{arith}

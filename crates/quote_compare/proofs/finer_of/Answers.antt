@@ -1,5 +1,4 @@
 -- `finer_of` meets its contract, case by case.
-use borrow.Author.Rules.{rules}
 use mathlib.Core.Path.{sym, ap}
 use Rattle.number_exponential.specs.declared.GridUnit.{GridUnit}
 use Rattle.quote_compare.specs.Compare.{finer}

@@ -1,5 +1,5 @@
 -- The three cases of two pairs of ends, and what was compared of two answers.
-use Rattle.std.specs.Prelude.{◌≡◌, refl, ℕ, ◌-◌, ◌≤◌, ◌<◌}
+use Rattle.std.specs.Prelude.{◌≡◌, refl, ℕ, ◌-◌, ◌≤◌, ◌<◌, Ok, Err}
 use Rattle.std.proofs.Math.Nat.{max-eq_left, max-eq_right}
 use Rattle.std.proofs.Common.{arith}
 use Rattle.std.proofs.lemmas.Bool.{lt-ltb, le-ltb}
@@ -8,12 +8,10 @@ use Rattle.number_exponential.specs.declared.Ends.{Ends}
 use Rattle.number_exponential.specs.declared.GridUnit.{GridUnit}
 use Rattle.set_refusal.specs.declared.Refusal.{Refusal}
 use Rattle.quote_along.specs.declared.Quote.{Quote}
-use Rattle.quote_along.specs.declared.Answer.{Answer}
-use Rattle.quote_along.specs.declared.Answer.TheVariants.{Quoted, Refused}
+use Rattle.quote_along.specs.QuoteBy.{Answer}
 use Rattle.quote_compare.specs.declared.Values.{Values}
 use Rattle.quote_compare.specs.declared.Values.TheVariants.{Below, Above, Near}
 use Rattle.quote_compare.specs.declared.Pair.{Pair}
-use Rattle.quote_compare.specs.declared.Comparison.TheVariants.{Compared, NotCompared}
 use Rattle.quote_compare.specs.Compare.{excess, most_apart, values_of, finer, ends_in, pair_of, comparison_of}
 
 -- ---- two pairs of ends
@@ -47,11 +45,11 @@ apart-first a b h = omega (arith, max-eq_left h)
 -- ---- two answers
 
 -- the three cases
-pub first-refused : {a : Answer} (b : Answer) {r : Refusal} → a ≡ Refused r → comparison_of a b ≡ NotCompared r
+pub first-refused : {a : Answer} (b : Answer) {r : Refusal} → a ≡ Err r → comparison_of a b ≡ Err r
 unfolding comparison_of
 first-refused b e = rw e
 
-pub second-refused : {a b : Answer} {q : Quote} {r : Refusal} → a ≡ Quoted q → b ≡ Refused r → comparison_of a b ≡ NotCompared r
+pub second-refused : {a b : Answer} {q : Quote} {r : Refusal} → a ≡ Ok q → b ≡ Err r → comparison_of a b ≡ Err r
 unfolding comparison_of
 second-refused e f = rw (e, f)
 
@@ -60,8 +58,8 @@ pub pair_is : (q q' : Quote) {u : GridUnit} {e e' : Ends} {v : Values} → u ≡
 unfolding pair_of
 pair_is q q' h f f' g = rw (g, f, f', h)
 
-pub both-quoted : {a b : Answer} {q q' : Quote} {x : Pair} → a ≡ Quoted q → b ≡ Quoted q' → x ≡ pair_of q q'
-    → comparison_of a b ≡ Compared x
+pub both-quoted : {a b : Answer} {q q' : Quote} {x : Pair} → a ≡ Ok q → b ≡ Ok q' → x ≡ pair_of q q'
+    → comparison_of a b ≡ Ok x
 unfolding comparison_of
 both-quoted e f g = rw (e, f, g)
 
@@ -69,13 +67,13 @@ both-quoted e f g = rw (e, f, g)
 pub record Both (a b : Answer) (x : Pair) : Type 0 where
   pub first : Quote
   pub second : Quote
-  pub first-is : a ≡ Quoted first
-  pub second_is : b ≡ Quoted second
+  pub first-is : a ≡ Ok first
+  pub second_is : b ≡ Ok second
   pub pair : x ≡ pair_of first second
 
-pub compared-both : (a b : Answer) {x : Pair} → comparison_of a b ≡ Compared x → Both a b x
+pub compared-both : (a b : Answer) {x : Pair} → comparison_of a b ≡ Ok x → Both a b x
 unfolding comparison_of
-compared-both (Refused r) b e = clash cc
-compared-both (Quoted q) (Refused r) e = clash cc
-compared-both (Quoted q) (Quoted q') e =
+compared-both (Err r) b e = clash cc
+compared-both (Ok q) (Err r) e = clash cc
+compared-both (Ok q) (Ok q') e =
     record { first = q; second = q'; first-is = refl; second_is = refl; pair = cc }

@@ -1,5 +1,5 @@
 -- No end of a quote is above 172, in whichever unit it is reported, and so none in another unit.
-use Rattle.std.specs.Prelude.{◌≡◌, Bool, true, false, cond, ℕ, zero, suc, ◌+◌, ◌*◌, ◌≤◌, eqb, ℤ, nat_abs, length}
+use Rattle.std.specs.Prelude.{◌≡◌, Bool, true, false, cond, ℕ, zero, suc, ◌+◌, ◌*◌, ◌≤◌, eqb, ℤ, nat_abs, length, Ok, Err}
 use Rattle.std.proofs.Math.Path.{refl}
 use mathlib.Core.List.{List, [], ◌∷◌, ◌++◌}
 use Rattle.std.proofs.Common.{mul-le-mul_right, arith, lit≤, length-append}
@@ -21,8 +21,7 @@ use Rattle.quote_paths.proofs.laws.Width.{value-small}
 use Rattle.quote_kinds.specs.declared.Kind.{Kind}
 use Rattle.quote_kinds.specs.Kinds.{rule_of, count_of, span_of, part_of}
 use Rattle.quote_along.specs.declared.Quote.{Quote}
-use Rattle.quote_along.specs.declared.Answer.{Answer}
-use Rattle.quote_along.specs.declared.Answer.TheVariants.{Quoted, Refused}
+use Rattle.quote_along.specs.QuoteBy.{Answer}
 use Rattle.quote.specs.Quote.{query_path, query_ends, refusal_of, quote_of, answer_of}
 use Rattle.quote.specs.Demand.{step}
 use Rattle.quote.proofs.laws.AnswerLaws.{AnswerBy, quoted, refused, answer-by}
@@ -102,8 +101,8 @@ quote-small p k age year term e =
 -- ---- every answer
 
 -- what holds of small quotes and of refusals holds of it
-pub of-answer : (P : Answer → Type 0) (p : Params) (k : Kind) (age year term : ℤ) → ((q : Quote) → Small (step k) q → P (Quoted q))
-    → ((r : Refusal) → P (Refused r)) → P (answer_of p k age year term)
+pub of-answer : (P : Answer → Type 0) (p : Params) (k : Kind) (age year term : ℤ) → ((q : Quote) → Small (step k) q → P (Ok q))
+    → ((r : Refusal) → P (Err r)) → P (answer_of p k age year term)
 unfolding answer_of
 of-answer P p k age year term f g = go (answer-by (refusal_of p k age year term) (quote_of p k age year term))
   where

@@ -1,5 +1,5 @@
 -- What a comparison tells of any two queries, whichever their sets, kinds, ages, years and terms.
-use Rattle.std.specs.Prelude.{◌≡◌, ℕ, ℤ}
+use Rattle.std.specs.Prelude.{◌≡◌, ℕ, ℤ, Ok}
 use Rattle.std.proofs.Common.{sym, ap, subst, ◌∙◌}
 use Rattle.number_exponential.specs.Units.{billionths, grid_of}
 use Rattle.number_exponential.specs.declared.Ends.{Ends}
@@ -10,15 +10,13 @@ use Rattle.number_exact.specs.Value.{Exact, OneStep}
 use Rattle.quote_kinds.specs.declared.Kind.{Kind}
 use Rattle.quote_kinds.specs.Kinds.{OneKind}
 use Rattle.quote_along.specs.declared.Quote.{Quote}
-use Rattle.quote_along.specs.declared.Answer.{Answer}
-use Rattle.quote_along.specs.declared.Answer.TheVariants.{Quoted}
+use Rattle.quote_along.specs.QuoteBy.{Answer}
 use Rattle.quote.specs.Quote.{query_ends, exact_query, answer_of}
 use Rattle.quote.specs.Demand.{shown_of, number_of, unit_of, lower_of, upper_of, figure_shown, step, query_width, KeptBy}
 use Rattle.quote.proofs.laws.Theorem.{same-figure, demand-met}
 use Rattle.quote_compare.specs.declared.Excess.{Excess}
 use Rattle.quote_compare.specs.declared.Values.TheVariants.{Below, Above}
 use Rattle.quote_compare.specs.declared.Pair.{Pair}
-use Rattle.quote_compare.specs.declared.Comparison.TheVariants.{Compared}
 use Rattle.quote_compare.specs.Compare.{finer, ends_in, pair_of, comparison_of, Held, Means, Less}
 use Rattle.quote_compare.proofs.laws.UnitLaws.{NoCoarser, finer-first, finer-second, held_in}
 use Rattle.quote_compare.proofs.laws.CompareLaws.{Both, compared-both}
@@ -30,13 +28,13 @@ Kept p kind age year term a =
     KeptBy (query_ends p kind age year term) (exact_query p kind age year term) (step kind) (query_width kind age year term) a
 
 -- an accepted answer is
-kept : (p : Params) (kind : Kind) (age year term : ℤ) {q : Quote} → answer_of p kind age year term ≡ Quoted q
-    → Kept p kind age year term (Quoted q)
+kept : (p : Params) (kind : Kind) (age year term : ℤ) {q : Quote} → answer_of p kind age year term ≡ Ok q
+    → Kept p kind age year term (Ok q)
 unfolding number_of
 kept p kind age year term e = subst (Kept p kind age year term) e ((demand-met p kind age year term).alone.kept (ap number_of e))
 
 -- and so its ends hold its exact value, in any unit no coarser than their own
-held : {e : GridUnit → Ends} {x : Exact} {s w : ℕ} {q : Quote} {u : GridUnit} → NoCoarser u q.unit → KeptBy e x s w (Quoted q)
+held : {e : GridUnit → Ends} {x : Exact} {s w : ℕ} {q : Quote} {u : GridUnit} → NoCoarser u q.unit → KeptBy e x s w (Ok q)
     → Held (grid_of u) (ends_in u q) x
 unfolding unit_of lower_of upper_of
 held {q = q} {u} f k = held_in u q f (record { at_least = k.at_least; at_most = k.at_most })
@@ -55,14 +53,14 @@ module _ (p : Params) (kind : Kind) (age year term : ℤ) (p' : Params) (kind' :
   abbrev pub value' : Exact
   value' = exact_query p' kind' age' year' term'
 
-  module _ {x : Pair} (e : comparison_of answer answer' ≡ Compared x) where
+  module _ {x : Pair} (e : comparison_of answer answer' ≡ Ok x) where
     b : Both answer answer' x
     b = compared-both answer answer' e
 
-    first-kept : Kept p kind age year term (Quoted b.first)
+    first-kept : Kept p kind age year term (Ok b.first)
     first-kept = kept p kind age year term b.first-is
 
-    second-kept : Kept p' kind' age' year' term' (Quoted b.second)
+    second-kept : Kept p' kind' age' year' term' (Ok b.second)
     second-kept = kept p' kind' age' year' term' b.second_is
 
     -- below, above and near are true of the exact values, with their numbers in the pair's unit
@@ -86,7 +84,7 @@ module _ (p : Params) (kind : Kind) (age year term : ℤ) (p' : Params) (kind' :
 
 -- of one kind, figures that are printed and different have exact values that do not round to one step
 pub figures-differ : (kind kind' : Kind) → OneKind kind kind' → (p p' : Params) (age year term age' year' term' : ℤ) {x : Pair}
-    {n n' : ℕ} → comparison_of (answer_of p kind age year term) (answer_of p' kind' age' year' term') ≡ Compared x
+    {n n' : ℕ} → comparison_of (answer_of p kind age year term) (answer_of p' kind' age' year' term') ≡ Ok x
     → x.first ≡ Printed n → x.second ≡ Printed n' → (n ≡ n' → ⊥)
     → OneStep billionths (step kind) (exact_query p kind age year term) (exact_query p' kind' age' year' term')
     → ⊥

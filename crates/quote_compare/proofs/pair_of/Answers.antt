@@ -1,5 +1,4 @@
 -- `pair_of` meets its contract: the values of the ends in the finer unit.
-use borrow.Author.Rules.{rules}
 use Rattle.quote_compare.proofs.laws.CompareLaws.{pair_is}
 use Rattle.quote_compare.proofs.pair_of.Goals as goal
 

@@ -1,9 +1,8 @@
 -- A quote whose ends are no greater than those of any query, so that they fit in the finer unit: what the code asks for.
-use Rattle.std.specs.Prelude.{◌*◌, ◌≤◌}
+use Rattle.std.specs.Prelude.{◌*◌, ◌≤◌, Ok, Err}
 use Rattle.number_exponential.specs.Units.{grid_of}
 use Rattle.quote_along.specs.declared.Quote.{Quote}
-use Rattle.quote_along.specs.declared.Answer.{Answer}
-use Rattle.quote_along.specs.declared.Answer.TheVariants.{Quoted, Refused}
+use Rattle.quote_along.specs.QuoteBy.{Answer}
 
 -- its ends are at most 172
 pub record SmallQuote (q : Quote) : Type 0 where
@@ -12,5 +11,5 @@ pub record SmallQuote (q : Quote) : Type 0 where
 
 -- an answer of which this holds, where it is a quote
 unfoldable pub SmallAnswer : Answer → Type 0
-SmallAnswer (Quoted q) = SmallQuote q
-SmallAnswer (Refused r) = Unit
+SmallAnswer (Ok q) = SmallQuote q
+SmallAnswer (Err r) = Unit

@@ -1,14 +1,12 @@
 -- Comparisons of some ends and refusals, by computing the definition.
-use Rattle.std.specs.Prelude.{◌≡◌, refl, ℕ}
+use Rattle.std.specs.Prelude.{◌≡◌, refl, ℕ, Ok, Err}
 use Rattle.number_exponential.specs.declared.GridUnit.TheVariants.{Coarse, Fine}
 use Rattle.number_exponential.specs.Units.{grid_of}
 use Rattle.set_refusal.specs.declared.Refusal.TheVariants.{NoSuchAge, LogForceOutOfRange}
 use Rattle.number_exact.specs.declared.Figure.TheVariants.{Printed, Open}
-use Rattle.quote_along.specs.declared.Answer.{Answer}
-use Rattle.quote_along.specs.declared.Answer.TheVariants.{Quoted, Refused}
+use Rattle.quote_along.specs.QuoteBy.{Answer}
 use Rattle.quote_compare.specs.declared.Values.{Values}
 use Rattle.quote_compare.specs.declared.Values.TheVariants.{Below, Above, Near}
-use Rattle.quote_compare.specs.declared.Comparison.TheVariants.{Compared, NotCompared}
 use Rattle.quote_compare.specs.Compare.{excess, most_apart, values_of, finer, ends_in, pair_of, comparison_of}
 
 -- the ends l and u, and the ends l' and u', have the values r
@@ -29,21 +27,21 @@ rows = (refl, refl, refl, refl, refl, refl, refl, refl)
 
 -- two quotes in units of 10^-9, and one in units of 10^-13
 abbrev quoted : Answer
-quoted = Quoted (record { unit = Coarse; lower = 10; upper = 20; figure = Printed 3 })
+quoted = Ok (record { unit = Coarse; lower = 10; upper = 20; figure = Printed 3 })
 
 abbrev higher : Answer
-higher = Quoted (record { unit = Coarse; lower = 21; upper = 30; figure = Open })
+higher = Ok (record { unit = Coarse; lower = 21; upper = 30; figure = Open })
 
 abbrev closer : Answer
-closer = Quoted (record { unit = Fine; lower = 200001; upper = 200007; figure = Printed 3 })
+closer = Ok (record { unit = Fine; lower = 200001; upper = 200007; figure = Printed 3 })
 
 -- both quoted; the second in the finer unit, which the first is taken to; the first refused, and both; the second refused
 pub answers : (comparison_of quoted higher
-    ≡ Compared (record { first = Printed 3; second = Open; values = Below (record { least = 1; most = 20 }); unit = Coarse }))
+    ≡ Ok (record { first = Printed 3; second = Open; values = Below (record { least = 1; most = 20 }); unit = Coarse }))
     × (comparison_of quoted closer
-    ≡ Compared (record { first = Printed 3; second = Printed 3; values = Below (record { least = 1; most = 100007 }); unit = Fine }))
-    × (comparison_of (Refused LogForceOutOfRange) quoted ≡ NotCompared LogForceOutOfRange)
-    × (comparison_of (Refused LogForceOutOfRange) (Refused NoSuchAge) ≡ NotCompared LogForceOutOfRange)
-    × (comparison_of quoted (Refused NoSuchAge) ≡ NotCompared NoSuchAge)
+    ≡ Ok (record { first = Printed 3; second = Printed 3; values = Below (record { least = 1; most = 100007 }); unit = Fine }))
+    × (comparison_of (Err LogForceOutOfRange) quoted ≡ Err LogForceOutOfRange)
+    × (comparison_of (Err LogForceOutOfRange) (Err NoSuchAge) ≡ Err LogForceOutOfRange)
+    × (comparison_of quoted (Err NoSuchAge) ≡ Err NoSuchAge)
 unfolding grid_of excess most_apart values_of finer ends_in pair_of comparison_of
 answers = (refl, refl, refl, refl, refl)

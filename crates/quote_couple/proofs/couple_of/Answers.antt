@@ -1,7 +1,5 @@
 -- `couple_of` meets its contract: a set out of its limits is refused, any other is quoted, and every answer meets demand 3.
-use mathlib.Core.Path.{ap}
 use mathlib.Core.Path.{sym, ◌∙◌}
-use borrow.Author.Rules.{rules}
 use lib.Dec.{T}
 use mir.Facts.{to_z-of_z}
 use Rattle.set_limits.specs.InLimits.{in_limits}

@@ -1,7 +1,7 @@
 -- What a couple's query has that no test refuses: each life's query is one that no test refuses, and the starts are the same. And
 -- the table's tests of a couple by those of each life.
-use Rattle.std.specs.Prelude.{◌≡◌, refl, Bool, true, false, cond, ◌&&◌, List, ◌++◌, ℕ, ◌≤◌, T, leb, ℤ, pos, negsuc, nat_abs}
-use Rattle.std.proofs.Common.{ap, sym, append-nil, le_antisymm, le_refl, le-leb, leb→le}
+use Rattle.std.specs.Prelude.{◌≡◌, refl, Bool, true, false, cond, ◌&&◌, T, leb, ℤ, pos, negsuc, nat_abs}
+use Rattle.std.proofs.Common.{ap, append-nil, le_antisymm, le_refl, le-leb, leb→le}
 use Rattle.std.specs.Int.Signed.{le_z}
 use Rattle.std.proofs.Math.Facts.{and_yes}
 use Rattle.std.specs.Float.Ieee.Bits.{is_true}
@@ -13,14 +13,14 @@ use Rattle.set_params.specs.Set.{year_number}
 use Rattle.set_refusal.specs.declared.Refusal.TheVariants.{Accepted, NoSuchAge, NoSuchYear, NoSuchSpan}
 use Rattle.set_refusal.specs.Refusals.{refusal_number, lower_refusal}
 use Rattle.set_limits.specs.InLimits.{in_limits}
-use Rattle.quote_paths.specs.Path.{Place, path_of, part_year, path_in_range}
+use Rattle.quote_paths.specs.Path.{path_of, part_year, path_in_range}
 use Rattle.quote_kinds.specs.declared.Rule.{Rule}
 use Rattle.quote_kinds.specs.Kinds.{rule_of, rate_of, count_of, span_of, part_of}
 use Rattle.quote_couple_kinds.specs.declared.CoupleKind.{CoupleKind}
 use Rattle.quote_couple_kinds.specs.declared.CoupleKind.TheVariants.{JointLife, LastSurvivor, JointExpectancy, LastExpectancy}
 use Rattle.quote_couple_kinds.specs.CoupleKinds.{single_of}
 use Rattle.quote_table_tests.specs.TableTests.{age_in_table, year_in_table, date_in_table, span_in_table, rate_in_table, first_failed, table_tests}
-use Rattle.quote_table_tests.proofs.laws.TableLaws.{passed, InTable}
+use Rattle.quote_table_tests.proofs.laws.TableLaws.{passed}
 use Rattle.quote.specs.Quote.{query_path}
 use Rattle.quote.proofs.laws.Tests as life
 use Rattle.quote_couple.specs.Couple.{life_path, same_start, couple_table, couple_refusal}

@@ -1,5 +1,5 @@
 -- No end of a couple's quote is above 172 in its unit, and its figure is that of its ends.
-use Rattle.std.specs.Prelude.{◌≡◌, refl, true, ◌*◌, ◌≤◌, ℤ, nat_abs, length}
+use Rattle.std.specs.Prelude.{◌≡◌, refl, true, ◌*◌, ◌≤◌, ℤ, nat_abs, length, Ok}
 use Rattle.number_whole.proofs.laws.Clash.{clash}
 use Rattle.number_exponential.specs.declared.Ends.{Ends}
 use Rattle.number_exponential.specs.declared.GridUnit.{GridUnit}
@@ -17,9 +17,7 @@ use Rattle.quote_paths.proofs.laws.Width.{factors-chances}
 use Rattle.quote_couple_kinds.specs.declared.CoupleKind.{CoupleKind}
 use Rattle.quote_two_lives.proofs.laws.Sizes.{couple-at-most}
 use Rattle.quote_along.specs.declared.Quote.{Quote}
-use Rattle.quote_along.specs.declared.Answer.{Answer}
-use Rattle.quote_along.specs.declared.Answer.TheVariants.{Quoted}
-use Rattle.quote_along.specs.QuoteBy.{quote_by}
+use Rattle.quote_along.specs.QuoteBy.{Answer, quote_by}
 use Rattle.quote.proofs.laws.AnswerLaws.{AnswerBy, quoted, refused, answer-by}
 use Rattle.quote.proofs.laws.Promises.{WorkedIn, worked-in, quote-worked}
 use Rattle.quote_couple.specs.Couple.{life_path, couple_ends, couple_refusal, couple_step, couple_answer}
@@ -51,7 +49,7 @@ quote-small : {k : CoupleKind} {e : GridUnit → Ends} → ((u : GridUnit) → A
 quote-small h (worked-in u w) = record { lower = (h u).lower; upper = (h u).upper; figure = refl }
 
 pub couple-small : (p p' : Params) (k : CoupleKind) (age other year span : ℤ) {q : Quote}
-    → couple_answer p p' k age other year span ≡ Quoted q → SmallQuote k q
+    → couple_answer p p' k age other year span ≡ Ok q → SmallQuote k q
 unfolding couple_answer
 couple-small p p' k age other year span {q} e = go (answer-by r _) e
   where
@@ -61,6 +59,6 @@ couple-small p p' k age other year span {q} e = go (answer-by r _) e
     small : couple_refusal p p' k age other year span ≡ Accepted → SmallQuote k (quote_by (couple_step k) (couple_ends p p' k age other year span))
     small a = quote-small (ends-small p p' k age other year span a) (quote-worked _ _)
 
-    go : {a : Answer} → AnswerBy r (quote_by (couple_step k) (couple_ends p p' k age other year span)) a → a ≡ Quoted q → SmallQuote k q
+    go : {a : Answer} → AnswerBy r (quote_by (couple_step k) (couple_ends p p' k age other year span)) a → a ≡ Ok q → SmallQuote k q
     go (quoted a) f = let g : quote_by (couple_step k) (couple_ends p p' k age other year span) ≡ q = cc in rw (← g) (small a)
     go (refused n) f = clash cc

@@ -1,6 +1,6 @@
 -- Of exact values, at every order: the chance that both live and the chance that at least one does add up to the two single
 -- survivals, end for end.
-use Rattle.std.specs.Prelude.{◌≡◌, List, [], ◌∷◌, ℕ, ◌+◌, ◌-◌, ◌*◌, ◌≤◌}
+use Rattle.std.specs.Prelude.{◌≡◌, List, [], ◌∷◌, ℕ, ◌+◌, ◌-◌, ◌*◌}
 use Rattle.std.proofs.Common.{ap, add-sub_of_le, arith}
 use Rattle.number_fraction.specs.Ratio.{Ratio, ◌≤/◌, whole/, ◌+/◌, ◌*/◌, complement}
 use Rattle.number_fraction.proofs.laws.RatioTerms.{◌≈/◌}

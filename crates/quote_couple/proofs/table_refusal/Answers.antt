@@ -1,5 +1,4 @@
 -- `table_refusal` meets its contract: the lower of the two lives' refusals.
-use borrow.Author.Rules.{rules}
 use mathlib.Core.Path.{ap₂, ◌∙◌}
 use mir.Facts.{to_z-of_z}
 use Rattle.set_refusal.specs.Refusals.{lower_refusal}

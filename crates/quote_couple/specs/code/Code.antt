@@ -10,8 +10,7 @@ use Rattle.quote_kinds.specs.declared.Rule.{Rule}
 use Rattle.quote_kinds.specs.Kinds.{rate_of}
 use Rattle.quote_couple_kinds.specs.declared.CoupleKind.{CoupleKind}
 use Rattle.quote_two_lives.specs.TwoLives.{couple_over}
-use Rattle.quote_along.specs.declared.Answer.{Answer}
-use Rattle.quote_along.specs.QuoteBy.{quote_on, quote_by}
+use Rattle.quote_along.specs.QuoteBy.{Answer, quote_on, quote_by}
 use Rattle.quote_along.specs.code.Code.{in_range_or}
 use Rattle.quote_couple.specs.Couple.{couple_step}
 

@@ -1,5 +1,5 @@
 -- What the code's contracts say beside the definitions: the factors of a path.
-use Rattle.std.specs.Prelude.{◌≡◌, Bool, cond, List, ◌++◌, ℕ, suc, ◌+◌, ◌-◌, ◌≤◌, ◌<◌, min, T, length, take, get_or, replicate}
+use Rattle.std.specs.Prelude.{◌≡◌, Bool, cond, List, ◌++◌, ℕ, suc, ◌+◌, ◌-◌, ◌≤◌, ◌<◌, min, length, take, get_or, replicate, Option, IfSome, is_some}
 use Rattle.number_fraction.specs.Ratio.{Ratio}
 use Rattle.number_exponential.specs.Grid.{Grid}
 use Rattle.number_exponential.specs.declared.Ends.{Ends}
@@ -13,7 +13,6 @@ use Rattle.quote_paths.specs.declared.Path.{Path}
 use Rattle.quote_paths.specs.declared.Part.{Part}
 use Rattle.quote_paths.specs.code.Code.{IsPart}
 use Rattle.quote_walks.specs.code.Code.{path_is}
-use Rattle.quote_factors.specs.declared.Factors.{Factors}
 
 -- of k cells from age x on those that are worked: along the cohort all, and in one year those to age 120
 abbrev pub worked_cells : Bool → ℕ → ℕ → ℕ
@@ -36,10 +35,10 @@ pub record Repeated (es : List Ends) (done count : ℕ) (r : List Ends) : Type 0
   pub size : length r ≡ most_factors
 
 -- the factors of the path where every needed cell is in range, and whether they are
-pub record FactorsOf (g : Grid) (p : Params) (w : Path) (r : Factors) : Type 0 where
-  pub ok : r.ok ≡ path_in_range g p (path_is w)
-  pub ends : T r.ok → take w.count r.ends ≡ factors g p (path_is w)
-  pub size : T r.ok → length r.ends ≡ most_factors
+pub record FactorsOf (g : Grid) (p : Params) (w : Path) (r : Option (List Ends)) : Type 0 where
+  pub ok : is_some r ≡ path_in_range g p (path_is w)
+  pub ends : IfSome r (λ es. take w.count es ≡ factors g p (path_is w))
+  pub size : IfSome r (λ es. length es ≡ most_factors)
 
 -- the path, and a part of a year after it
 abbrev pub all_places : Path → Ratio → List Place
@@ -53,9 +52,9 @@ pub record PartWithin (w : Path) (r : Part) : Type 0 where
   pub room : (r.days ≡ 0 → ⊥) → w.count < most_factors
 
 -- the factors of the path and the part
-pub record FactorsWith (g : Grid) (p : Params) (w : Path) (part : Ratio) (r : Factors) : Type 0 where
-  pub ok : r.ok ≡ path_in_range g p (all_places w part)
-  pub ends : T r.ok → take (length (all_places w part)) r.ends ≡ factors g p (all_places w part)
+pub record FactorsWith (g : Grid) (p : Params) (w : Path) (part : Ratio) (r : Option (List Ends)) : Type 0 where
+  pub ok : is_some r ≡ path_in_range g p (all_places w part)
+  pub ends : IfSome r (λ es. take (length (all_places w part)) es ≡ factors g p (all_places w part))
 
-abbrev pub AllFactorsOf : Grid → Params → Path → Part → Factors → Type 0
+abbrev pub AllFactorsOf : Grid → Params → Path → Part → Option (List Ends) → Type 0
 AllFactorsOf g p w r f = (part : Ratio) → IsPart r part → FactorsWith g p w part f

@@ -1,7 +1,6 @@
 -- `part_of` meets its contract: of a date its days since 1 January and those of its year, and of a span none.
 use mathlib.Core.Path.{◌≡◌, refl, ap, ◌∙◌}
 use mathlib.Core.Bool.{true}
-use borrow.Author.Rules.{rules}
 use borrow.Author.Tests.{not-true, not-false}
 use lib.Dec.{T}
 use mir.Facts.{to_z-of_z}

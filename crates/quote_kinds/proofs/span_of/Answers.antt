@@ -1,14 +1,13 @@
 -- `span_of` meets its contract: a span is itself, and of a date its year less the query's.
-use mathlib.Core.Path.{◌≡◌, refl, ◌∙◌}
+use mathlib.Core.Path.{◌≡◌}
 use mathlib.Core.Bool.{true}
-use native.Mathlib.Omega.{arith}
 use borrow.Author.Tests.{not-true, not-false}
 use lib.Dec.{T}
-use lib.IntN.{ℤ, pos, nat_abs, ◌-ℤ◌}
+use lib.IntN.{pos, nat_abs, ◌-ℤ◌}
 use mir.Syntax.{w64}
 use mir.Val.{SFits}
 use mir.Facts.{to_z-of_z}
-use Rattle.number_whole.proofs.laws.Bound.{bits, under-pos, under-sub, fits}
+use Rattle.number_whole.proofs.laws.Bound.{under-pos, under-sub, fits}
 use Rattle.quote_calendar.specs.Calendar.{is_day, date_year}
 use Rattle.quote_calendar.specs.laws.Days.{day-year}
 use Rattle.quote_kinds.specs.Kinds.{span_of}

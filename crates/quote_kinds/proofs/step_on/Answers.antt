@@ -1,13 +1,10 @@
 -- `step_on` meets its contract, grid by grid.
-use borrow.Author.Rules.{rules}
 use mathlib.Core.Path.{sym, ap, ◌∙◌}
 use Prim.Native.Nat.{ℕ, ◌*◌, ◌≤◌}
 use native.Mathlib.Nat.{mul-one}
 use native.Mathlib.Omega.{arith}
 use lib.Dec.{lit≤}
-use Rattle.number_exponential.specs.Grid.{Grid}
 use Rattle.number_exponential.specs.Units.{grid_of}
-use Rattle.number_exponential.specs.code.Flag.{unit_by, grid_by}
 use Rattle.quote_paths.specs.declared.Fold.{Fold}
 use Rattle.quote_paths.specs.declared.Fold.TheVariants.{Death, Survival, Expectancy, Annuity}
 use Rattle.quote_kinds.specs.Kinds.{step_of}
@@ -23,14 +20,14 @@ step_small (Annuity rate) = lit≤ tt
 pub overflow_mul-result : goal.overflow_mul-result
 overflow_mul-result c = omega (arith, c.step_of-step.ensures, step_small c.args.fold)
 
-pub returns-then-fine : goal.returns-then-fine
-unfolding grid_of unit_by
-returns-then-fine c =
+pub returns-in-Fine : goal.returns-in-Fine
+unfolding grid_of
+returns-in-Fine c =
     let s = c in
-    ap (λ (n : ℕ). n * 10000) c.step_of-step.ensures ∙ sym (ap (λ b. step_of s.args.fold * (grid_by b).scale) c.if-fine.true)
+    ap (λ (n : ℕ). n * 10000) c.step_of-step.ensures ∙ sym (ap (λ b. step_of s.args.fold * (grid_of b).scale) c.in-Fine.is)
 
-pub returns : goal.returns
-unfolding grid_of unit_by
-returns c =
+pub returns-in-Coarse : goal.returns-in-Coarse
+unfolding grid_of
+returns-in-Coarse c =
     let s = c in
-    c.step_of-step.ensures ∙ sym (mul-one (step_of s.args.fold)) ∙ sym (ap (λ b. step_of s.args.fold * (grid_by b).scale) c.if-fine.false)
+    c.step_of-step.ensures ∙ sym (mul-one (step_of s.args.fold)) ∙ sym (ap (λ b. step_of s.args.fold * (grid_of b).scale) c.in-Coarse.is)

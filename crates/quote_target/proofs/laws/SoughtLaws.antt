@@ -1,5 +1,5 @@
 -- What the years tell one year further back, and the answer by the tests.
-use Rattle.std.specs.Prelude.{◌≡◌, refl, true, false, cond, ◌&&◌, T, ℤ, pos, ◌+ℤ◌}
+use Rattle.std.specs.Prelude.{◌≡◌, true, false, ◌&&◌, T, ℤ, pos, ◌+ℤ◌, Ok, Err}
 use Rattle.std.proofs.Math.Bool.{and-false}
 use Prim.Native.Nat.{ℕ, zero, suc, ◌+◌, ◌-◌, ◌≤◌, ◌<◌}
 use Rattle.std.proofs.Math.Decide.{dec_lt}
@@ -11,7 +11,6 @@ use Rattle.set_refusal.specs.declared.Refusal.TheVariants.{OutOfLimits, NoSuchAg
 use Rattle.set_refusal.specs.Refusals.{refusal_number}
 use Rattle.set_limits.specs.InLimits.{in_limits}
 use Rattle.quote_table_tests.specs.TableTests.{age_in_table, first_failed}
-use Rattle.quote_target.specs.declared.TargetYear.TheVariants.{Refused}
 use Rattle.quote_target.specs.Target.{
   period_ends,
   period_in_range,
@@ -55,21 +54,21 @@ module _ (p : Params) (age : ℤ) where
 
   -- ---- the answer
 
-  pub out-of-limits : (target : ℤ) → in_limits p ≡ false → Refused OutOfLimits ≡ target_answer p age target
+  pub out-of-limits : (target : ℤ) → in_limits p ≡ false → Err OutOfLimits ≡ target_answer p age target
   unfolding target_answer target_refusal first_failed refusal_number
   out-of-limits target e = rw e
 
   module _ (target : ℤ) (t : T (in_limits p)) where
-    pub no-such-age : age_in_table age ≡ false → Refused NoSuchAge ≡ target_answer p age target
+    pub no-such-age : age_in_table age ≡ false → Err NoSuchAge ≡ target_answer p age target
     unfolding target_answer target_refusal first_failed refusal_number
     no-such-age e = rw (is_true (in_limits p) t, e)
 
     pub out_of_range : T (age_in_table age) → in_range_from p age first_years years_sought ≡ false
-        → Refused LogForceOutOfRange ≡ target_answer p age target
+        → Err LogForceOutOfRange ≡ target_answer p age target
     unfolding target_answer target_refusal first_failed refusal_number
     out_of_range a e = rw (is_true (in_limits p) t, is_true (age_in_table age) a, e)
 
     pub all-in-range : T (age_in_table age) → in_range_from p age first_years years_sought ≡ true
-        → sought_from p age target first_years years_sought ≡ target_answer p age target
+        → Ok (sought_from p age target first_years years_sought) ≡ target_answer p age target
     unfolding target_answer target_refusal first_failed refusal_number
     all-in-range a e = rw (is_true (in_limits p) t, is_true (age_in_table age) a, e)

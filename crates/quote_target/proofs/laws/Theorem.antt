@@ -1,5 +1,5 @@
 -- Every answer says of the exact values what it is to mean.
-use Rattle.std.specs.Prelude.{◌≡◌, Bool, true, false, cond, T, eqb, ℤ, pos, negsuc, ◌+ℤ◌}
+use Rattle.std.specs.Prelude.{◌≡◌, Bool, true, false, cond, T, eqb, ℤ, pos, negsuc, ◌+ℤ◌, Ok, Err}
 use Rattle.std.proofs.Math.Path.{refl}
 use Rattle.std.proofs.Common.{sym, arith, leb-true, leb-false, ne_eqb}
 use Prim.Native.Nat.{ℕ, zero, suc, ◌+◌, ◌≤◌, ◌<◌}
@@ -30,7 +30,6 @@ use Rattle.quote_table_tests.proofs.laws.TableLaws.{passed}
 use Rattle.quote.specs.Quote.{query_ends, exact_query}
 use Rattle.quote.proofs.laws.Tests.{query-answered}
 use Rattle.quote_target.specs.declared.TargetYear.TheVariants.{Reached, Open, Never}
-use Rattle.quote_target.specs.declared.TargetYear.TheVariants as told
 use Rattle.quote_target.specs.Target.{period_ends, period_in_range, reaches, year_tells, sought_from, in_range_from, years_sought, target_refusal, target_answer}
 use Rattle.quote_target.specs.Target.{exact_period, AtLeastTarget, Honest}
 use Rattle.quote_target.proofs.laws.PeriodLaws.{in_table}
@@ -178,11 +177,11 @@ all_held p age e =
     λ m f g. year-held p age m l.0 a.0 f (omega arith) (range-each p age first_years years_sought m (is_true _ r.0) f g)
 
 accepted-honest : (p : Params) (age target : ℤ) → HeldFrom p age first_years years_sought
-    → Honest p age target (sought_from p age target first_years years_sought)
+    → Honest p age target (Ok (sought_from p age target first_years years_sought))
 accepted-honest p age target held =
     record {
       named = λ year q.
-          let r = sought-named p age target first_years years_sought held year q in
+          let r = sought-named p age target first_years years_sought held year cc in
           record {
             number = r.number;
             is = r.is;
@@ -191,10 +190,10 @@ accepted-honest p age target held =
             reached = r.reached;
             none_before = r.none_before;
           };
-      none = λ q m f g. sought-never p age target first_years years_sought held q m f (omega arith);
+      none = λ q m f g. sought-never p age target first_years years_sought held (let s : sought_from p age target first_years years_sought ≡ Never = cc in s) m f (omega arith);
     }
 
-refused-honest : (p : Params) (age target : ℤ) (r : Refusal) → Honest p age target (told.Refused r)
+refused-honest : (p : Params) (age target : ℤ) (r : Refusal) → Honest p age target (Err r)
 refused-honest p age target r = record { named = λ year q. clash cc; none = λ q. clash cc }
 
 pub honest : (p : Params) (age target : ℤ) → Honest p age target (target_answer p age target)
@@ -202,6 +201,6 @@ unfolding target_answer
 honest p age target = go (refusal_number (target_refusal p age)) refl
   where
     go : (n : ℕ) → refusal_number (target_refusal p age) ≡ n
-        → Honest p age target (cond (eqb n 0) (sought_from p age target first_years years_sought) (told.Refused (target_refusal p age)))
+        → Honest p age target (cond (eqb n 0) (Ok (sought_from p age target first_years years_sought)) (Err (target_refusal p age)))
     go zero e = accepted-honest p age target (all_held p age (accepted (target_refusal p age) e))
     go (suc n) e = rw (ne_eqb (suc n) 0 (λ z. omega arith)) (refused-honest p age target (target_refusal p age))

@@ -1,19 +1,16 @@
 -- `target_of` meets its contract: a set out of its limits is refused, any other is answered.
-use mathlib.Core.Path.{ap}
-use borrow.Author.Rules.{rules}
 use mathlib.Core.Path.{◌≡◌, sym, ◌∙◌}
 use lib.IntN.{ℤ}
 use mir.Facts.{to_z-of_z}
 use Rattle.set_params.specs.declared.Params.{Params}
-use Rattle.quote_target.specs.declared.TargetYear.{TargetYear}
-use Rattle.quote_target.specs.Target.{target_answer}
+use Rattle.quote_target.specs.Target.{TargetAnswer, target_answer}
 use Rattle.quote_target.specs.Target.{Honest}
 use Rattle.quote_target.proofs.laws.SoughtLaws.{out-of-limits}
 use Rattle.quote_target.proofs.laws.Theorem.{honest}
 use Rattle.quote_target.proofs.target_of.Goals as goal
 
 -- an answer that is the definition's is honest
-met : {p : Params} {age target : ℤ} {r : TargetYear} → r ≡ target_answer p age target
+met : {p : Params} {age target : ℤ} {r : TargetAnswer} → r ≡ target_answer p age target
     → (r ≡ target_answer p age target) × Honest p age target r
 met {p} {age} {target} e = (e, rw e (honest p age target))
 

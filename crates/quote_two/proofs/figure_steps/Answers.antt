@@ -1,5 +1,4 @@
 -- `figure_steps` meets its contract, case by case.
-use borrow.Author.Rules.{rules}
 use mathlib.Core.Path.{sym, ap}
 use Rattle.number_exact.specs.declared.Figure.{Figure}
 use Rattle.quote.specs.Demand.{shown_of}

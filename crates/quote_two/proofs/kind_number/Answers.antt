@@ -1,5 +1,4 @@
 -- `kind_number` meets its contract, case by case.
-use borrow.Author.Rules.{rules}
 use mathlib.Core.Path.{sym, ap}
 use Rattle.quote_two.specs.code.Code.{kind_number}
 use Rattle.quote_two.proofs.kind_number.Goals as goal

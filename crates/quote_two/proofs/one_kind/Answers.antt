@@ -1,5 +1,4 @@
 -- `one_kind` meets its contract: the two kinds' numbers are compared.
-use borrow.Author.Rules.{rules}
 use mathlib.Core.Path.{ap, ◌∙◌}
 use Prim.Native.Nat.{ℕ}
 use lib.Dec.{eqb}

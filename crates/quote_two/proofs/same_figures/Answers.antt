@@ -1,5 +1,4 @@
 -- `same_figures` meets its contract: of one kind the figures are compared, and else the kinds are told to be others.
-use borrow.Author.Rules.{rules}
 use mathlib.Core.Path.{sym, ◌∙◌}
 use mir.Facts.{to_z-of_z}
 use Rattle.quote_two.specs.laws.ClaimLaws.{kinds-one, not-one-kind}

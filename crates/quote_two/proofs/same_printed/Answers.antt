@@ -1,9 +1,6 @@
 -- `same_printed` meets its contract, from what `quote_of` ensures of the two answers.
-use mathlib.Core.Path.{◌≡◌, sym, ◌∙◌}
-use borrow.Author.Rules.{rules}
+use mathlib.Core.Path.{sym, ◌∙◌}
 use mir.Facts.{to_z-of_z}
-use Rattle.quote.specs.Demand.{figure_shown}
-use Rattle.quote_two.specs.code.Code.{steps_shown}
 use Rattle.quote_two.specs.laws.ClaimLaws.{Promised, first-not-printed, second-not-printed, equal-printed, different-printed}
 use Rattle.quote_two.proofs.same_printed.Goals as goal
 use Rattle.quote_two.proofs.same_printed.Tie as tie
@@ -42,11 +39,11 @@ returns-in_default-second c =
 pub returns-then-n-m : goal.returns-then-n-m
 returns-then-n-m c =
     let t = c.before.before.before in
-    equal-printed (first t) (second t) c.requires (sym c.steps_of-first.ensures ∙ c.in-At.is)
-    (sym c.steps_of-second.ensures ∙ c.in-At-second.is) c.if-n-m.true
+    equal-printed (first t) (second t) c.requires (sym c.steps_of-first.ensures ∙ c.in-Some.is)
+    (sym c.steps_of-second.ensures ∙ c.in-Some-second.is) c.if-n-m.true
 
 pub returns : goal.returns
 returns c =
     let t = c.before.before.before in
-    different-printed (first t) (second t) c.requires (sym c.steps_of-first.ensures ∙ c.in-At.is)
-    (sym c.steps_of-second.ensures ∙ c.in-At-second.is) c.if-n-m.false
+    different-printed (first t) (second t) c.requires (sym c.steps_of-first.ensures ∙ c.in-Some.is)
+    (sym c.steps_of-second.ensures ∙ c.in-Some-second.is) c.if-n-m.false

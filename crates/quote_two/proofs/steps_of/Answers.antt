@@ -1,7 +1,6 @@
 -- `steps_of` meets its contract: a refusal has none, and a quote those of its figure.
-use borrow.Author.Rules.{rules}
 use mathlib.Core.Path.{sym, ap, ◌∙◌}
-use Rattle.quote_along.specs.declared.Answer.{Answer}
+use Rattle.quote_along.specs.QuoteBy.{Answer}
 use Rattle.quote.specs.Demand.{figure_shown}
 use Rattle.quote_two.specs.code.Code.{steps_shown}
 use Rattle.quote_two.proofs.steps_of.Goals as goal
@@ -14,4 +13,4 @@ pub returns : goal.returns
 unfolding figure_shown
 returns c =
     c.figure_steps.ensures
-    ∙ sym (ap (λ (a : Answer). steps_shown (figure_shown a)) c.in-Quoted.is)
+    ∙ sym (ap (λ (a : Answer). steps_shown (figure_shown a)) c.in-Ok.is)

@@ -1,10 +1,8 @@
 -- What the code's contracts say beside the claim: a kind's number, by which kinds are compared, and a printed figure's steps.
-use Rattle.std.specs.Prelude.{Bool, ℕ, eqb}
+use Rattle.std.specs.Prelude.{Bool, Option, None, Some, ℕ, eqb}
 use Rattle.quote_kinds.specs.declared.Kind.{Kind}
 use Rattle.quote_kinds.specs.declared.Kind.TheVariants as kind
 use Rattle.quote.specs.Demand.{Shown, printed, marked_open, no_figure}
-use Rattle.quote_two.specs.declared.Steps.{Steps}
-use Rattle.quote_two.specs.declared.Steps.TheVariants.{None, At}
 
 -- a number for each kind, whatever the rate, and kinds compared by it
 unfoldable pub kind_number : Kind → ℕ
@@ -21,7 +19,7 @@ unfoldable pub one_kind : Kind → Kind → Bool
 one_kind k k' = eqb (kind_number k) (kind_number k')
 
 -- the steps of a figure that is printed
-unfoldable pub steps_shown : Shown → Steps
-steps_shown (printed n) = At n
+unfoldable pub steps_shown : Shown → Option ℕ
+steps_shown (printed n) = Some n
 steps_shown marked_open = None
 steps_shown no_figure = None

@@ -1,5 +1,5 @@
 -- The four answers: two kinds that are not one and, of one kind, three from what `quote_of` ensures of two answers.
-use Rattle.std.specs.Prelude.{◌≡◌, refl, ◌↔◌, true, false, [], ◌∷◌, ℕ, ℤ, pos, get_or}
+use Rattle.std.specs.Prelude.{◌≡◌, refl, ◌↔◌, None, Some, true, false, [], ◌∷◌, ℕ, ℤ, pos, get_or}
 use Rattle.std.proofs.Common.{ap, sym, ◌∙◌, eqb-true}
 use Rattle.std.proofs.lemmas.Bool.{eqb-false}
 use Rattle.number_whole.proofs.laws.Clash.{clash}
@@ -7,11 +7,10 @@ use Rattle.set_params.specs.declared.Params.{Params}
 use Rattle.quote_kinds.specs.declared.Kind.{Kind}
 use Rattle.quote_kinds.specs.declared.Kind.TheVariants as kind
 use Rattle.quote_kinds.specs.Kinds.{with_rate, rate_aside, OneKind}
-use Rattle.quote_along.specs.declared.Answer.{Answer}
+use Rattle.quote_along.specs.QuoteBy.{Answer}
 use Rattle.quote.specs.Quote.{answer_of}
 use Rattle.quote.specs.Demand.{Shown, printed, marked_open, no_figure, figure_shown, Demand3}
 use Rattle.quote_two.specs.declared.Same.TheVariants.{OtherKind, NotPrinted, Equal, Different}
-use Rattle.quote_two.specs.declared.Steps.TheVariants.{None, At}
 use Rattle.quote_two.specs.Claim.{OneStepOf, Settled}
 use Rattle.quote_two.specs.code.Code.{kind_number, one_kind, steps_shown}
 
@@ -69,7 +68,7 @@ not-one-kind {kind = k} {kind' = k'} e =
 
 -- ---- the steps of a figure
 
-shown-at : (s : Shown) {n : ℕ} → steps_shown s ≡ At n → s ≡ printed n
+shown-at : (s : Shown) {n : ℕ} → steps_shown s ≡ Some n → s ≡ printed n
 unfolding steps_shown
 shown-at (printed m) e = cc
 shown-at marked_open e = clash cc
@@ -110,13 +109,13 @@ module _ {kind : Kind} {p : Params} {age year term : ℤ} {a : Answer} (h : Prom
       }
 
   -- both have: the first answer's promise, of the second query
-  same : {n n' : ℕ} → steps_shown (figure_shown a) ≡ At n → steps_shown (figure_shown a') ≡ At n'
+  same : {n n' : ℕ} → steps_shown (figure_shown a) ≡ Some n → steps_shown (figure_shown a') ≡ Some n'
       → (n ≡ n') ↔ OneStepOf p kind age year term p' kind' age' year' term'
   same {n} {n'} e e' =
       h.1.one-step n (shown-at (figure_shown a) e) p' kind' age' year' term' n' one
       (ap figure_shown (sym h'.0) ∙ shown-at (figure_shown a') e')
 
-  pub equal-printed : {n n' : ℕ} → steps_shown (figure_shown a) ≡ At n → steps_shown (figure_shown a') ≡ At n' → n ≡ n'
+  pub equal-printed : {n n' : ℕ} → steps_shown (figure_shown a) ≡ Some n → steps_shown (figure_shown a') ≡ Some n' → n ≡ n'
       → Settled p kind age year term p' kind' age' year' term' Equal
   equal-printed e e' s =
       record {
@@ -126,7 +125,7 @@ module _ {kind : Kind} {p : Params} {age year term : ℤ} {a : Answer} (h : Prom
         not-printed = λ q. clash cc;
       }
 
-  pub different-printed : {n n' : ℕ} → steps_shown (figure_shown a) ≡ At n → steps_shown (figure_shown a') ≡ At n' → (n ≡ n' → ⊥)
+  pub different-printed : {n n' : ℕ} → steps_shown (figure_shown a) ≡ Some n → steps_shown (figure_shown a') ≡ Some n' → (n ≡ n' → ⊥)
       → Settled p kind age year term p' kind' age' year' term' Different
   different-printed e e' d =
       record {

@@ -1,6 +1,6 @@
 -- The orders of the values of two lives narrow: with n factors of the one and n' of the other, each at most e wide, a status's
 -- chance is at most n + n' of them wide, and its expectancy at most n times as many.
-use Rattle.std.specs.Prelude.{◌≡◌, List, ℕ, suc, ◌+◌, ◌*◌, ◌≤◌, ◌<◌}
+use Rattle.std.specs.Prelude.{List, ℕ, suc, ◌+◌, ◌*◌, ◌≤◌, ◌<◌}
 use Rattle.std.proofs.Common.{arith}
 use Rattle.std.proofs.Math.ListN.{length}
 use Rattle.number_fraction.specs.Ratio.{Ratio, ◌≤/◌, whole/, quotient/, ◌+/◌, complement}

@@ -5,14 +5,17 @@ use mathlib.Core.Bool.{true, false}
 use Prim.Native.Nat.{ℕ, suc, ◌+◌, ◌≤◌}
 use native.Mathlib.Omega.{arith}
 use borrow.Author.Rules.{rules}
-use borrow.Author.Tests.{not-true, not-false}
 use lib.IntN.{ℤ, pos}
+use lib.ListN.{length, length-take, take}
+use lib.Seq.{take_all, length-take-le}
+use mathlib.Core.List.{List}
+use Rattle.std.specs.Prelude.{Option}
+use Rattle.number_exponential.specs.declared.Ends.{Ends}
 use mir.Syntax.{w64}
 use mir.Val.{SFits}
 use mir.Facts.{to_z-of_z}
 use Rattle.number_exponential.specs.declared.GridUnit.TheVariants.{Coarse}
 use Rattle.number_exponential.specs.Units.{grid_of, billionths}
-use Rattle.number_exponential.specs.code.Flag.{unit_by}
 use Rattle.number_whole.proofs.laws.Bound.{bits}
 use Rattle.number_whole.proofs.laws.Clash.{clash}
 use Rattle.set_params.specs.Set.{year_number}
@@ -119,42 +122,37 @@ within e =
       years = path-years _ _ _ _ f (one-year (year_number s.args.p.start s.args.year) column_ages);
     }
 
-pub factors_of-worked-requires : goal.factors_of-worked-requires
-factors_of-worked-requires c = rw (number_is c.before) (within c.before.before.before)
+pub factors_of-requires : goal.factors_of-requires
+factors_of-requires c = rw (number_is c.before) (within c.before.before.before)
 
--- their factors
-worked : (c : lts.After-factors_of tie.the-claims reads.Pre reads.Post) → let s = begun c.before.before.before in
-    FactorsOf billionths s.args.p (cells s.args.p.start s.args.year) c.factors_of-worked.result
-unfolding grid_of unit_by
-worked c = rw (number_is c.before) at c.factors_of-worked.ensures
+-- where every cell is in range, their factors
+worked : (c : lts.After-factors_of tie.the-claims reads.Pre reads.Post) {r : Option (List Ends)}
+    → FactorsOf (grid_of Coarse) c.args.p (record { cohort = false; age = 0; year = c.year_number-n.result; count = column_ages }) r
+    → FactorsOf billionths c.args.p (cells c.args.p.start c.args.year) r
+unfolding grid_of
+worked c h = rw (number_is c.before) at h
 
--- every cell is in range
-ok : (c : lts.Else2 tie.the-claims reads.Pre reads.Post) → c.before.before.factors_of-worked.result.ok ≡ true
-ok c = not-false _ c.if-not-worked.false
+pub returns-in_default : goal.returns-in_default
+unfolding year_cells
+returns-in_default c =
+    let f = c.before in
+    cell_out c.args.p c.args.year c.args.column c.requires (table f.before.before.before).year-in (sym (worked f c.in_default.ensures).ok)
+
+pub slice_bounds-verdict_on-end : goal.slice_bounds-verdict_on-end
+slice_bounds-verdict_on-end c = let h : column_ages ≤ length c.in-Some.ends = omega (arith, c.in-Some.ensures.size) in search rules
 
 pub verdict_on-verdict-requires : goal.verdict_on-verdict-requires
 unfolding grid_of
 verdict_on-verdict-requires c =
-    let e = c.before.before in
-    let f = e.before.before in
-    let i = f.before.before.before in
-    ((begun i).requires, path-chances Coarse (within i) ((worked f).ends (rw (ok e) tt)))
-
-pub returns-then-not-worked : goal.returns-then-not-worked
-unfolding year_cells
-returns-then-not-worked c =
-    let f = c.before.before in
-    let e = f.before.before.before in
-    let s = begun e in
-    cell_out s.args.p s.args.year s.args.column s.requires (table e).year-in (sym (worked f).ok ∙ not-true _ c.if-not-worked.true)
+    let f = c.before.before.before.before in
+    let w = worked f c.in-Some.ensures in
+    (c.requires, path-chances Coarse c.in-Some.ends (within f.before.before.before) w.ends, length-take-le _ _ (omega (arith, w.size)))
 
 pub returns : goal.returns
 unfolding year_cells
 returns c =
-    let o = c.before.before in
-    let f = o.before.before in
-    let e = f.before.before.before in
-    let s = begun e in
-    let w = worked f in
-    verdict-by s.args.p s.args.year s.args.column s.requires (table e).year-in f.factors_of-worked.result.ends
-    (rw (← w.ok, ok o) tt) (w.ends (rw (ok o) tt)) (rw (to_z-of_z s.ranges.year) at c.verdict_on-verdict.ensures)
+    let f = c.before.before.before.before in
+    let w = worked f c.in-Some.ensures in
+    let es = take column_ages c.in-Some.ends in
+    verdict-by c.args.p c.args.year c.args.column c.requires (table f.before.before.before).year-in es
+    (rw (← w.ok) tt) (take_all column_ages es (omega (arith, length-take column_ages c.in-Some.ends)) ∙ w.ends) (rw (to_z-of_z c.ranges.year) at c.verdict_on-verdict.ensures)

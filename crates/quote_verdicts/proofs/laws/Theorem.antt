@@ -1,6 +1,6 @@
 -- "Right is returned only for a column whose every entry is the rounded exact value, wrong only for one with an entry that isn't":
 -- of any set, year and column, read or malformed.
-use Rattle.std.specs.Prelude.{◌≡◌, refl, true, false, List, ℕ, ℤ, pos}
+use Rattle.std.specs.Prelude.{◌≡◌, refl, true, false, List, ℕ, ℤ, pos, Err}
 use Rattle.std.proofs.Common.{ap, sym, ◌∙◌, eq-eqb, ne_eqb}
 use Rattle.std.proofs.Math.Decide.{ℕ_discrete}
 use Rattle.number_whole.proofs.laws.Clash.{clash}
@@ -14,7 +14,6 @@ use Rattle.quote_kinds.specs.declared.Kind.TheVariants.{Death}
 use Rattle.quote.specs.Demand.{Shown, printed, marked_open, no_figure, shown_of}
 use Rattle.quote.proofs.laws.Theorem.{figure-rounds}
 use Rattle.quote_verdicts.specs.declared.Verdict.TheVariants.{Right, Wrong}
-use Rattle.quote_verdicts.specs.declared.Judged.TheVariants.{Refused}
 use Rattle.quote_verdicts.specs.Verdict.{column_ages, figure_here, entry_at, differs, is_open, verdict_of, column_refusal, entries_in, judged}
 use Rattle.quote_verdicts.specs.Verdict.{EachRounded, SomeOther}
 use Rattle.quote_verdicts.specs.code.Code.{Honest}
@@ -84,5 +83,5 @@ verdict-honest p year read =
     }
 
 -- a refusal says nothing of the column
-pub refused-honest : {p : Params} {year : ℤ} {column : List ℕ} {r : Refusal} → Honest p year column (Refused r)
+pub refused-honest : {p : Params} {year : ℤ} {column : List ℕ} {r : Refusal} → Honest p year column (Err r)
 refused-honest = record { right = λ e. clash cc; wrong = λ e. clash cc }

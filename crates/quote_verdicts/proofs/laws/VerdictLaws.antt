@@ -1,5 +1,5 @@
 -- Laws of a verdict: age by age, by its cases, and of the refusals before it.
-use Rattle.std.specs.Prelude.{◌≡◌, refl, Bool, true, false, cond, ◌||◌, List, ℕ, zero, suc, ◌<◌, T, eqb, ℤ}
+use Rattle.std.specs.Prelude.{◌≡◌, refl, Bool, true, false, cond, ◌||◌, List, ℕ, zero, suc, ◌<◌, T, eqb, ℤ, Ok, Err}
 use Rattle.std.proofs.Common.{ap, ap₂, not-suc-le-zero, arith, ne_eqb}
 use Rattle.std.proofs.Math.Decide.{dec_lt}
 use Rattle.number_whole.proofs.laws.Clash.{clash}
@@ -19,7 +19,6 @@ use Rattle.quote_table_tests.proofs.laws.TableLaws.{passed}
 use Rattle.quote.specs.Demand.{Shown}
 use Rattle.quote_verdicts.specs.declared.Verdict.{Verdict}
 use Rattle.quote_verdicts.specs.declared.Verdict.TheVariants.{Right, Wrong, Open}
-use Rattle.quote_verdicts.specs.declared.Judged.TheVariants.{Of, Refused}
 use Rattle.quote_verdicts.specs.Verdict.{
   differs,
   is_open,
@@ -133,11 +132,11 @@ wrong-some figure entry n e = found n _ (wrong-cases _ (some_below n (λ (x : �
 -- ---- the refusals before it
 
 -- a verdict is given where nothing is refused
-pub verdict-given : (r : Refusal) (v w : Verdict) → judged_by r v ≡ Of w → (r ≡ Accepted) × (v ≡ w)
+pub verdict-given : (r : Refusal) (v w : Verdict) → judged_by r v ≡ Ok w → (r ≡ Accepted) × (v ≡ w)
 unfolding judged_by
 verdict-given r v w = go (refusal_number r) refl
   where
-    go : (n : ℕ) → refusal_number r ≡ n → cond (eqb n 0) (Of v) (Refused r) ≡ Of w → (r ≡ Accepted) × (v ≡ w)
+    go : (n : ℕ) → refusal_number r ≡ n → cond (eqb n 0) (Ok v) (Err r) ≡ Ok w → (r ≡ Accepted) × (v ≡ w)
     go zero q e = (accepted r q, cc)
     go (suc n) q e = let m = ne_eqb (suc n) 0 (λ z. omega arith) in clash cc
 

@@ -1,5 +1,5 @@
 -- `verdict_again` meets its contract: the answer is the quote of q at that age, and the verdict that by its figure.
-use borrow.Author.Rules.{rules}
+use Rattle.std.specs.Prelude.{Ok, Err}
 use mathlib.Core.Path.{◌≡◌, sym, ◌∙◌}
 use Prim.Native.Nat.{ℕ, ◌<◌}
 use native.Mathlib.Omega.{arith}
@@ -11,8 +11,7 @@ use Rattle.number_whole.proofs.laws.Bound.{under-pos, fits}
 use Rattle.set_refusal.specs.declared.Refusal.{Refusal}
 use Rattle.quote_kinds.specs.declared.Kind.TheVariants.{Death}
 use Rattle.quote_along.specs.declared.Quote.{Quote}
-use Rattle.quote_along.specs.declared.Answer.{Answer}
-use Rattle.quote_along.specs.declared.Answer.TheVariants.{Quoted, Refused}
+use Rattle.quote_along.specs.QuoteBy.{Answer}
 use Rattle.quote.specs.Quote.{answer_of}
 use Rattle.quote.specs.Demand.{shown_of, figure_shown}
 use Rattle.quote.proofs.Steps.{for-again}
@@ -27,11 +26,11 @@ use Rattle.quote_verdicts.proofs.verdict_again.Reads as reads
 
 -- ---- by the answer
 
-none_here : (a : Answer) (m : ℕ) {r : Refusal} → a ≡ Refused r → Right ≡ age_verdict (figure_shown a) m
+none_here : (a : Answer) (m : ℕ) {r : Refusal} → a ≡ Err r → Right ≡ age_verdict (figure_shown a) m
 unfolding age_verdict differs is_open figure_shown
 none_here a m e = rw e
 
-quoted-here : (a : Answer) (m : ℕ) {q : Quote} {v : Verdict} → a ≡ Quoted q → v ≡ age_verdict (shown_of q.figure) m
+quoted-here : (a : Answer) (m : ℕ) {q : Quote} {v : Verdict} → a ≡ Ok q → v ≡ age_verdict (shown_of q.figure) m
     → v ≡ age_verdict (figure_shown a) m
 unfolding figure_shown
 quoted-here a m e f = rw e f
@@ -54,7 +53,7 @@ returns-in_default c = none_here _ _ (sym (asked c.before) ∙ c.in_default.is)
 
 pub returns : goal.returns
 unfolding figure_here
-returns c = quoted-here _ _ (sym (asked c.before.before) ∙ c.in-Quoted.is) c.age_verdict.ensures
+returns c = quoted-here _ _ (sym (asked c.before.before) ∙ c.in-Ok.is) c.age_verdict.ensures
 
 pub overflow_cast-age : goal.overflow_cast-age
 overflow_cast-age c = age-fits c.args.age c.requires.1

@@ -1,6 +1,6 @@
 -- What the code's contracts say beside the definitions: a column that was read or not, the verdict on one age, the figures by the
 -- factors of a year's cells and where they leave one open, and what a verdict says.
-use Rattle.std.specs.Prelude.{◌≡◌, Bool, true, false, cond, List, [], ℕ, ℤ, get_or}
+use Rattle.std.specs.Prelude.{◌≡◌, Bool, true, false, cond, Option, None, Some, List, [], ℕ, ℤ, get_or, Ok}
 use Rattle.text_tokens.specs.Text.{Parse, malformed, taken}
 use Rattle.set_params.specs.declared.Params.{Params}
 use Rattle.number_exponential.specs.declared.Ends.{Ends}
@@ -13,14 +13,13 @@ use Rattle.quote.specs.Demand.{Shown, shown_of}
 use Rattle.quote_factors.specs.code.Code.{empty}
 use Rattle.quote_verdicts.specs.declared.Verdict.{Verdict}
 use Rattle.quote_verdicts.specs.declared.Verdict.TheVariants.{Right, Wrong, Open}
-use Rattle.quote_verdicts.specs.declared.Judged.{Judged}
-use Rattle.quote_verdicts.specs.declared.Judged.TheVariants.{Of}
+use Rattle.quote_verdicts.specs.Verdict.{Judged}
 use Rattle.quote_verdicts.specs.Verdict.{figure_here, differs, is_open, EachRounded, SomeOther}
 
--- a column where the whole of it was read
-unfoldable pub column_read : Bool → List ℕ → Parse (List ℕ)
-column_read true column = taken column []
-column_read false column = malformed
+-- a column, where the whole of it was read
+unfoldable pub column_read : Option (List ℕ) → Parse (List ℕ)
+column_read None = malformed
+column_read (Some column) = taken column []
 
 -- the verdict on one age
 unfoldable pub age_verdict : Shown → ℕ → Verdict
@@ -48,5 +47,5 @@ figure_kept p year factors x = cond (figure.is_open (figure_in factors x)) (figu
 
 -- what an answer of a column that was read says
 pub record Honest (p : Params) (year : ℤ) (column : List ℕ) (r : Judged) : Type 0 where
-  pub right : r ≡ Of Right → EachRounded p year column
-  pub wrong : r ≡ Of Wrong → SomeOther p year column
+  pub right : r ≡ Ok Right → EachRounded p year column
+  pub wrong : r ≡ Ok Wrong → SomeOther p year column

@@ -1,5 +1,5 @@
 -- Verdicts on some figures and entries, and the order of the refusals, by computing the definitions.
-use Rattle.std.specs.Prelude.{◌≡◌, refl, true, false, List, [], ◌∷◌, ℕ, ℤ, pos, get_or, replicate}
+use Rattle.std.specs.Prelude.{◌≡◌, refl, true, false, List, [], ◌∷◌, ℕ, ℤ, pos, get_or, replicate, Err}
 use Rattle.std.specs.Float.Ieee.Bits.{is_true}
 use Rattle.number_whole.specs.Listed.{listed}
 use Rattle.number_whole.specs.SignedEnds.{least_product, greatest_product, outward}
@@ -22,7 +22,6 @@ use Rattle.quote_table_tests.specs.TableTests.{year_in_table, first_failed}
 use Rattle.quote.specs.Demand.{Shown, printed, marked_open, no_figure}
 use Rattle.quote_verdicts.specs.declared.Verdict.{Verdict}
 use Rattle.quote_verdicts.specs.declared.Verdict.TheVariants.{Right, Wrong, Open}
-use Rattle.quote_verdicts.specs.declared.Judged.TheVariants.{Refused}
 use Rattle.quote_verdicts.specs.Verdict.{
   entry_at,
   differs,
@@ -89,16 +88,16 @@ in-limits = (
 
 -- 2 before 9, and 9 before 4: with a past its limit a malformed column in a year that is none of `q`; with a in its limit the same,
 -- and then a whole column in the years before the first and after the last
-pub refusals : (judged (with_a 100000001) (pos 2013) malformed ≡ Refused OutOfLimits)
-    × (judged (with_a 100000000) (pos 2013) malformed ≡ Refused MalformedColumn)
-    × (judged (with_a 100000000) (pos 2013) (taken [] []) ≡ Refused NoSuchYear)
-    × (judged (with_a 100000000) (pos 2185) (taken [] []) ≡ Refused NoSuchYear)
+pub refusals : (judged (with_a 100000001) (pos 2013) malformed ≡ Err OutOfLimits)
+    × (judged (with_a 100000000) (pos 2013) malformed ≡ Err MalformedColumn)
+    × (judged (with_a 100000000) (pos 2013) (taken [] []) ≡ Err NoSuchYear)
+    × (judged (with_a 100000000) (pos 2185) (taken [] []) ≡ Err NoSuchYear)
 unfolding judged judged_by column_refusal column_tests first_failed refusal_number year_in_table rule_of
 refusals = (rw past, rw in-limits.0, rw in-limits.0, rw in-limits.0)
 
 -- 6 in the first year and in the last
-pub out_of_range : (judged (with_a 0) (pos 2014) (taken [] []) ≡ Refused LogForceOutOfRange)
-    × (judged (with_a 0) (pos 2184) (taken [] []) ≡ Refused LogForceOutOfRange)
+pub out_of_range : (judged (with_a 0) (pos 2014) (taken [] []) ≡ Err LogForceOutOfRange)
+    × (judged (with_a 0) (pos 2184) (taken [] []) ≡ Err LogForceOutOfRange)
 unfolding judged judged_by column_refusal column_tests first_failed refusal_number A B alpha beta year_in_table rule_of year_cells
     year_number path_of listed place_at path_in_range needed_in_range fitted_in_range in_range log_force cell_force period_in kappa_in kappa_step in_grid
     least_product greatest_product outward floor_div ceil_div

@@ -1,6 +1,6 @@
 -- What the code's contracts say beside the definitions: the path that the code's struct stands for, and how far its factors
 -- are worked.
-use Rattle.std.specs.Prelude.{◌≡◌, Bool, false, not, List, ℕ, ◌+◌, ◌≤◌, ◌<◌, T, length, take}
+use Rattle.std.specs.Prelude.{◌≡◌, Bool, false, not, List, ℕ, ◌-◌, min, ◌≤◌, ◌<◌, T, length, take, Option, MatchOption}
 use Rattle.number_exponential.specs.Grid.{Grid}
 use Rattle.number_exponential.specs.declared.Ends.{Ends}
 use Rattle.set_params.specs.declared.Params.{Params}
@@ -50,9 +50,12 @@ pub record YearAt (g : Grid) (p : Params) (w : Path) (s : ℕ) (y : Year) : Type
   pub year : YearOf g p y
   pub place : s < w.count → y.number ≡ (place_of w s).year
 
+-- the ages to 90 are worked, the first cells of the path
+pub record Walked (g : Grid) (p : Params) (w : Path) (r : Walk) : Type 0 where
+  pub worked : Worked g p w r.ends r.done
+  pub next : YearAt g p w r.done r.year
+  pub young : r.done ≡ min (first_closed - w.age) w.count
+
 -- the ages to 90 are worked, or a cell is out of range
-pub record WalkOf (g : Grid) (p : Params) (w : Path) (r : Walk) : Type 0 where
-  pub out_of_range : T (not r.ok) → path_in_range g p (path_is w) ≡ false
-  pub worked : T r.ok → Worked g p w r.ends r.done
-  pub next : T r.ok → YearAt g p w r.done r.year
-  pub old : T r.ok → r.done < w.count → first_closed ≤ w.age + r.done
+abbrev pub WalkOf : Grid → Params → Path → Option Walk → Type 0
+WalkOf g p w r = MatchOption r (path_in_range g p (path_is w) ≡ false) (Walked g p w)

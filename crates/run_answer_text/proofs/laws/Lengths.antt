@@ -1,5 +1,5 @@
 -- How long what is printed after a query is.
-use Rattle.std.specs.Prelude.{◌≡◌, Bool, true, false, ℕ, ◌+◌, ◌^◌, ◌≤◌, ◌<◌, length}
+use Rattle.std.specs.Prelude.{◌≡◌, Bool, true, false, ℕ, ◌+◌, ◌^◌, ◌≤◌, ◌<◌, length, Ok, Err}
 use Rattle.std.proofs.Common.{arith, length-append}
 use Rattle.text_tokens.specs.Text.{bytes_of}
 use Rattle.text_tokens.specs.Number.{unsigned_text}
@@ -16,8 +16,7 @@ use Rattle.quote_kinds.specs.Kinds.{decimals_of}
 use Rattle.run_figure_text.specs.code.Sizes.{few_digits}
 use Rattle.run_figure_text.proofs.laws.FigureTextLaws.{digits-within, shown-length}
 use Rattle.quote_along.specs.declared.Quote.{Quote}
-use Rattle.quote_along.specs.declared.Answer.{Answer}
-use Rattle.quote_along.specs.declared.Answer.TheVariants.{Quoted, Refused}
+use Rattle.quote_along.specs.QuoteBy.{Answer}
 use Rattle.run_answer_text.specs.AnswerText.{refusal_line, refused_text, end_digits, end_text, unit_text, ends_text, quote_text, answer_text}
 use Rattle.run_answer_text.specs.code.Sizes.{Sized, SizedAnswer}
 
@@ -83,5 +82,5 @@ decimals-few (Annuity rate) = omega arith
 
 pub answer-length : (ends : Bool) (d : ℕ) (a : Answer) → d < few_digits → SizedAnswer a → length (answer_text ends d a) ≤ answer_bytes
 unfolding answer_text SizedAnswer
-answer-length ends d (Quoted a) l s = quote-length ends d a l s
-answer-length ends d (Refused r) l s = omega (arith, refused-length r)
+answer-length ends d (Ok a) l s = quote-length ends d a l s
+answer-length ends d (Err r) l s = omega (arith, refused-length r)

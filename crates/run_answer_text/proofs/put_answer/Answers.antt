@@ -3,7 +3,7 @@ use borrow.Author.Rules.{rules}
 use mathlib.Core.Path.{◌≡◌, sym, ap, subst}
 use Rattle.text_printing.specs.code.Put.{Room}
 use Rattle.text_printing.specs.laws.PutLaws.{put_as, room_as}
-use Rattle.quote_along.specs.declared.Answer.{Answer}
+use Rattle.quote_along.specs.QuoteBy.{Answer}
 use Rattle.run_answer_text.specs.AnswerText.{answer_text}
 use Rattle.run_answer_text.specs.code.Sizes.{SizedAnswer}
 use Rattle.run_answer_text.proofs.put_answer.Goals as goal
@@ -17,22 +17,22 @@ required s e =
 
 pub put_quote-requires : goal.put_quote-requires
 unfolding SizedAnswer answer_text
-put_quote-requires c = required c.before.before.before c.in-Quoted.is
+put_quote-requires c = required c.before.before.before c.in-Ok.is
 
 pub put_refused-requires : goal.put_refused-requires
 unfolding answer_text
-put_refused-requires c = (required c.before.before.before c.in-Refused.is).1
+put_refused-requires c = (required c.before.before.before c.in-Err.is).1
 
-pub returns-in-Quoted : goal.returns-in-Quoted
+pub returns-in-Ok : goal.returns-in-Ok
 unfolding answer_text
-returns-in-Quoted c =
+returns-in-Ok c =
     let s = c.args in
-    put_as (sym (ap (answer_text s.ends s.decimals) c.in-Quoted.is))
+    put_as (sym (ap (answer_text s.ends s.decimals) c.in-Ok.is))
     c.put_quote.ensures
 
-pub returns-in-Refused : goal.returns-in-Refused
+pub returns-in-Err : goal.returns-in-Err
 unfolding answer_text
-returns-in-Refused c =
+returns-in-Err c =
     let s = c.args in
-    put_as (sym (ap (answer_text s.ends s.decimals) c.in-Refused.is))
+    put_as (sym (ap (answer_text s.ends s.decimals) c.in-Err.is))
     c.put_refused.ensures

@@ -1,8 +1,7 @@
 -- A quote whose numbers have room: what the writers ask for.
-use Rattle.std.specs.Prelude.{◌^◌, ◌<◌}
+use Rattle.std.specs.Prelude.{◌^◌, ◌<◌, Ok, Err}
 use Rattle.quote_along.specs.declared.Quote.{Quote}
-use Rattle.quote_along.specs.declared.Answer.{Answer}
-use Rattle.quote_along.specs.declared.Answer.TheVariants.{Quoted, Refused}
+use Rattle.quote_along.specs.QuoteBy.{Answer}
 use Rattle.run_figure_text.specs.code.Sizes.{Short}
 use Rattle.run_answer_text.specs.AnswerText.{end_digits}
 
@@ -14,5 +13,5 @@ pub record Sized (a : Quote) : Type 0 where
 
 -- an answer of which this holds, where it is a quote
 unfoldable pub SizedAnswer : Answer → Type 0
-SizedAnswer (Quoted a) = Sized a
-SizedAnswer (Refused r) = Unit
+SizedAnswer (Ok a) = Sized a
+SizedAnswer (Err r) = Unit

@@ -1,7 +1,6 @@
 -- `column_of` meets its contract. The loop's invariant: the steps before age x and the rows from the present place on are the
 -- whole column. The measure is how many ages are left.
 use mathlib.Core.Bool.{not}
-use borrow.Author.Rules.{rules}
 use borrow.Author.Tests.{not-true, not-false}
 use mathlib.Core.Path.{◌≡◌, refl, sym, ap, ◌∙◌}
 use mathlib.Core.Bool.{Bool, true, false}

@@ -9,7 +9,7 @@ use native.Mathlib.Omega.{arith}
 use lib.IntN.{ℤ, pos, negsuc}
 use lib.Signed.{mag}
 use mir.Syntax.{w64}
-use mir.Val.{hbits, of_z}
+use mir.Val.{SFits, hbits, of_z}
 use lib.ListN.{set}
 use Rattle.text_tokens.specs.Text.{taken}
 use Rattle.text_tokens.specs.laws.Steps.{goes, stops}
@@ -41,10 +41,11 @@ returns-in_default c = sym (stops _ (sym c.entry_of.ensures ∙ ap entry_read c.
 
 pub returns-then-entry-x : goal.returns-then-entry-x
 returns-then-entry-x c =
-    let entry-taken : let s = c.args in read_entry s.line.now ≡ taken c.in-Of.entry [] = sym c.entry_of.ensures ∙ ap entry_read c.in-Of.is in
+    let entry-taken : let s = c.args in read_entry s.line.now ≡ taken c.in-Some.entry [] = sym c.entry_of.ensures ∙ ap entry_read c.in-Some.is in
     sym (row_as _ _ _ entry-taken (age-other _ _ (λ q. omega arith)))
 
 pub returns : goal.returns
 returns c =
-    let entry-taken : let s = c.args in read_entry s.line.now ≡ taken c.in-Of.entry [] = sym c.entry_of.ensures ∙ ap entry_read c.in-Of.is in
-    sym (row_as _ _ _ entry-taken (age-own _ _ c.in-Of.known_told-1-own.given.0.1.1.0.1 (omega arith) (omega arith)))
+    let fits : SFits w64 c.in-Some.entry.age = search rules in
+    let entry-taken : let s = c.args in read_entry s.line.now ≡ taken c.in-Some.entry [] = sym c.entry_of.ensures ∙ ap entry_read c.in-Some.is in
+    sym (row_as _ _ _ entry-taken (age-own _ _ fits.sfits (omega arith) (omega arith)))

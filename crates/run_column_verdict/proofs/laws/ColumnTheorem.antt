@@ -1,6 +1,6 @@
 -- Every answer of bytes is honest: a verdict is given of a column alone, and what it says of the column's entries holds. A column
 -- that is taken is answered as it was when its rows stood in any order.
-use Rattle.std.specs.Prelude.{◌≡◌, refl, List, ℕ, ℤ}
+use Rattle.std.specs.Prelude.{◌≡◌, refl, List, ℕ, ℤ, Ok}
 use Rattle.std.proofs.Common.{sym, ap, ◌∙◌}
 use Rattle.text_tokens.specs.Text.{Parse, malformed, taken}
 use Rattle.set_params.specs.declared.Params.{Params}
@@ -9,14 +9,13 @@ use Rattle.run_column_text.specs.laws.AnyOrder.{column_in_any_order}
 use Rattle.run_column_text.specs.laws.ColumnLaws.{column-alone}
 use Rattle.run_column_text.specs.laws.OrderLaws.{taken-before}
 use Rattle.quote_verdicts.specs.declared.Verdict.{Verdict}
-use Rattle.quote_verdicts.specs.declared.Judged.TheVariants.{Of}
 use Rattle.quote_verdicts.specs.Verdict.{verdict_of, column_refusal, entries_in, judged}
 use Rattle.quote_verdicts.proofs.laws.VerdictLaws.{verdict-given, all-passed}
 use Rattle.quote_verdicts.proofs.laws.Theorem.{verdict-honest}
 use Rattle.run_column_verdict.specs.ColumnVerdict.{column_verdict, HonestOn}
 
 -- malformed bytes have no verdict
-malformed-none : {X : Type 0} (p : Params) (year : ℤ) {v : Verdict} → judged p year malformed ≡ Of v → X
+malformed-none : {X : Type 0} (p : Params) (year : ℤ) {v : Verdict} → judged p year malformed ≡ Ok v → X
 unfolding judged
 malformed-none p year {v} e =
     let g = verdict-given (column_refusal p year malformed) (verdict_of p year (entries_in malformed)) v e in

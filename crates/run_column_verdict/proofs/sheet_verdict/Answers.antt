@@ -1,5 +1,4 @@
 -- `sheet_verdict` meets its contract: the sheet's refusal, else what is answered of the column by its set.
-use borrow.Author.Rules.{rules}
 use native.Mathlib.Omega.{arith}
 use mir.Facts.{to_z-of_z}
 use Rattle.run_column_verdict.proofs.laws.VerdictLaws.{verdict-refused, verdict-given}

@@ -1,5 +1,4 @@
 -- `verdict_into` meets its contract: what is answered by the sheet, put into the place.
-use borrow.Author.Rules.{rules}
 use mir.Facts.{to_z-of_z}
 use Rattle.run_column_verdict.proofs.laws.VerdictLaws.{put_same}
 use Rattle.run_column_verdict.proofs.verdict_into.Goals as goal

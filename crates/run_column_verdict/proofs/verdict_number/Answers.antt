@@ -1,5 +1,4 @@
 -- `verdict_number` meets its contract, case by case.
-use borrow.Author.Rules.{rules}
 use mathlib.Core.Path.{sym, ap}
 use Rattle.run_column_verdict.specs.ColumnVerdict.{verdict_number}
 use Rattle.run_column_verdict.proofs.verdict_number.Goals as goal

@@ -1,13 +1,12 @@
 -- A comparison whose numbers have room: what the writers ask for.
-use Rattle.std.specs.Prelude.{◌^◌, ◌<◌}
+use Rattle.std.specs.Prelude.{◌^◌, ◌<◌, Ok, Err}
 use Rattle.run_figure_text.specs.code.Sizes.{Short}
 use Rattle.run_answer_text.specs.AnswerText.{end_digits}
 use Rattle.quote_compare.specs.declared.Excess.{Excess}
 use Rattle.quote_compare.specs.declared.Values.{Values}
 use Rattle.quote_compare.specs.declared.Values.TheVariants.{Below, Above, Near}
 use Rattle.quote_compare.specs.declared.Pair.{Pair}
-use Rattle.quote_compare.specs.declared.Comparison.{Comparison}
-use Rattle.quote_compare.specs.declared.Comparison.TheVariants.{Compared, NotCompared}
+use Rattle.quote_compare.specs.Compare.{Comparison}
 
 -- an excess whose units have at most 16 digits
 pub record SizedExcess (e : Excess) : Type 0 where
@@ -28,5 +27,5 @@ pub record SizedPair (c : Pair) : Type 0 where
 
 -- a comparison of which this holds, where it is not a refusal
 unfoldable pub SizedComparison : Comparison → Type 0
-SizedComparison (Compared c) = SizedPair c
-SizedComparison (NotCompared r) = Unit
+SizedComparison (Ok c) = SizedPair c
+SizedComparison (Err r) = Unit

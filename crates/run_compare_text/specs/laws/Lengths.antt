@@ -1,5 +1,5 @@
 -- How long what is printed after a query that two sheets answer is.
-use Rattle.std.specs.Prelude.{ℕ, ◌+◌, ◌≤◌, ◌<◌, length}
+use Rattle.std.specs.Prelude.{ℕ, ◌+◌, ◌≤◌, ◌<◌, length, Ok, Err}
 use Rattle.std.proofs.Common.{arith, length-append}
 use Rattle.text_tokens.specs.Text.{bytes_of}
 use Rattle.run_figure_text.specs.code.Sizes.{few_digits}
@@ -10,8 +10,7 @@ use Rattle.quote_compare.specs.declared.Excess.{Excess}
 use Rattle.quote_compare.specs.declared.Values.{Values}
 use Rattle.quote_compare.specs.declared.Values.TheVariants.{Below, Above, Near}
 use Rattle.quote_compare.specs.declared.Pair.{Pair}
-use Rattle.quote_compare.specs.declared.Comparison.{Comparison}
-use Rattle.quote_compare.specs.declared.Comparison.TheVariants.{Compared, NotCompared}
+use Rattle.quote_compare.specs.Compare.{Comparison}
 use Rattle.run_compare_text.specs.CompareText.{excess_text, values_text, pair_text, comparison_text}
 use Rattle.run_compare_text.specs.code.Sizes.{SizedExcess, SizedValues, SizedPair, SizedComparison}
 
@@ -44,5 +43,5 @@ pair-length d c l s =
 
 pub comparison-length : (d : ℕ) (c : Comparison) → d < few_digits → SizedComparison c → length (comparison_text d c) ≤ comparison_bytes
 unfolding comparison_text SizedComparison
-comparison-length d (Compared c) l s = pair-length d c l s
-comparison-length d (NotCompared r) l s = omega (arith, refused-length r)
+comparison-length d (Ok c) l s = pair-length d c l s
+comparison-length d (Err r) l s = omega (arith, refused-length r)

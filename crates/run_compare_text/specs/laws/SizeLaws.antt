@@ -1,10 +1,9 @@
 -- How great the numbers of a comparison are: the units have at most 16 digits and the figures at most 8.
-use Rattle.std.specs.Prelude.{◌-◌, ◌^◌, ◌<◌}
+use Rattle.std.specs.Prelude.{◌-◌, ◌^◌, ◌<◌, Ok, Err}
 use Rattle.std.proofs.Math.Decide.{dec_lt}
 use Rattle.std.proofs.Common.{arith}
 use Rattle.number_exponential.specs.declared.Ends.{Ends}
-use Rattle.quote_along.specs.declared.Answer.{Answer}
-use Rattle.quote_along.specs.declared.Answer.TheVariants.{Quoted, Refused}
+use Rattle.quote_along.specs.QuoteBy.{Answer}
 use Rattle.run_answer_text.specs.AnswerText.{end_digits}
 use Rattle.run_answer_text.specs.code.Sizes.{SizedAnswer}
 use Rattle.quote_compare.specs.Compare.{excess, most_apart, values_of, finer, ends_in, pair_of, comparison_of}
@@ -41,9 +40,9 @@ values-sized a b h h' k k' =
 pub comparison-sized : (a b : Answer) → SmallAnswer a → SmallAnswer b → SizedAnswer a → SizedAnswer b
     → SizedComparison (comparison_of a b)
 unfolding comparison_of pair_of SmallAnswer SizedAnswer SizedComparison
-comparison-sized (Refused r) b l m s t = tt
-comparison-sized (Quoted q) (Refused r) l m s t = tt
-comparison-sized (Quoted q) (Quoted q') l m s t =
+comparison-sized (Err r) b l m s t = tt
+comparison-sized (Ok q) (Err r) l m s t = tt
+comparison-sized (Ok q) (Ok q') l m s t =
     let u = finer q.unit q'.unit in
     let e = ends-small u l in
     let e' = ends-small u m in

@@ -9,7 +9,7 @@ use Rattle.run_console.proofs.answer_in.Goals as goal
 
 pub put_run-end-requires : goal.put_run-end-requires
 put_run-end-requires g c =
-    let n = c.in-Read.len in
+    let n = c.in-Some.len in
     let read = c.read_all.new.bytes in
     omega (arith, length-take n read, room_most c.args.program (length (take n read)))
 

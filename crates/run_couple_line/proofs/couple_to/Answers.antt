@@ -1,5 +1,4 @@
 -- `couple_to` meets its contract: the answer of the query's fields.
-use borrow.Author.Rules.{rules}
 use Rattle.text_tokens.specs.laws.ReadLaws.{held}
 use Rattle.run_couple_line.specs.CoupleLine.{query_couple}
 use Rattle.run_couple_line.proofs.couple_to.Goals as goal

@@ -1,5 +1,4 @@
 -- `put_reply` meets its contract: the text of the answer.
-use borrow.Author.Rules.{rules}
 use mathlib.Core.Path.{◌≡◌, sym, ap, ◌∙◌}
 use mathlib.Core.Bool.{true}
 use Rattle.text_printing.specs.laws.PutLaws.{put_as, room_as}

@@ -1,12 +1,11 @@
 -- What follows a couple's query: how great its numbers are and how long it is; and so how long the answer to a line is.
-use Rattle.std.specs.Prelude.{◌≡◌, refl, true, List, ℕ, ◌≤◌, length}
+use Rattle.std.specs.Prelude.{◌≡◌, refl, true, List, ℕ, ◌≤◌, length, Ok, Err}
 use Rattle.std.proofs.Common.{arith}
 use Rattle.text_tokens.specs.Text.{taken}
 use Rattle.set_params.specs.declared.Params.{Params}
 use Rattle.quote_kinds.specs.Kinds.{rule_of}
 use Rattle.quote_couple_kinds.specs.CoupleKinds.{single_of}
-use Rattle.quote_along.specs.declared.Answer.{Answer}
-use Rattle.quote_along.specs.declared.Answer.TheVariants.{Quoted, Refused}
+use Rattle.quote_along.specs.QuoteBy.{Answer}
 use Rattle.quote_couple.proofs.laws.SmallLaws.{couple-small}
 use Rattle.run_couple_query.specs.declared.CoupleQuery.{CoupleQuery}
 use Rattle.run_couple_query.specs.CoupleQuery.{read_couple}
@@ -38,11 +37,11 @@ unfolding query_couple SizedAnswer
 couple-sized p p' q = go (query_couple p p' q) refl
   where
     go : (a : Answer) → query_couple p p' q ≡ a → SizedAnswer a
-    go (Quoted a) e =
+    go (Ok a) e =
         let s = couple-small p p' q.kind q.age q.other q.year q.span e in
         small-sized (rule_of (single_of q.kind)).fold a
         (record { ends = record { lower = s.lower; upper = s.upper }; figure = s.figure })
-    go (Refused r) e = tt
+    go (Err r) e = tt
 
 -- ---- the text, from a query's decimals and its answer
 

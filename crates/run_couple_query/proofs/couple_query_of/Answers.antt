@@ -4,12 +4,15 @@ use mathlib.Core.Bool.{not}
 use mathlib.Core.Path.{ap}
 use borrow.Author.Rules.{rules}
 use mathlib.Core.Path.{◌≡◌, sym, ◌∙◌}
+use mir.Val.{of_z, to_z}
+use Rattle.std.specs.Int.{w64}
+use Rattle.run_couple_query.specs.code.Code.{couple_read}
 use Prim.Native.Nat.{ℕ}
 use mathlib.Core.List.{List}
 use lib.ListN.{drop}
 use Rattle.text_tokens.specs.Text.{bytes_of}
 use Rattle.text_tokens.specs.laws.TextLaws.{text-found, text-missing}
-use Rattle.text_tokens.specs.laws.ReadLaws.{lacks, has, held, read-malformed, read_taken}
+use Rattle.text_tokens.specs.laws.ReadLaws.{lacks, has, read-malformed, read_taken}
 use Rattle.text_tokens.specs.laws.Steps.{goes, stops}
 use Rattle.run_query.specs.Query.{ended}
 use Rattle.run_query.proofs.QuerySteps.{line-ended, line-goes-on}
@@ -25,70 +28,70 @@ pub returns-then-not-text_at : goal.returns-then-not-text_at
 unfolding bytes_of
 returns-then-not-text_at c = sym (start-malformed _ (text-missing _ 0 (bytes_of "kind=") (lacks c.text_at.ensures (ap not c.if-not-text_at.true))))
 
-pub returns-in_default : goal.returns-in_default
+pub returns-in_err-kind : goal.returns-in_err-kind
 unfolding bytes_of
-returns-in_default c =
+returns-in_err-kind c =
     let line : List ℕ = c.args.line.now in
     let after-start : let l = line in read_couple l ≡ from_word (drop 5 l) = start-taken _ (text-found _ 0 (bytes_of "kind=") (has c.text_at.ensures (ap not c.if-not-text_at.false))) in
-    sym (after-start ∙ stops _ (kind-malformed _ c.couple_kind_at.ensures c.in_default.is))
+    ap couple_read c.from_residual.ensures ∙ sym (after-start ∙ stops _ (kind-malformed _ c.couple_kind_at.ensures c.in_err-kind.was))
 
-pub returns-in_default-field_at : goal.returns-in_default-field_at
+pub returns-in_err-age : goal.returns-in_err-age
 unfolding bytes_of
-returns-in_default-field_at c =
+returns-in_err-age c =
     let line : List ℕ = c.args.line.now in
     let after-start : let l = line in read_couple l ≡ from_word (drop 5 l) = start-taken _ (text-found _ 0 (bytes_of "kind=") (has c.text_at.ensures (ap not c.if-not-text_at.false))) in
-    let after-kind : let l = line in read_couple l ≡ from_age c.in-Of.kind (drop c.in-Of.after_kind l) =
+    let after-kind : let l = line in read_couple l ≡ from_age c.in_ok-kind.kind (drop c.in_ok-kind.after_kind l) =
     after-start
-    ∙ goes _ (kind-taken _ c.couple_kind_at.ensures c.in-Of.is) in
-    sym (after-kind ∙ stops _ (read-malformed _ c.field_at.ensures c.in_default-field_at.is))
+    ∙ goes _ (kind-taken _ c.couple_kind_at.ensures c.in_ok-kind.was) in
+    ap couple_read c.from_residual-in_err-age.ensures ∙ sym (after-kind ∙ stops _ (read-malformed _ c.field_at.ensures c.in_err-age.was))
 
-pub returns-in_default-field_at-2 : goal.returns-in_default-field_at-2
+pub returns-in_err-other : goal.returns-in_err-other
 unfolding bytes_of
-returns-in_default-field_at-2 c =
+returns-in_err-other c =
     let line : List ℕ = c.args.line.now in
     let after-start : let l = line in read_couple l ≡ from_word (drop 5 l) = start-taken _ (text-found _ 0 (bytes_of "kind=") (has c.text_at.ensures (ap not c.if-not-text_at.false))) in
-    let after-kind : let l = line in read_couple l ≡ from_age c.in-Of.kind (drop c.in-Of.after_kind l) =
+    let after-kind : let l = line in read_couple l ≡ from_age c.in_ok-kind.kind (drop c.in_ok-kind.after_kind l) =
     after-start
-    ∙ goes _ (kind-taken _ c.couple_kind_at.ensures c.in-Of.is) in
-    let after-age : let l = line in read_couple l ≡ from_other c.in-Of.kind c.in-Number.age (drop c.in-Number.after_age l) =
+    ∙ goes _ (kind-taken _ c.couple_kind_at.ensures c.in_ok-kind.was) in
+    let after-age : let l = line in read_couple l ≡ from_other c.in_ok-kind.kind c.in_ok-age.age (drop c.in_ok-age.after_age l) =
     after-kind
-    ∙ goes _ (read_taken _ c.field_at.ensures c.in-Number.is) in
-    sym (after-age ∙ stops _ (read-malformed _ c.field_at-2.ensures c.in_default-field_at-2.is))
+    ∙ goes _ (read_taken _ c.field_at.ensures c.in_ok-age.was) in
+    ap couple_read c.from_residual-in_err-other.ensures ∙ sym (after-age ∙ stops _ (read-malformed _ c.field_at-2.ensures c.in_err-other.was))
 
-pub returns-in_default-field_at-3 : goal.returns-in_default-field_at-3
+pub returns-in_err-year : goal.returns-in_err-year
 unfolding bytes_of
-returns-in_default-field_at-3 c =
+returns-in_err-year c =
     let line : List ℕ = c.args.line.now in
     let after-start : let l = line in read_couple l ≡ from_word (drop 5 l) = start-taken _ (text-found _ 0 (bytes_of "kind=") (has c.text_at.ensures (ap not c.if-not-text_at.false))) in
-    let after-kind : let l = line in read_couple l ≡ from_age c.in-Of.kind (drop c.in-Of.after_kind l) =
+    let after-kind : let l = line in read_couple l ≡ from_age c.in_ok-kind.kind (drop c.in_ok-kind.after_kind l) =
     after-start
-    ∙ goes _ (kind-taken _ c.couple_kind_at.ensures c.in-Of.is) in
-    let after-age : let l = line in read_couple l ≡ from_other c.in-Of.kind c.in-Number.age (drop c.in-Number.after_age l) =
+    ∙ goes _ (kind-taken _ c.couple_kind_at.ensures c.in_ok-kind.was) in
+    let after-age : let l = line in read_couple l ≡ from_other c.in_ok-kind.kind c.in_ok-age.age (drop c.in_ok-age.after_age l) =
     after-kind
-    ∙ goes _ (read_taken _ c.field_at.ensures c.in-Number.is) in
-    let after-other : let l = line in read_couple l ≡ from_year c.in-Of.kind c.in-Number.age c.in-Number-field_at.other (drop c.in-Number-field_at.after_other l) =
+    ∙ goes _ (read_taken _ c.field_at.ensures c.in_ok-age.was) in
+    let after-other : let l = line in read_couple l ≡ from_year c.in_ok-kind.kind c.in_ok-age.age c.in_ok-other.other (drop c.in_ok-other.after_other l) =
     after-age
-    ∙ goes _ (read_taken _ c.field_at-2.ensures c.in-Number-field_at.is) in
-    sym (after-other ∙ stops _ (read-malformed _ c.field_at-3.ensures c.in_default-field_at-3.is))
+    ∙ goes _ (read_taken _ c.field_at-2.ensures c.in_ok-other.was) in
+    ap couple_read c.from_residual-in_err-year.ensures ∙ sym (after-other ∙ stops _ (read-malformed _ c.field_at-3.ensures c.in_err-year.was))
 
-pub returns-in_default-field_at-4 : goal.returns-in_default-field_at-4
+pub returns-in_err-span : goal.returns-in_err-span
 unfolding bytes_of
-returns-in_default-field_at-4 c =
+returns-in_err-span c =
     let line : List ℕ = c.args.line.now in
     let after-start : let l = line in read_couple l ≡ from_word (drop 5 l) = start-taken _ (text-found _ 0 (bytes_of "kind=") (has c.text_at.ensures (ap not c.if-not-text_at.false))) in
-    let after-kind : let l = line in read_couple l ≡ from_age c.in-Of.kind (drop c.in-Of.after_kind l) =
+    let after-kind : let l = line in read_couple l ≡ from_age c.in_ok-kind.kind (drop c.in_ok-kind.after_kind l) =
     after-start
-    ∙ goes _ (kind-taken _ c.couple_kind_at.ensures c.in-Of.is) in
-    let after-age : let l = line in read_couple l ≡ from_other c.in-Of.kind c.in-Number.age (drop c.in-Number.after_age l) =
+    ∙ goes _ (kind-taken _ c.couple_kind_at.ensures c.in_ok-kind.was) in
+    let after-age : let l = line in read_couple l ≡ from_other c.in_ok-kind.kind c.in_ok-age.age (drop c.in_ok-age.after_age l) =
     after-kind
-    ∙ goes _ (read_taken _ c.field_at.ensures c.in-Number.is) in
-    let after-other : let l = line in read_couple l ≡ from_year c.in-Of.kind c.in-Number.age c.in-Number-field_at.other (drop c.in-Number-field_at.after_other l) =
+    ∙ goes _ (read_taken _ c.field_at.ensures c.in_ok-age.was) in
+    let after-other : let l = line in read_couple l ≡ from_year c.in_ok-kind.kind c.in_ok-age.age c.in_ok-other.other (drop c.in_ok-other.after_other l) =
     after-age
-    ∙ goes _ (read_taken _ c.field_at-2.ensures c.in-Number-field_at.is) in
-    let after-year : let l = line in read_couple l ≡ from_span c.in-Of.kind c.in-Number.age c.in-Number-field_at.other c.in-Number-field_at-2.year (drop c.in-Number-field_at-2.after_year l) =
+    ∙ goes _ (read_taken _ c.field_at-2.ensures c.in_ok-other.was) in
+    let after-year : let l = line in read_couple l ≡ from_span c.in_ok-kind.kind c.in_ok-age.age c.in_ok-other.other c.in_ok-year.year (drop c.in_ok-year.after_year l) =
     after-other
-    ∙ goes _ (read_taken _ c.field_at-3.ensures c.in-Number-field_at-2.is) in
-    sym (after-year ∙ stops _ (read-malformed _ c.field_at-4.ensures c.in_default-field_at-4.is))
+    ∙ goes _ (read_taken _ c.field_at-3.ensures c.in_ok-year.was) in
+    ap couple_read c.from_residual-in_err-span.ensures ∙ sym (after-year ∙ stops _ (read-malformed _ c.field_at-4.ensures c.in_err-span.was))
 
 pub returns-then-not-ends_at : goal.returns-then-not-ends_at
 unfolding bytes_of
@@ -96,28 +99,28 @@ returns-then-not-ends_at c =
     let line : List ℕ = c.args.line.now in
     let asked : CoupleQuery =
     record {
-      kind = c.in-Of.kind;
-      age = c.in-Number.age;
-      other = c.in-Number-field_at.other;
-      year = c.in-Number-field_at-2.year;
-      span = c.in-Number-field_at-3.span;
+      kind = c.in_ok-kind.kind;
+      age = c.in_ok-age.age;
+      other = c.in_ok-other.other;
+      year = c.in_ok-year.year;
+      span = c.in_ok-span.span;
     } in
     let after-start : let l = line in read_couple l ≡ from_word (drop 5 l) = start-taken _ (text-found _ 0 (bytes_of "kind=") (has c.text_at.ensures (ap not c.if-not-text_at.false))) in
-    let after-kind : let l = line in read_couple l ≡ from_age c.in-Of.kind (drop c.in-Of.after_kind l) =
+    let after-kind : let l = line in read_couple l ≡ from_age c.in_ok-kind.kind (drop c.in_ok-kind.after_kind l) =
     after-start
-    ∙ goes _ (kind-taken _ c.couple_kind_at.ensures c.in-Of.is) in
-    let after-age : let l = line in read_couple l ≡ from_other c.in-Of.kind c.in-Number.age (drop c.in-Number.after_age l) =
+    ∙ goes _ (kind-taken _ c.couple_kind_at.ensures c.in_ok-kind.was) in
+    let after-age : let l = line in read_couple l ≡ from_other c.in_ok-kind.kind c.in_ok-age.age (drop c.in_ok-age.after_age l) =
     after-kind
-    ∙ goes _ (read_taken _ c.field_at.ensures c.in-Number.is) in
-    let after-other : let l = line in read_couple l ≡ from_year c.in-Of.kind c.in-Number.age c.in-Number-field_at.other (drop c.in-Number-field_at.after_other l) =
+    ∙ goes _ (read_taken _ c.field_at.ensures c.in_ok-age.was) in
+    let after-other : let l = line in read_couple l ≡ from_year c.in_ok-kind.kind c.in_ok-age.age c.in_ok-other.other (drop c.in_ok-other.after_other l) =
     after-age
-    ∙ goes _ (read_taken _ c.field_at-2.ensures c.in-Number-field_at.is) in
-    let after-year : let l = line in read_couple l ≡ from_span c.in-Of.kind c.in-Number.age c.in-Number-field_at.other c.in-Number-field_at-2.year (drop c.in-Number-field_at-2.after_year l) =
+    ∙ goes _ (read_taken _ c.field_at-2.ensures c.in_ok-other.was) in
+    let after-year : let l = line in read_couple l ≡ from_span c.in_ok-kind.kind c.in_ok-age.age c.in_ok-other.other c.in_ok-year.year (drop c.in_ok-year.after_year l) =
     after-other
-    ∙ goes _ (read_taken _ c.field_at-3.ensures c.in-Number-field_at-2.is) in
-    let after-span : let l = line in read_couple l ≡ ended asked (drop c.in-Number-field_at-3.after_span l) =
+    ∙ goes _ (read_taken _ c.field_at-3.ensures c.in_ok-year.was) in
+    let after-span : let l = line in read_couple l ≡ ended asked (drop c.in_ok-span.after_span l) =
     after-year
-    ∙ goes _ (read_taken _ c.field_at-4.ensures c.in-Number-field_at-3.is) in
+    ∙ goes _ (read_taken _ c.field_at-4.ensures c.in_ok-span.was) in
     sym (after-span ∙ line-goes-on _ _ (lacks c.ends_at.ensures (ap not c.if-not-ends_at.true)))
 
 pub returns : goal.returns
@@ -126,32 +129,31 @@ returns c =
     let line : List ℕ = c.args.line.now in
     let asked : CoupleQuery =
     record {
-      kind = c.in-Of.kind;
-      age = c.in-Number.age;
-      other = c.in-Number-field_at.other;
-      year = c.in-Number-field_at-2.year;
-      span = c.in-Number-field_at-3.span;
+      kind = c.in_ok-kind.kind;
+      age = c.in_ok-age.age;
+      other = c.in_ok-other.other;
+      year = c.in_ok-year.year;
+      span = c.in_ok-span.span;
     } in
     let after-start : let l = line in read_couple l ≡ from_word (drop 5 l) = start-taken _ (text-found _ 0 (bytes_of "kind=") (has c.text_at.ensures (ap not c.if-not-text_at.false))) in
-    let after-kind : let l = line in read_couple l ≡ from_age c.in-Of.kind (drop c.in-Of.after_kind l) =
+    let after-kind : let l = line in read_couple l ≡ from_age c.in_ok-kind.kind (drop c.in_ok-kind.after_kind l) =
     after-start
-    ∙ goes _ (kind-taken _ c.couple_kind_at.ensures c.in-Of.is) in
-    let after-age : let l = line in read_couple l ≡ from_other c.in-Of.kind c.in-Number.age (drop c.in-Number.after_age l) =
+    ∙ goes _ (kind-taken _ c.couple_kind_at.ensures c.in_ok-kind.was) in
+    let after-age : let l = line in read_couple l ≡ from_other c.in_ok-kind.kind c.in_ok-age.age (drop c.in_ok-age.after_age l) =
     after-kind
-    ∙ goes _ (read_taken _ c.field_at.ensures c.in-Number.is) in
-    let after-other : let l = line in read_couple l ≡ from_year c.in-Of.kind c.in-Number.age c.in-Number-field_at.other (drop c.in-Number-field_at.after_other l) =
+    ∙ goes _ (read_taken _ c.field_at.ensures c.in_ok-age.was) in
+    let after-other : let l = line in read_couple l ≡ from_year c.in_ok-kind.kind c.in_ok-age.age c.in_ok-other.other (drop c.in_ok-other.after_other l) =
     after-age
-    ∙ goes _ (read_taken _ c.field_at-2.ensures c.in-Number-field_at.is) in
-    let after-year : let l = line in read_couple l ≡ from_span c.in-Of.kind c.in-Number.age c.in-Number-field_at.other c.in-Number-field_at-2.year (drop c.in-Number-field_at-2.after_year l) =
+    ∙ goes _ (read_taken _ c.field_at-2.ensures c.in_ok-other.was) in
+    let after-year : let l = line in read_couple l ≡ from_span c.in_ok-kind.kind c.in_ok-age.age c.in_ok-other.other c.in_ok-year.year (drop c.in_ok-year.after_year l) =
     after-other
-    ∙ goes _ (read_taken _ c.field_at-3.ensures c.in-Number-field_at-2.is) in
-    let after-span : let l = line in read_couple l ≡ ended asked (drop c.in-Number-field_at-3.after_span l) =
+    ∙ goes _ (read_taken _ c.field_at-3.ensures c.in_ok-year.was) in
+    let after-span : let l = line in read_couple l ≡ ended asked (drop c.in_ok-span.after_span l) =
     after-year
-    ∙ goes _ (read_taken _ c.field_at-4.ensures c.in-Number-field_at-3.is) in
-    rw (
-      held c.in-Number.age c.in-Number.known_told-in-Number-1-own.given.0.1,
-      held c.in-Number-field_at.other c.in-Number-field_at.known_told-in-Number-field_at-2-1-own.given.0.1,
-      held c.in-Number-field_at-2.year c.in-Number-field_at-2.known_told-in-Number-field_at-3-1-own.given.0.1,
-      held c.in-Number-field_at-3.span c.in-Number-field_at-3.known_told-in-Number-field_at-4-1-own.given.0.1,
-    )
+    ∙ goes _ (read_taken _ c.field_at-4.ensures c.in_ok-span.was) in
+    let held₀ : to_z w64 (of_z w64 c.in_ok-age.age) ≡ c.in_ok-age.age = search rules in
+    let held₁ : to_z w64 (of_z w64 c.in_ok-other.other) ≡ c.in_ok-other.other = search rules in
+    let held₂ : to_z w64 (of_z w64 c.in_ok-year.year) ≡ c.in_ok-year.year = search rules in
+    let held₃ : to_z w64 (of_z w64 c.in_ok-span.span) ≡ c.in_ok-span.span = search rules in
+    rw (held₀, held₁, held₂, held₃)
     (sym (after-span ∙ line-ended _ _ (has c.ends_at.ensures (ap not c.if-not-ends_at.false))))

@@ -1,5 +1,4 @@
 -- `put_figure` meets its contract: `open`, or the whole part, the point and the decimals, one right after the other.
-use borrow.Author.Rules.{rules}
 use mathlib.Core.Path.{◌≡◌, sym, ap, subst, ◌∙◌}
 use Prim.Native.Nat.{ℕ, ◌/◌, ◌^◌, ◌<◌}
 use native.Mathlib.Nat.{div-le_self}

@@ -1,5 +1,4 @@
 -- `put_shown` meets its contract: ` fig=`, and right after it the figure.
-use borrow.Author.Rules.{rules}
 use mathlib.Core.List.{◌++◌}
 use Rattle.text_tokens.specs.Text.{bytes_of}
 use Rattle.text_printing.specs.code.Put.{Room, Put}

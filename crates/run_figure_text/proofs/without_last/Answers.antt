@@ -1,22 +1,15 @@
--- `without_last` meets its contract: the rest without the digits that are left to take is n without all of them.
-use mathlib.Core.Path.{◌≡◌, refl, ap, ◌∙◌}
-use Prim.Native.Nat.{ℕ, suc, ◌-◌, ◌/◌, ◌^◌}
-use native.Mathlib.Omega.{arith}
-use Rattle.run_figure_text.proofs.laws.FigureTextLaws.{tenth-without}
+-- `without_last` meets its contract: each turn takes one more digit away.
+use Rattle.std.proofs.Common.{◌≡◌, ℕ, ◌+◌, ◌/◌, ◌^◌, div-one, add-one, sym, ap, ◌∙◌}
+use Rattle.std.proofs.Math.Nat.{pow-suc, div-div-eq-div-mul}
 use Rattle.run_figure_text.proofs.without_last.Goals as goal
 
-pub loop-left-preserved : goal.loop-left-preserved
-loop-left-preserved c =
-    let l = c.before.loop-left in
-    let e : suc (l.left - 1) ≡ l.left = omega arith in
-    tenth-without (l.left - 1) l.rest ∙ ap (λ (k : ℕ). l.rest / 10 ^ k) e ∙ l.invariant
+one-more : (n k : ℕ) → n / 10 ^ k / 10 ≡ n / 10 ^ (k + 1)
+one-more n k = rw (add-one k, pow-suc) (div-div-eq-div-mul n (10 ^ k) 10)
 
-pub returns : goal.returns
-returns c =
-    let l = c.before.loop-left in
-    let e : l.left ≡ 0 = omega arith in
-    let q : l.rest / 10 ^ l.left ≡ l.rest = ap (λ (k : ℕ). l.rest / 10 ^ k) e ∙ (omega arith) in
-    omega arith
+pub loop-taken-init : goal.loop-taken-init
+loop-taken-init c = sym (div-one c.args.n)
 
-pub loop-left-init : goal.loop-left-init
-loop-left-init c = refl
+pub loop-taken-preserved : goal.loop-taken-preserved
+loop-taken-preserved c =
+    let l = c.loop-taken in
+    ap (λ (n : ℕ). n / 10) l.invariant ∙ one-more c.args.n l._taken

@@ -1,11 +1,6 @@
-use mathlib.Core.Path.{◌≡◌, refl, ap, ◌∙◌}
-use Prim.Native.Nat.{ℕ, suc, ◌-◌, ◌/◌, ◌^◌}
-use native.Mathlib.Omega.{arith}
-use Rattle.run_figure_text.proofs.laws.FigureTextLaws.{tenth-without}
+-- The rest is the number without the digits that are taken.
+use Rattle.std.proofs.Common.{◌≡◌, ◌/◌, ◌^◌}
 use Rattle.run_figure_text.proofs.without_last.Given as goal
 
-abbrev pub invariant-loop-left : goal.invariant-loop-left
-invariant-loop-left l = l.rest / 10 ^ l.left ≡ l.n / 10 ^ l.decimals
-
-abbrev pub decreases-loop-left : goal.decreases-loop-left
-decreases-loop-left l = l.left
+abbrev pub invariant-loop-taken : goal.invariant-loop-taken
+invariant-loop-taken l = l.rest ≡ l.n / 10 ^ l._taken

@@ -1,5 +1,4 @@
 -- `answer_to` meets its contract: the quote of the query's fields.
-use borrow.Author.Rules.{rules}
 use mathlib.Core.Path.{◌∙◌}
 use Rattle.text_tokens.specs.laws.ReadLaws.{held}
 use Rattle.quote.proofs.Steps.{for-again}

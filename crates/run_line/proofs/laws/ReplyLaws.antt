@@ -4,7 +4,7 @@ use Rattle.std.proofs.Common.{arith}
 use Rattle.text_tokens.specs.Text.{taken}
 use Rattle.set_params.specs.declared.Params.{Params}
 use Rattle.quote_kinds.specs.Kinds.{rule_of}
-use Rattle.quote_along.specs.declared.Answer.{Answer}
+use Rattle.quote_along.specs.QuoteBy.{Answer}
 use Rattle.run_query.specs.declared.Query.{Query}
 use Rattle.run_query.specs.Query.{read_query}
 use Rattle.run_query.specs.laws.QueryLaws.{query_text, query-text, query-least, query-most}
@@ -13,7 +13,7 @@ use Rattle.run_answer_text.specs.code.Sizes.{SizedAnswer}
 use Rattle.run_answer_text.proofs.laws.SizeLaws.{answer-sized}
 use Rattle.run_answer_text.proofs.laws.Lengths.{decimals-few, answer-length}
 use Rattle.run_answer_text.proofs.laws.LineLaws.{Bounded, Lengths, ReadsText, echoed, text-lengths, answered-bounded}
-use Rattle.quote_compare.specs.declared.Comparison.{Comparison}
+use Rattle.quote_compare.specs.Compare.{Comparison}
 use Rattle.quote_compare.specs.Compare.{comparison_of}
 use Rattle.quote_compare.specs.code.Sizes.{SmallAnswer}
 use Rattle.quote_compare.proofs.laws.SmallLaws.{answer-small}

@@ -1,9 +1,7 @@
 -- `put_query` meets its contract: a malformed line's refusal, or the line without its line feed and what follows.
-use borrow.Author.Rules.{rules}
-use mathlib.Core.Path.{◌≡◌, sym, ap, ◌∙◌}
-use mathlib.Core.List.{List, []}
+use mathlib.Core.Path.{sym, ap, ◌∙◌}
+use mathlib.Core.List.{List}
 use Prim.Native.Nat.{ℕ}
-use Rattle.text_tokens.specs.Text.{malformed, taken}
 use Rattle.run_query.specs.Query.{read_query}
 use Rattle.run_query.specs.code.Code.{query_read}
 use Rattle.run_line.specs.Line.{reply}
@@ -28,12 +26,12 @@ returns-in_default c =
     refusal-put (step c.before.before.before.before.before.before.before.before.before) (sym c.query_of.ensures ∙ ap query_read c.in_default.is) c.put_refusal.ensures
 
 pub put_echo-place-requires : goal.put_echo-place-requires
-put_echo-place-requires c = echo-room (step c.before.before.before.before.before.before) (sym c.query_of.ensures ∙ ap query_read c.in-Of.is)
+put_echo-place-requires c = echo-room (step c.before.before.before.before.before.before) (sym c.query_of.ensures ∙ ap query_read c.in-Some.is)
 
 pub put_reply-requires : goal.put_reply-requires
 put_reply-requires c =
-    (c.requires.0, c.requires.1, reply-room (step c.before.before.before.before.before.before.before.before.before.before) (sym c.query_of.ensures ∙ ap query_read c.in-Of.is) c.put_echo-place.ensures)
+    (c.requires.0, c.requires.1, reply-room (step c.before.before.before.before.before.before.before.before.before.before) (sym c.query_of.ensures ∙ ap query_read c.in-Some.is) c.put_echo-place.ensures)
 
 pub returns : goal.returns
 returns c =
-    reply-put (step c.before.before.before.before.before.before.before.before.before.before.before.before.before) (sym c.query_of.ensures ∙ ap query_read c.in-Of.is) c.put_echo-place.ensures c.put_reply.ensures
+    reply-put (step c.before.before.before.before.before.before.before.before.before.before.before.before.before) (sym c.query_of.ensures ∙ ap query_read c.in-Some.is) c.put_echo-place.ensures c.put_reply.ensures

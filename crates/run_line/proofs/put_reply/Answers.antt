@@ -1,13 +1,6 @@
 -- `put_reply` meets its contract: the text of the answer, or of two compared.
-use borrow.Author.Rules.{rules}
-use mathlib.Core.Path.{◌≡◌, sym}
+use mathlib.Core.Path.{sym}
 use Rattle.text_printing.specs.laws.PutLaws.{put_as, room_as}
-use Rattle.quote_compare.specs.code.Sizes.{SmallAnswer}
-use Rattle.run_answer_text.specs.AnswerText.{answer_text}
-use Rattle.run_answer_text.specs.code.Sizes.{SizedAnswer}
-use Rattle.run_compare_text.specs.CompareText.{comparison_text}
-use Rattle.run_compare_text.specs.code.Sizes.{SizedComparison}
-use Rattle.run_line.specs.Line.{reply}
 use Rattle.run_line.proofs.laws.ReplyLaws.{query-small, query-sized, reply-quotes, reply-compare}
 use Rattle.run_line.proofs.put_reply.Goals as goal
 

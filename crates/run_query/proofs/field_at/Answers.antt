@@ -1,7 +1,6 @@
 -- `field_at` meets its contract: the name is missing, or the number behind it is read.
 use mathlib.Core.Bool.{not}
 use mathlib.Core.Path.{ap}
-use borrow.Author.Rules.{rules}
 use mathlib.Core.Path.{sym}
 use native.Mathlib.Omega.{arith}
 use Rattle.text_tokens.specs.laws.TextLaws.{text-room}

@@ -1,6 +1,5 @@
 -- `kind_at` meets its contract: the first word that is found gives its kind, and a word that is missing leaves those
 -- behind it.
-use borrow.Author.Rules.{rules}
 use mathlib.Core.Path.{◌≡◌, sym, ◌∙◌}
 use Prim.Native.Nat.{ℕ}
 use native.Mathlib.Omega.{arith}

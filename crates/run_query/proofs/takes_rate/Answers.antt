@@ -1,5 +1,4 @@
 -- `takes_rate` meets its contract, case by case.
-use borrow.Author.Rules.{rules}
 use mathlib.Core.Path.{sym, ap}
 use Rattle.quote_kinds.specs.Kinds.{takes_rate}
 use Rattle.run_query.proofs.takes_rate.Goals as goal

@@ -1,9 +1,6 @@
 -- What may come of reading into a buffer.
-use Rattle.std.specs.Prelude.{ℕ, ◌≤◌}
-use Rattle.run_streams.specs.declared.Input.{Input}
-use Rattle.run_streams.specs.declared.Input.TheVariants.{Read, Failed}
+use Rattle.std.specs.Prelude.{ℕ, ◌≤◌, Option, IfSome}
 
--- what was read has room in so many bytes
-abbrev pub ReadIn : ℕ → Input → Type 0
-ReadIn room (Read len) = len ≤ room
-ReadIn room Failed = Unit
+-- what was read has room in so many bytes; where reading failed, there is nothing to say
+abbrev pub ReadIn : ℕ → Option ℕ → Type 0
+ReadIn room read = IfSome read (λ len. len ≤ room)

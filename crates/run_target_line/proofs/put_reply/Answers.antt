@@ -1,5 +1,4 @@
 -- `put_reply` meets its contract: the text of what was found.
-use borrow.Author.Rules.{rules}
 use mathlib.Core.Path.{◌≡◌, sym, ap}
 use Rattle.text_tokens.specs.laws.ReadLaws.{held}
 use Rattle.text_printing.specs.laws.PutLaws.{put_as, room_as}

@@ -1,5 +1,4 @@
 -- `put_year` meets its contract: the year with its name, and right after it the line feed.
-use borrow.Author.Rules.{rules}
 use mathlib.Core.List.{◌++◌}
 use mir.Facts.{to_z-of_z}
 use Rattle.text_tokens.specs.Text.{bytes_of}

@@ -10,14 +10,14 @@ use mathlib.Core.Path.{◌≡◌, sym, ◌∙◌}
 use Prim.Native.Nat.{ℕ}
 use mathlib.Core.List.{List}
 use lib.IntN.{ℤ}
-use lib.ListN.{drop}
 use Rattle.text_tokens.specs.Text.{bytes_of, Parse, malformed, taken, and_then}
-use Rattle.text_tokens.specs.laws.ReadLaws.{lacks, has, held, read-malformed, read_taken}
+use Rattle.text_tokens.specs.laws.ReadLaws.{lacks, has, read-malformed, read_taken}
 use Rattle.text_tokens.specs.laws.Steps.{goes, stops}
 use Rattle.run_query.specs.Query.{read_field, ended}
 use Rattle.run_query.proofs.QuerySteps.{line-ended, line-goes-on}
 use Rattle.run_target_line.specs.declared.TargetQuery.{TargetQuery}
 use Rattle.run_target_line.specs.TargetLine.{read_target}
+use Rattle.run_target_line.specs.code.Code.{target_read}
 use Rattle.run_target_line.proofs.target_query_of.Goals as goal
 
 -- ---- what is still to be read
@@ -37,26 +37,26 @@ age-taken line e = goes _ e
 
 -- ---- the needs
 
-pub returns-in_default : goal.returns-in_default
+pub returns-in_err-age : goal.returns-in_err-age
 unfolding bytes_of
-returns-in_default c = sym (age-malformed _ (read-malformed _ c.field_at.ensures c.in_default.is))
+returns-in_err-age c = ap target_read c.from_residual.ensures ∙ sym (age-malformed _ (read-malformed _ c.field_at.ensures c.in_err-age.was))
 
-pub returns-in_default-field_at : goal.returns-in_default-field_at
+pub returns-in_err-target : goal.returns-in_err-target
 unfolding bytes_of
-returns-in_default-field_at c =
-    sym (age-taken _ (read_taken _ c.field_at.ensures c.in-Number.is) ∙ stops _ (read-malformed _ c.field_at-2.ensures c.in_default-field_at.is))
+returns-in_err-target c =
+    ap target_read c.from_residual-in_err-target.ensures ∙ sym (age-taken _ (read_taken _ c.field_at.ensures c.in_ok-age.was) ∙ stops _ (read-malformed _ c.field_at-2.ensures c.in_err-target.was))
 
 pub returns-then-not-ends_at : goal.returns-then-not-ends_at
 unfolding bytes_of
 returns-then-not-ends_at c =
-    sym (age-taken _ (read_taken _ c.field_at.ensures c.in-Number.is) ∙ goes _ (read_taken _ c.field_at-2.ensures c.in-Number-field_at.is)
+    sym (age-taken _ (read_taken _ c.field_at.ensures c.in_ok-age.was) ∙ goes _ (read_taken _ c.field_at-2.ensures c.in_ok-target.was)
     ∙ line-goes-on _ _ (lacks c.ends_at.ensures (ap not c.if-not-ends_at.true)))
 
 pub returns : goal.returns
 unfolding bytes_of
 returns c =
-    let f : SFits w64 c.in-Number.age = search rules in
-    let g : SFits w64 c.in-Number-field_at.target = search rules in
+    let f : SFits w64 c.in_ok-age.age = search rules in
+    let g : SFits w64 c.in_ok-target.target = search rules in
     rw (to_z-of_z f, to_z-of_z g)
-    (sym (age-taken _ (read_taken _ c.field_at.ensures c.in-Number.is) ∙ goes _ (read_taken _ c.field_at-2.ensures c.in-Number-field_at.is)
+    (sym (age-taken _ (read_taken _ c.field_at.ensures c.in_ok-age.was) ∙ goes _ (read_taken _ c.field_at-2.ensures c.in_ok-target.was)
     ∙ line-ended _ _ (has c.ends_at.ensures (ap not c.if-not-ends_at.false))))

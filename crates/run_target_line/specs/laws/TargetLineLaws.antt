@@ -1,25 +1,24 @@
 -- What follows a target's line: how great its year is and how long it is; and so how long the answer to a line is.
-use Rattle.std.specs.Prelude.{◌≡◌, refl, List, ℕ, ◌+◌, ◌^◌, ◌≤◌, ◌<◌, T, ℤ, pos, ◌+ℤ◌, nat_abs, length}
+use Rattle.std.specs.Prelude.{◌≡◌, refl, ℕ, ◌^◌, ◌≤◌, ◌<◌, T, ℤ, pos, ◌+ℤ◌, nat_abs, length, Ok, Err}
 use Rattle.std.proofs.Common.{arith, length-append}
 use Rattle.number_whole.specs.code.Sizes.{Under}
 use Rattle.number_whole.proofs.laws.Bound.{under-add, under-pos}
-use Rattle.text_tokens.specs.Text.{bytes_of, taken}
-use Rattle.text_tokens.specs.Number.{most_digits, number_text}
+use Rattle.text_tokens.specs.Text.{bytes_of}
+use Rattle.text_tokens.specs.Number.{most_digits}
 use Rattle.text_tokens.specs.laws.DecimalLaws.{number-length}
 use Rattle.set_params.specs.declared.Params.{Params}
 use Rattle.set_params.specs.Limits.{quote_years, last_start}
 use Rattle.set_limits.specs.InLimits.{in_limits}
 use Rattle.set_limits.specs.laws.LimitsLaws.{in-limits-start}
 use Rattle.quote_target.specs.declared.TargetYear.{TargetYear}
-use Rattle.quote_target.specs.declared.TargetYear.TheVariants.{Reached, Open, Never, Refused}
-use Rattle.quote_target.specs.Target.{target_answer}
+use Rattle.quote_target.specs.declared.TargetYear.TheVariants.{Reached, Open, Never}
+use Rattle.quote_target.specs.Target.{TargetAnswer, target_answer}
 use Rattle.quote_target.proofs.laws.Theorem.{honest}
 use Rattle.quote_target.proofs.laws.PeriodLaws.{start_under}
 use Rattle.run_answer_text.proofs.laws.Lengths.{refused-length}
 use Rattle.run_answer_text.proofs.laws.LineLaws.{Bounded, Lengths, ReadsText, text-lengths, answered-bounded}
-use Rattle.run_target_line.specs.declared.TargetQuery.{TargetQuery}
-use Rattle.run_target_line.specs.TargetLine.{read_target, year_text, found_text, target_reply, target_line, most_target}
-use Rattle.run_target_line.specs.code.Code.{SizedFound}
+use Rattle.run_target_line.specs.TargetLine.{read_target, year_text, told_text, found_text, target_reply, target_line, most_target}
+use Rattle.run_target_line.specs.code.Code.{SizedTold, SizedFound}
 use Rattle.run_target_line.specs.laws.TargetQueryLaws.{target_text, target-text, target-between}
 
 -- ---- a line
@@ -36,25 +35,29 @@ year-small : (start : ℤ) (n : ℕ) → Under start last_start → n ≤ quote_
 year-small start n u h = omega (arith, under-add u (under-pos {k = quote_years} h))
 
 pub found-sized : (p : Params) → T (in_limits p) → (age target : ℤ) → SizedFound (target_answer p age target)
-unfolding SizedFound
+unfolding SizedFound SizedTold
 found-sized p t age target = go (target_answer p age target) refl
   where
-    go : (r : TargetYear) → target_answer p age target ≡ r → SizedFound r
-    go (Reached year) e =
+    go : (r : TargetAnswer) → target_answer p age target ≡ r → SizedFound r
+    go (Ok (Reached year)) e =
         let y = (honest p age target).named year e in
         rw y.is (year-small p.start y.number (start_under (in-limits-start p t)) y.last)
-    go Open e = tt
-    go Never e = tt
-    go (Refused r) e = tt
+    go (Ok Open) e = tt
+    go (Ok Never) e = tt
+    go (Err r) e = tt
 
 -- ---- lengths
 
-found-length : (r : TargetYear) → length (found_text r) ≤ 23
-unfolding found_text year_text bytes_of
-found-length (Reached year) = simp length-append (omega (arith, number-length year))
-found-length Open = omega arith
-found-length Never = omega arith
-found-length (Refused r) = omega (arith, refused-length r)
+told-length : (t : TargetYear) → length (told_text t) ≤ 23
+unfolding told_text year_text bytes_of
+told-length (Reached year) = simp length-append (omega (arith, number-length year))
+told-length Open = omega arith
+told-length Never = omega arith
+
+found-length : (r : TargetAnswer) → length (found_text r) ≤ 23
+unfolding found_text
+found-length (Ok told) = told-length told
+found-length (Err r) = omega (arith, refused-length r)
 
 pub target-bounded : (p : Params) → Bounded most_target (target_line p)
 unfolding target_reply

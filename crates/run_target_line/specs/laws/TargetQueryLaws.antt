@@ -1,6 +1,6 @@
 -- A target's query and its line: the line of a query reads as the query, and what reads as a query is its line. And how long a
 -- query's text is.
-use Rattle.std.specs.Prelude.{◌≡◌, refl, ℕ, ◌+◌, ◌^◌, ◌≤◌, ◌<◌, List, [], ◌++◌, nat_abs, length}
+use Rattle.std.specs.Prelude.{◌≡◌, ℕ, ◌^◌, ◌≤◌, ◌<◌, List, [], ◌++◌, nat_abs, length}
 use Rattle.std.proofs.Common.{◌∙◌, arith, append_assoc, length-append}
 use Rattle.text_tokens.specs.Text.{bytes_of, taken}
 use Rattle.text_tokens.specs.Number.{most_digits, is_digit, number_text}

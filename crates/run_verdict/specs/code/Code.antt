@@ -1,9 +1,7 @@
 -- Where a year's line ends: what the reader of one tells of its place.
-use Rattle.std.specs.Prelude.{ℕ, ◌≤◌}
-use Rattle.text_tokens.specs.declared.NumberRead.{NumberRead}
-use Rattle.text_tokens.specs.declared.NumberRead.TheVariants.{Malformed, Number}
+use Rattle.std.specs.Prelude.{ℕ, ◌≤◌, ℤ, Option, None, Some}
 
 -- the place after a number that was read is within n bytes
-abbrev pub PlaceIn : ℕ → NumberRead → Type 0
-PlaceIn n Malformed = Unit
-PlaceIn n (Number v next) = next ≤ n
+abbrev pub PlaceIn : ℕ → Option (ℤ × ℕ) → Type 0
+PlaceIn n None = Unit
+PlaceIn n (Some (v, next)) = next ≤ n

@@ -1,13 +1,12 @@
 -- How long a line is.
-use Rattle.std.specs.Prelude.{◌≤◌, ℤ, length}
+use Rattle.std.specs.Prelude.{◌≤◌, ℤ, length, Ok, Err}
 use Rattle.std.proofs.Common.{arith, length-append}
 use Rattle.text_tokens.specs.Text.{bytes_of}
 use Rattle.text_tokens.specs.laws.DecimalLaws.{number-length}
 use Rattle.run_answer_text.proofs.laws.Lengths.{refused-length}
 use Rattle.quote_verdicts.specs.declared.Verdict.{Verdict}
 use Rattle.quote_verdicts.specs.declared.Verdict.TheVariants.{Right, Wrong, Open}
-use Rattle.quote_verdicts.specs.declared.Judged.{Judged}
-use Rattle.quote_verdicts.specs.declared.Judged.TheVariants.{Of, Refused}
+use Rattle.quote_verdicts.specs.Verdict.{Judged}
 use Rattle.quote_verdicts.specs.Verdict.{verdict_word}
 use Rattle.run_verdict_text.specs.VerdictText.{word_text, judged_text, verdict_line, most_verdict}
 
@@ -19,8 +18,8 @@ word-length Open = omega arith
 
 judged-length : (j : Judged) → length (judged_text j) ≤ 15
 unfolding judged_text
-judged-length (Of v) = word-length v
-judged-length (Refused r) = omega (arith, refused-length r)
+judged-length (Ok v) = word-length v
+judged-length (Err r) = omega (arith, refused-length r)
 
 pub line-most : (year : ℤ) (j : Judged) → length (verdict_line year j) ≤ most_verdict
 unfolding verdict_line bytes_of

@@ -8,21 +8,21 @@ use Rattle.run_verdict_text.proofs.put_judged.Goals as goal
 pub put_word-requires : goal.put_word-requires
 unfolding judged_text
 put_word-requires c =
-    room_as (ap judged_text c.in-Of.is) c.requires
+    room_as (ap judged_text c.in-Ok.is) c.requires
 
 pub put_refused-requires : goal.put_refused-requires
 unfolding judged_text
 put_refused-requires c =
-    room_as (ap judged_text c.in-Refused.is) c.requires
+    room_as (ap judged_text c.in-Err.is) c.requires
 
-pub returns-in-Of : goal.returns-in-Of
+pub returns-in-Ok : goal.returns-in-Ok
 unfolding judged_text
-returns-in-Of c =
-    put_as (sym (ap judged_text c.in-Of.is))
+returns-in-Ok c =
+    put_as (sym (ap judged_text c.in-Ok.is))
     c.put_word.ensures
 
-pub returns-in-Refused : goal.returns-in-Refused
+pub returns-in-Err : goal.returns-in-Err
 unfolding judged_text
-returns-in-Refused c =
-    put_as (sym (ap judged_text c.in-Refused.is))
+returns-in-Err c =
+    put_as (sym (ap judged_text c.in-Err.is))
     c.put_refused.ensures

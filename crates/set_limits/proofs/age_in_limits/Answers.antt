@@ -1,35 +1,15 @@
 -- `age_in_limits` meets its contract: the four tests in their order, up to the first that fails.
-use mathlib.Core.Bool.{not}
-use mathlib.Core.Path.{ap}
 use borrow.Author.Rules.{rules}
-use mathlib.Core.Path.{◌≡◌, refl}
-use mathlib.Core.Bool.{Bool, ◌&&◌}
+use Rattle.std.proofs.Common.{◌≡◌, refl, ◌∙◌, Bool, ◌&&◌}
 use mir.Syntax.{w64}
 use mir.Val.{SFits}
 use Rattle.set_params.specs.declared.Age.{Age}
 use Rattle.set_params.specs.Limits.{level_limit, slope_limit, within}
 use Rattle.set_limits.specs.InLimits.{age_in_limits}
-use Rattle.set_limits.proofs.Sizes.{tested, fails, passes}
+use Rattle.set_limits.proofs.Sizes.{tested, then-both, else-both, four-regrouped}
 use Rattle.set_limits.proofs.age_in_limits.Goals as goal
-use Rattle.set_limits.proofs.age_in_limits.Tie as tie
-use Rattle.set_limits.proofs.age_in_limits.Lts as lts
-use Rattle.set_limits.proofs.age_in_limits.Reads as reads
-
--- ---- the age, after each test
-
-abbrev age₁ : lts.After-within tie.the-claims reads.Pre reads.Post → Age
-age₁ c = c.before.before.args.a
-
-abbrev age₂ : lts.After-within2 tie.the-claims reads.Pre reads.Post → Age
-age₂ c = age₁ c.before.before.before
-
-abbrev age₃ : lts.After-within3 tie.the-claims reads.Pre reads.Post → Age
-age₃ c = age₂ c.before.before.before
-
-abbrev age₄ : goal.After-within-4 → Age
-age₄ c = age₃ c.before.before.before
-
--- ---- what each test says
+use Rattle.set_limits.proofs.age_in_limits.Goals.{then-within, else-within, then-within-2, else-within-2}
+use Rattle.set_limits.proofs.age_in_limits.Goals.{Start, Joined-within-2}
 
 record Fields (a : Age) : Type 0 where
   level : SFits w64 a.level
@@ -37,57 +17,42 @@ record Fields (a : Age) : Type 0 where
   alpha : SFits w64 a.alpha
   beta : SFits w64 a.beta
 
-fields₁ : (c : lts.After-within tie.the-claims reads.Pre reads.Post) → Fields (age₁ c)
-fields₁ c =
-    let s = c.before.before in
-    record { level = search rules; slope = search rules; alpha = search rules; beta = search rules }
+fields : (s : Start) → Fields s.args.a
+fields s = record { level = search rules; slope = search rules; alpha = search rules; beta = search rules }
 
-fields₂ : (c : lts.After-within2 tie.the-claims reads.Pre reads.Post) → Fields (age₂ c)
-fields₂ c = fields₁ c.before.before.before
+-- the first three tests
+abbrev three : Age → Bool
+three a = (within level_limit a.level && within slope_limit a.slope) && within level_limit a.alpha
 
-fields₃ : (c : lts.After-within3 tie.the-claims reads.Pre reads.Post) → Fields (age₃ c)
-fields₃ c = fields₂ c.before.before.before
-
-fields₄ : (c : goal.After-within-4) → Fields (age₄ c)
-fields₄ c = fields₃ c.before.before.before
-
-level-test : (c : lts.After-within tie.the-claims reads.Pre reads.Post) → c.within.result ≡ within level_limit (age₁ c).level
-level-test c = tested level_limit c.within.ensures (fields₁ c).level refl
-
-slope-test : (c : lts.After-within2 tie.the-claims reads.Pre reads.Post) → c.within-2.result ≡ within slope_limit (age₂ c).slope
-slope-test c = tested slope_limit c.within-2.ensures (fields₂ c).slope refl
-
-alpha-test : (c : lts.After-within3 tie.the-claims reads.Pre reads.Post) → c.within-3.result ≡ within level_limit (age₃ c).alpha
-alpha-test c = tested level_limit c.within-3.ensures (fields₃ c).alpha refl
-
-beta-test : (c : goal.After-within-4) → c.within-4.result ≡ within slope_limit (age₄ c).beta
-beta-test c = tested slope_limit c.within-4.ensures (fields₄ c).beta refl
-
--- ---- past the tests that passed
-
-past-level : (c : lts.Else1 tie.the-claims reads.Pre reads.Post) {x b : Bool} → x ≡ b → x ≡ (within level_limit (age₁ c.before).level && b)
-past-level c e = passes (ap not c.if-not-within.false) (level-test c.before) e
-
-past-slope : (c : lts.Else2 tie.the-claims reads.Pre reads.Post) {x b : Bool} → x ≡ b → let a = age₂ c.before in
-    x ≡ (within level_limit a.level && (within slope_limit a.slope && b))
-past-slope c e = past-level c.before.before.before (passes (ap not c.if-not-within-2.false) (slope-test c.before) e)
-
--- ---- the needs
-
-pub returns-then-not-within : goal.returns-then-not-within
+-- with the last one they are the age's
+all : (a : Age) → (three a && within slope_limit a.beta) ≡ age_in_limits a
 unfolding age_in_limits
-returns-then-not-within c = fails _ (ap not c.if-not-within.true) (level-test c.before)
+all a =
+    four-regrouped (within level_limit a.level) (within slope_limit a.slope) (within level_limit a.alpha) (within slope_limit a.beta)
 
-pub returns-then-not-within-2 : goal.returns-then-not-within-2
-unfolding age_in_limits
-returns-then-not-within-2 c = past-level c.before.before.before (fails _ (ap not c.if-not-within-2.true) (slope-test c.before))
+first-three : (c : Joined-within-2) → Fields c.args.a → c.if-within-2.value ≡ three c.args.a
+first-three c f =
+    let both : c.if-within.value ≡ (within level_limit c.args.a.level && within slope_limit c.args.a.slope) =
+    elim c.if-within.branch [
+      | then-within w ↦
+          then-both w.if-within.true (tested level_limit c.within.ensures f.level) (tested slope_limit w.within-then-within.ensures f.slope)
+          w.value-is
+      | else-within w ↦ else-both _ w.if-within.false (tested level_limit c.within.ensures f.level) w.value-is
+    ] in
+    elim c.if-within-2.branch [
+      | then-within-2 w ↦ then-both w.if-within-2.true both (tested level_limit w.within-then-within-2.ensures f.alpha) w.value-is
+      | else-within-2 w ↦ else-both _ w.if-within-2.false both w.value-is
+    ]
 
-pub returns-then-not-within-3 : goal.returns-then-not-within-3
-unfolding age_in_limits
-returns-then-not-within-3 c = past-slope c.before.before.before (fails _ (ap not c.if-not-within-3.true) (alpha-test c.before))
+pub returns-then-within-3 : goal.returns-then-within-3
+returns-then-within-3 c =
+    let w = goal.at.returns-then-within-3 c in
+    let f = fields w.Start in
+    then-both c.if-within-3.true (first-three w.Joined-within-2 f) (tested slope_limit c.within-then-within-3.ensures f.beta) refl
+    ∙ all c.args.a
 
-pub returns : goal.returns
-unfolding age_in_limits
-returns c =
-    let e = c.before.before in
-    past-slope e.before.before.before (passes (ap not e.if-not-within-3.false) (alpha-test e.before) (beta-test c))
+pub returns-else-within-3 : goal.returns-else-within-3
+returns-else-within-3 c =
+    let w = goal.at.returns-else-within-3 c in
+    else-both (within slope_limit c.args.a.beta) c.if-within-3.false (first-three w.Joined-within-2 (fields w.Start)) refl
+    ∙ all c.args.a

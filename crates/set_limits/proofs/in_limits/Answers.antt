@@ -1,36 +1,21 @@
--- `in_limits` meets its contract. The loop's invariant: the ages before x are in limits. The measure is how many are
--- left. A set of AG2014 needs no test of kappa, by `steady-kappa`.
-use mathlib.Core.Bool.{not}
+-- `in_limits` meets its contract. The loop's invariant: the ages before x are in limits. A set of AG2014 needs no test of
+-- kappa, by `steady-kappa`.
 use borrow.Author.Rules.{rules}
-use mathlib.Core.Path.{◌≡◌, refl, ap, sym, ◌∙◌}
-use mathlib.Core.Bool.{Bool, true, ◌&&◌}
-use Prim.Native.Nat.{◌≤◌, ◌<◌, ◌-◌}
-use native.Mathlib.Numerals.{add-one}
-use native.Mathlib.Omega.{arith}
-use borrow.Author.Tests.{not-true, not-false}
-use lib.Dec.{T}
+use Rattle.std.proofs.Common.{◌≡◌, refl, sym, ap, ◌∙◌, Bool, true, ◌&&◌, T, add-one, arith}
 use mir.Syntax.{w64}
 use mir.Val.{SFits}
 use mir.Facts.{to_z-of_z}
 use Rattle.set_params.specs.declared.Params.{Params}
-use Rattle.set_params.specs.Set.{ages, age_of, dynamics_of}
+use Rattle.set_params.specs.Set.{ages, dynamics_of}
 use Rattle.set_params.specs.laws.SetLaws.{four-age}
 use Rattle.set_limits.specs.InLimits.{all_below, table_in_limits, series_in_limits, age_in_limits, kappa_in_limits, in_limits}
 use Rattle.set_limits.specs.laws.LimitsLaws.{age_test, all-out, dynamics-within, steady-kappa}
-use Rattle.set_limits.proofs.Sizes.{fails, passes}
 use Rattle.set_limits.proofs.in_limits.Goals as goal
-use Rattle.set_limits.proofs.in_limits.Tie as tie
-use Rattle.set_limits.proofs.in_limits.Lts as lts
-use Rattle.set_limits.proofs.in_limits.Reads as reads
-
--- the turn of the loop that reads an age
-abbrev turn : lts.After-age_of_runs tie.the-claims reads.Pre reads.Post goal.the-invariant-loop-x goal.the-decreases-loop-x → lts.At-loop tie.the-claims reads.Pre reads.Post goal.the-invariant-loop-x goal.the-decreases-loop-x
-turn c = c.before.before.before.before.before.before
-
--- the test of an age is that of the set's
-age-tested : (c : lts.After-age_in_limits tie.the-claims reads.Pre reads.Post goal.the-invariant-loop-x goal.the-decreases-loop-x) → let l = turn c.before in
-    c.age_in_limits.result ≡ age_test l.before.before.before.before.before.before.before.args.p l.loop-x.x
-age-tested c = c.age_in_limits.ensures ∙ ap age_in_limits (c.before.age_of_runs-age.ensures ∙ four-age _ _)
+use Rattle.set_limits.proofs.in_limits.Goals.{
+  then-not-table_in_limits-via-then-not-table_in_limits,
+  then-not-table_in_limits-via-else-not-table_in_limits+then-not-series_in_limits,
+}
+use Rattle.set_limits.proofs.in_limits.Goals.{Start, Else-not-series_in_limits, After-loop-x}
 
 -- the set's numbers that are tested one by one
 record Fields (p : Params) : Type 0 where
@@ -40,94 +25,78 @@ record Fields (p : Params) : Type 0 where
   c : SFits w64 p.c
   kappa : SFits w64 p.kappa
 
-fields : (s : lts.Start tie.the-claims reads.Pre reads.Post goal.the-invariant-loop-x goal.the-decreases-loop-x) → Fields s.args.p
+fields : (s : Start) → Fields s.args.p
 fields s = record { start = search rules; a = search rules; theta = search rules; c = search rules; kappa = search rules }
 
--- the test of the start and c is that of the set's
-table-tested : (c : lts.After-table_in_limits tie.the-claims reads.Pre reads.Post goal.the-invariant-loop-x goal.the-decreases-loop-x) → let p = c.before.before.before.args.p in
-    c.table_in_limits.result ≡ table_in_limits p.table p.start p.c
-table-tested c =
-    let f = fields c.before.before.before in
-    rw (to_z-of_z f.start, to_z-of_z f.c) at c.table_in_limits.ensures
+-- the tests before the ages' passed
+record Begun (p : Params) : Type 0 where
+  table : true ≡ table_in_limits p.table p.start p.c
+  series : true ≡ series_in_limits p
 
--- past the tests before the ages'
-before-ages : (c : lts.Else2 tie.the-claims reads.Pre reads.Post goal.the-invariant-loop-x goal.the-decreases-loop-x) {x b : Bool} → x ≡ b
-    → let p = c.before.before.before.before.before.before.args.p in
-    x ≡ (table_in_limits p.table p.start p.c && (series_in_limits p && b))
-before-ages c e =
-    let t = c.before.before in
-    passes (ap not t.if-not-table_in_limits.false) (table-tested t.before) (passes (ap not c.if-not-series_in_limits.false) c.before.series_in_limits.ensures e)
+begun : (c : Else-not-series_in_limits) → Fields c.args.p → Begun c.args.p
+begun c f =
+    record { table = rw (to_z-of_z f.start, to_z-of_z f.c) at c.if-not-table_in_limits.ensures; series = c.if-not-series_in_limits.ensures }
 
-table-in : (c : lts.Else2 tie.the-claims reads.Pre reads.Post goal.the-invariant-loop-x goal.the-decreases-loop-x) → let p = c.before.before.before.before.before.before.args.p in
-    T (table_in_limits p.table p.start p.c)
-table-in c =
-    let t = c.before.before in
-    rw (← table-tested t.before, not-false t.before.table_in_limits.result (ap not t.if-not-table_in_limits.false)) tt
+module _ (p : Params) (b : Begun p) where
+  -- the others decide
+  others : {x : Bool} → x ≡ (all_below (age_test p) ages && kappa_in_limits (dynamics_of p) p.kappa) → x ≡ in_limits p
+  unfolding in_limits
+  others e = rw (← b.table, ← b.series) e
 
-series-in : (c : lts.Else2 tie.the-claims reads.Pre reads.Post goal.the-invariant-loop-x goal.the-decreases-loop-x) → let p = c.before.before.before.before.before.before.args.p in
-    T (series_in_limits p)
-series-in c = rw (← c.before.series_in_limits.ensures, not-false c.before.series_in_limits.result (ap not c.if-not-series_in_limits.false)) tt
+  table-in : T (table_in_limits p.table p.start p.c)
+  table-in = rw (← b.table) tt
 
--- all ages are in limits
-ages-in : (c : lts.After-loop tie.the-claims reads.Pre reads.Post goal.the-invariant-loop-x goal.the-decreases-loop-x) → let p = c.before.before.before.before.before.before.before.before.args.p in
-    all_below (age_test p) ages ≡ true
-ages-in c =
-    let l = c.before in
-    let h : l.loop-x.x ≡ ages = omega arith in
-    rw h at l.loop-x.invariant.1
+  series-in : T (series_in_limits p)
+  series-in = rw (← b.series) tt
 
 pub returns-then-not-table_in_limits : goal.returns-then-not-table_in_limits
 unfolding in_limits
-returns-then-not-table_in_limits c = fails _ (ap not c.if-not-table_in_limits.true) (table-tested c.before)
-
-pub returns-then-not-series_in_limits : goal.returns-then-not-series_in_limits
-unfolding in_limits
-returns-then-not-series_in_limits c =
-    let t = c.before.before in
-    passes (ap not t.if-not-table_in_limits.false) (table-tested t.before) (fails _ (ap not c.if-not-series_in_limits.true) c.before.series_in_limits.ensures)
+returns-then-not-table_in_limits c =
+    let f = fields (goal.at.returns-then-not-table_in_limits c).Start in
+    let t = rw (to_z-of_z f.start, to_z-of_z f.c) at c.table_in_limits.ensures in
+    elim c.then-not-table_in_limits.branch [
+      | then-not-table_in_limits-via-then-not-table_in_limits w ↦ rw (← t, w.if-not-table_in_limits.true)
+      | then-not-table_in_limits-via-else-not-table_in_limits+then-not-series_in_limits w ↦
+          rw (← t, w.if-not-table_in_limits.false, ← w.series_in_limits.ensures, w.if-not-series_in_limits.true)
+    ]
 
 pub loop-x-init : goal.loop-x-init
 unfolding all_below
-loop-x-init c = (omega arith, refl)
+loop-x-init c = refl
 
 pub returns-then-not-age_in_limits : goal.returns-then-not-age_in_limits
-unfolding in_limits
 returns-then-not-age_in_limits c =
-    let l = turn c.before.before in
-    let a = c.before.age_in_limits in
-    let h : l.loop-x.x < ages = omega arith in
-    let e = sym (age-tested c.before) ∙ not-true a.result (ap not c.if-not-age_in_limits.true) in
-    before-ages l.before (rw (all-out _ _ ages h e))
+    let w = goal.at.returns-then-not-age_in_limits c in
+    let e = ap age_in_limits (c.age_of_runs-age.ensures ∙ four-age c.args.p c.loop-x.x) in
+    let out = all-out (age_test c.args.p) c.loop-x.x ages c.loop-x-test.true (sym (c.if-not-age_in_limits.ensures ∙ e)) in
+    others c.args.p (begun w.Else-not-series_in_limits (fields w.Start)) (rw out)
 
 pub loop-x-preserved : goal.loop-x-preserved
 unfolding all_below
 loop-x-preserved c =
-    let l = (turn c.before.before).loop-x in
-    let a = c.before.age_in_limits in
-    (search rules, rw (add-one l.x, l.invariant.1, ← age-tested c.before, not-false a.result (ap not c.if-not-age_in_limits.false)))
+    let e = ap age_in_limits (c.age_of_runs-age.ensures ∙ four-age c.args.p c.loop-x.x) in
+    rw (add-one c.loop-x.x, c.loop-x.invariant) (sym (c.if-not-age_in_limits.ensures ∙ e))
+
+-- all ages are in limits
+ages-in : (c : After-loop-x) → all_below (age_test c.args.p) ages ≡ true
+ages-in c = let e : c.loop-x.x ≡ ages = omega arith in rw e at c.loop-x.invariant
 
 pub returns-in-Ag2014 : goal.returns-in-Ag2014
-unfolding in_limits
 returns-in-Ag2014 c =
-    let e = c.before in
-    let s = e.before.before in
-    before-ages s (rw (ages-in e, steady-kappa _ c.in-Ag2014.is (table-in s) (series-in s)))
-
--- the loop's end, before kappa is walked
-abbrev ended : goal.After-struct_told-in-LiLee-4-1 → lts.After-loop tie.the-claims reads.Pre reads.Post goal.the-invariant-loop-x goal.the-decreases-loop-x
-ended c = c.before.before.before.before.before
+    let w = goal.at.returns-in-Ag2014 c in
+    let b = begun w.Else-not-series_in_limits (fields w.Start) in
+    others c.args.p b (rw (ages-in w.After-loop-x, steady-kappa _ c.in-Ag2014.is (table-in _ b) (series-in _ b)))
 
 pub kappa_in_limits-requires : goal.kappa_in_limits-requires
 kappa_in_limits-requires c =
-    let s = (ended c).before.before in
-    let f = fields s.before.before.before.before.before.before in
-    rw (to_z-of_z f.a, to_z-of_z f.theta, to_z-of_z f.c) (dynamics-within _ (table-in s) (series-in s))
+    let w = goal.at.kappa_in_limits-requires c in
+    let f = fields w.Start in
+    let b = begun w.Else-not-series_in_limits f in
+    rw (to_z-of_z f.a, to_z-of_z f.theta, to_z-of_z f.c) (dynamics-within _ (table-in _ b) (series-in _ b))
 
 pub returns-in-LiLee : goal.returns-in-LiLee
-unfolding in_limits
 returns-in-LiLee c =
-    let e = ended c.before in
-    let s = e.before.before in
-    let f = fields s.before.before.before.before.before.before in
+    let w = goal.at.returns-in-LiLee c in
+    let f = fields w.Start in
     let k = rw (to_z-of_z f.a, to_z-of_z f.theta, to_z-of_z f.c, to_z-of_z f.kappa) at c.kappa_in_limits.ensures in
-    before-ages s (rw (ages-in e) k)
+    others c.args.p (begun w.Else-not-series_in_limits f) (rw (ages-in w.After-loop-x) k)

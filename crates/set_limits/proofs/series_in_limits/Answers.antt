@@ -1,11 +1,7 @@
 -- `series_in_limits` meets its contract: the five tests in their order, up to the first that fails. K and theta have
 -- passed theirs where K + 171·theta is formed, so that it does not overflow.
-use mathlib.Core.Bool.{not}
 use borrow.Author.Rules.{rules}
-use mathlib.Core.Path.{◌≡◌, refl, ap, ◌∙◌}
-use mathlib.Core.Bool.{Bool, ◌&&◌}
-use Prim.Native.Nat.{◌*◌}
-use lib.IntN.{ℤ, pos, ◌+ℤ◌, ◌*ℤ◌}
+use Rattle.std.proofs.Common.{◌≡◌, refl, ap, ◌∙◌, Bool, true, ◌&&◌, ◌*◌, ℤ, pos, ◌+ℤ◌, ◌*ℤ◌}
 use mir.Syntax.{w64}
 use mir.Val.{SFits, to_z, of_z}
 use Rattle.number_whole.specs.code.Sizes.{Under}
@@ -13,11 +9,10 @@ use Rattle.number_whole.proofs.laws.Bound.{under-lit, under-add, under-mul, fits
 use Rattle.set_params.specs.declared.Params.{Params}
 use Rattle.set_params.specs.Limits.{a_limit, theta_limit, period_limit, kappa_limit, last_years, within}
 use Rattle.set_limits.specs.InLimits.{series_in_limits}
-use Rattle.set_limits.proofs.Sizes.{tested, passed, fails, passes}
+use Rattle.set_limits.proofs.Sizes.{tested, passed, then-both, else-both, regrouped, last-two}
 use Rattle.set_limits.proofs.series_in_limits.Goals as goal
-use Rattle.set_limits.proofs.series_in_limits.Tie as tie
-use Rattle.set_limits.proofs.series_in_limits.Lts as lts
-use Rattle.set_limits.proofs.series_in_limits.Reads as reads
+use Rattle.set_limits.proofs.series_in_limits.Goals.{then-within, else-within, then-within-2, else-within-2, then-within-3, else-within-3}
+use Rattle.set_limits.proofs.series_in_limits.Goals.{Start, Joined-within-2, Joined-within-3}
 
 -- ---- K + 171·theta in 64 bits
 
@@ -38,24 +33,7 @@ module _ {t k : ℤ} (u : Under t theta_limit) (v : Under k period_limit) where
       ≡ k +ℤ pos last_years *ℤ t
   last-back = rw (years-back, back v tt) (back (under-add v years-under) tt)
 
--- ---- the set, after each test
-
-abbrev set₁ : lts.After-within tie.the-claims reads.Pre reads.Post → Params
-set₁ c = c.before.before.args.p
-
-abbrev set₂ : lts.After-within2 tie.the-claims reads.Pre reads.Post → Params
-set₂ c = set₁ c.before.before.before
-
-abbrev set₃ : lts.After-within3 tie.the-claims reads.Pre reads.Post → Params
-set₃ c = set₂ c.before.before.before
-
-abbrev set₄ : lts.After-within4 tie.the-claims reads.Pre reads.Post → Params
-set₄ c = set₃ c.before.before.before.before.before.before
-
-abbrev set₅ : goal.After-within-5 → Params
-set₅ c = set₄ c.before.before.before
-
--- ---- what each test says
+-- ---- the tests
 
 record Fields (p : Params) : Type 0 where
   a : SFits w64 p.a
@@ -63,92 +41,65 @@ record Fields (p : Params) : Type 0 where
   period : SFits w64 p.period
   kappa : SFits w64 p.kappa
 
-fields : (s : lts.Start tie.the-claims reads.Pre reads.Post) → Fields s.args.p
+fields : (s : Start) → Fields s.args.p
 fields s = record { a = search rules; theta = search rules; period = search rules; kappa = search rules }
 
-fields₁ : (c : lts.After-within tie.the-claims reads.Pre reads.Post) → Fields (set₁ c)
-fields₁ c = fields c.before.before
+-- the first three tests, and the first four
+abbrev three : Params → Bool
+three p = (within a_limit p.a && within theta_limit p.theta) && within period_limit p.period
 
-fields₂ : (c : lts.After-within2 tie.the-claims reads.Pre reads.Post) → Fields (set₂ c)
-fields₂ c = fields₁ c.before.before.before
+abbrev four : Params → Bool
+four p = three p && within period_limit (p.period +ℤ pos last_years *ℤ p.theta)
 
-fields₃ : (c : lts.After-within3 tie.the-claims reads.Pre reads.Post) → Fields (set₃ c)
-fields₃ c = fields₂ c.before.before.before
-
-fields₅ : (c : goal.After-within-5) → Fields (set₅ c)
-fields₅ c = fields₃ c.before.before.before.before.before.before.before.before.before
-
-a_test : (c : lts.After-within tie.the-claims reads.Pre reads.Post) → c.within.result ≡ within a_limit (set₁ c).a
-a_test c = tested a_limit c.within.ensures (fields₁ c).a refl
-
-theta-test : (c : lts.After-within2 tie.the-claims reads.Pre reads.Post) → c.within-2.result ≡ within theta_limit (set₂ c).theta
-theta-test c = tested theta_limit c.within-2.ensures (fields₂ c).theta refl
-
-period-test : (c : lts.After-within3 tie.the-claims reads.Pre reads.Post) → c.within-3.result ≡ within period_limit (set₃ c).period
-period-test c = tested period_limit c.within-3.ensures (fields₃ c).period refl
-
-theta-under : (c : lts.Else3 tie.the-claims reads.Pre reads.Post) → Under (set₃ c.before).theta theta_limit
-theta-under c = let e = c.before.before.before in passed theta_limit (ap not e.if-not-within-2.false) (theta-test e.before)
-
-period-under : (c : lts.Else3 tie.the-claims reads.Pre reads.Post) → Under (set₃ c.before).period period_limit
-period-under c = passed period_limit (ap not c.if-not-within-3.false) (period-test c.before)
-
-last-test : (c : lts.After-within4 tie.the-claims reads.Pre reads.Post)
-    → c.within-4.result ≡ within period_limit ((set₄ c).period +ℤ pos last_years *ℤ (set₄ c).theta)
-last-test c =
-    let e = c.before.before.before.before.before in
-    c.within-4.ensures ∙ ap (within period_limit) (last-back (theta-under e) (period-under e))
-
-kappa-test : (c : goal.After-within-5) → c.within-5.result ≡ within kappa_limit (set₅ c).kappa
-kappa-test c = tested kappa_limit c.within-5.ensures (fields₅ c).kappa refl
-
--- ---- past the tests that passed
-
-past-a : (c : lts.Else1 tie.the-claims reads.Pre reads.Post) {x b : Bool} → x ≡ b → x ≡ (within a_limit (set₁ c.before).a && b)
-past-a c e = passes (ap not c.if-not-within.false) (a_test c.before) e
-
-past-theta : (c : lts.Else2 tie.the-claims reads.Pre reads.Post) {x b : Bool} → x ≡ b
-    → let p = set₂ c.before in x ≡ (within a_limit p.a && (within theta_limit p.theta && b))
-past-theta c e = past-a c.before.before.before (passes (ap not c.if-not-within-2.false) (theta-test c.before) e)
-
-past-period : (c : lts.Else3 tie.the-claims reads.Pre reads.Post) {x b : Bool} → x ≡ b
-    → let p = set₃ c.before in
-    x ≡ (within a_limit p.a && (within theta_limit p.theta && (within period_limit p.period && b)))
-past-period c e = past-theta c.before.before.before (passes (ap not c.if-not-within-3.false) (period-test c.before) e)
-
-past-last : (c : lts.Else4 tie.the-claims reads.Pre reads.Post) {x b : Bool} → x ≡ b
-    → let p = set₄ c.before in
-    x ≡ (within a_limit p.a && (within theta_limit p.theta && (within period_limit p.period
-    && (within period_limit (p.period +ℤ pos last_years *ℤ p.theta) && b))))
-past-last c e =
-    past-period c.before.before.before.before.before.before
-    (passes (ap not c.if-not-within-4.false) (last-test c.before) e)
-
--- ---- the needs
-
-pub returns-then-not-within : goal.returns-then-not-within
+-- with the last one they are the set's
+all : (p : Params) → (four p && within kappa_limit p.kappa) ≡ series_in_limits p
 unfolding series_in_limits
-returns-then-not-within c = fails _ (ap not c.if-not-within.true) (a_test c.before)
+all p =
+    regrouped (within a_limit p.a) (within theta_limit p.theta) (within period_limit p.period)
+    (within period_limit (p.period +ℤ pos last_years *ℤ p.theta)) (within kappa_limit p.kappa)
 
-pub returns-then-not-within-2 : goal.returns-then-not-within-2
-unfolding series_in_limits
-returns-then-not-within-2 c = past-a c.before.before.before (fails _ (ap not c.if-not-within-2.true) (theta-test c.before))
+-- theta and K are within their limits where three pass
+small : (p : Params) {v : Bool} → v ≡ three p → v ≡ true → Under p.theta theta_limit × Under p.period period_limit
+small p e h =
+    let t = last-two (within a_limit p.a) (within theta_limit p.theta) (within period_limit p.period) (rw e at h) in
+    (passed theta_limit p.theta t.0, passed period_limit p.period t.1)
 
-pub returns-then-not-within-3 : goal.returns-then-not-within-3
-unfolding series_in_limits
-returns-then-not-within-3 c = past-theta c.before.before.before (fails _ (ap not c.if-not-within-3.true) (period-test c.before))
+first-three : (c : Joined-within-2) → Fields c.args.p → c.if-within-2.value ≡ three c.args.p
+first-three c f =
+    let both : c.if-within.value ≡ (within a_limit c.args.p.a && within theta_limit c.args.p.theta) =
+    elim c.if-within.branch [
+      | then-within w ↦ then-both w.if-within.true (tested a_limit c.within.ensures f.a) (tested theta_limit w.within-then-within.ensures f.theta) w.value-is
+      | else-within w ↦ else-both _ w.if-within.false (tested a_limit c.within.ensures f.a) w.value-is
+    ] in
+    elim c.if-within-2.branch [
+      | then-within-2 w ↦ then-both w.if-within-2.true both (tested period_limit w.within-then-within-2.ensures f.period) w.value-is
+      | else-within-2 w ↦ else-both _ w.if-within-2.false both w.value-is
+    ]
 
-pub overflow_mul-p : goal.overflow_mul-p
-overflow_mul-p c = let e = c.before.before.before in years-fit (theta-under e) (period-under e)
+first-four : (c : Joined-within-3) → c.if-within-2.value ≡ three c.args.p → c.if-within-3.value ≡ four c.args.p
+first-four c e =
+    elim c.if-within-3.branch [
+      | then-within-3 w ↦
+          let u = small c.args.p e w.if-within-3.true in
+          then-both w.if-within-3.true e (w.within-then-within-3.ensures ∙ ap (within period_limit) (last-back u.0 u.1)) w.value-is
+      | else-within-3 w ↦ else-both _ w.if-within-3.false e w.value-is
+    ]
 
 pub overflow_add-p : goal.overflow_add-p
-overflow_add-p c = let e = c.before.before.before.before.before in last_fits (theta-under e) (period-under e)
+overflow_add-p c =
+    let w = goal.at.overflow_add-p c in
+    let u = small c.args.p (first-three w.Joined-within-2 (fields w.Start)) c.if-within-3.true in last_fits u.0 u.1
 
-pub returns-then-not-within-4 : goal.returns-then-not-within-4
-unfolding series_in_limits
-returns-then-not-within-4 c =
-    past-period c.before.before.before.before.before.before (fails _ (ap not c.if-not-within-4.true) (last-test c.before))
+pub returns-then-within-4 : goal.returns-then-within-4
+returns-then-within-4 c =
+    let w = goal.at.returns-then-within-4 c in
+    let f = fields w.Start in
+    then-both c.if-within-4.true (first-four w.Joined-within-3 (first-three w.Joined-within-2 f))
+    (tested kappa_limit c.within-then-within-4.ensures f.kappa) refl
+    ∙ all c.args.p
 
-pub returns : goal.returns
-unfolding series_in_limits
-returns c = past-last c.before.before (kappa-test c)
+pub returns-else-within-4 : goal.returns-else-within-4
+returns-else-within-4 c =
+    let w = goal.at.returns-else-within-4 c in
+    else-both (within kappa_limit c.args.p.kappa) c.if-within-4.false (first-four w.Joined-within-3 (first-three w.Joined-within-2 (fields w.Start))) refl
+    ∙ all c.args.p

@@ -1,7 +1,7 @@
 -- `fine_over` meets its contract: what is cut off is a multiple of the divisor, and each number fits.
 use mathlib.Core.Path.{◌≡◌, refl, sym, ap, ◌∙◌}
 use mathlib.Core.Bool.{Bool, true, false, cond}
-use Prim.Native.Nat.{ℕ, ◌*◌, ◌≤◌, ◌<◌, ◌^◌}
+use Prim.Native.Nat.{ℕ, ◌*◌, ◌<◌, ◌^◌}
 use native.Mathlib.Omega.{arith}
 use lib.Dec.{T, ltb, lit<, lit≤}
 use lib.IntN.{ℤ, pos, ◌+ℤ◌, ◌-ℤ◌, ◌*ℤ◌}
@@ -10,13 +10,13 @@ use mir.Val.{SFits}
 use mir.Facts.{to_z-of_z}
 use Rattle.number_whole.specs.Division.{floor_div, ceil_div}
 use Rattle.number_whole.specs.code.Sizes.{Under, Divides}
-use Rattle.number_whole.proofs.laws.Bound.{bits, fits, fits-floor, fits-ceil, under-lit, under-add, under-mul, under-cond, under-floor, under-ceil, under-floor-to, under-weaken, divides}
+use Rattle.number_whole.proofs.laws.Bound.{bits, fits, under-lit, under-add, under-mul, under-cond, under-floor, under-ceil, under-floor-to, under-weaken, divides}
 use Rattle.number_whole.proofs.laws.Difference.{difference, difference-pos, difference-neg, difference-add, difference-mul, difference-eq}
 use Rattle.number_whole.proofs.laws.Shift.{floor-shift, ceil-shift, rest_over, rest_under}
 use Rattle.number_whole.proofs.Signed.{read, read-floor, sum, product, minus}
 use Rattle.number_exponential.specs.Units.{ten_trillionths}
 use Rattle.set_series.specs.Series.{coefficient_unit, in_grid}
-use Rattle.set_series.specs.code.Within.{mixed, mixed_over, mixed_limit, MixedWithin}
+use Rattle.set_series.specs.code.Within.{mixed_over, mixed_limit, MixedWithin}
 use Rattle.set_series.proofs.fine_over.Goals as goal
 
 -- ---- a number cut by m: the multiple, and what is left

@@ -17,7 +17,6 @@ use Rattle.number_whole.proofs.Signed.{read, sum, both_ends}
 use Rattle.number_exponential.specs.declared.GridUnit.{GridUnit}
 use Rattle.number_exponential.proofs.laws.Scales.{scale-most, under-scaled}
 use Rattle.number_exponential.specs.Units.{grid_of}
-use Rattle.number_exponential.specs.code.Flag.{unit_by, grid_by}
 use Rattle.set_params.specs.declared.Dynamics.{Dynamics}
 use Rattle.set_params.specs.Limits.{kappa_limit, constant_limit}
 use Rattle.set_params.specs.code.Within.{DynamicsWithin}
@@ -32,10 +31,10 @@ use Rattle.set_series.proofs.kappa_step.Lts as lts
 use Rattle.set_series.proofs.kappa_step.Reads as reads
 
 -- c, as the code reads it (written as the facts write it), in the grid's units
-added-read : (fine : Bool) {c r : ℤ} → Under c constant_limit → r ≡ in_grid (grid_by fine) (to_z w64 (of_z w64 c))
-    → bits r ≡ in_grid (grid_by fine) c
-added-read fine {c} u h =
-    let g = unit_by fine in
+added-read : (grid : GridUnit) {c r : ℤ} → Under c constant_limit → r ≡ in_grid (grid_of grid) (to_z w64 (of_z w64 c))
+    → bits r ≡ in_grid (grid_of grid) c
+added-read grid {c} u h =
+    let g = grid in
     read (rw (back u tt) at h) (fits (under-scaled g constant_limit (in_grid-under (grid_of g) u)) tt)
 
 -- each step fits and is read as the number that the definition has
@@ -95,21 +94,21 @@ start c = (grid c).before.before
 
 -- c, and the two chosen ends, as they are read
 module _ (c : goal.After-end_by-high) where
-  added : bits c.in_grid-added.result ≡ in_grid (grid_by c.args.fine) c.args.d.c
-  added = added-read c.args.fine c.requires.0.c c.in_grid-added.ensures
+  added : bits c.in_grid-added.result ≡ in_grid (grid_of c.args.grid) c.args.d.c
+  added = added-read c.args.grid c.requires.0.c c.in_grid-added.ensures
 
   low : bits (first c).end_by-low.result ≡ end_by (start c).args.d.a (start c).args.e.lower (start c).args.e.upper
-  low = let s = start c in chosen-read (unit_by s.args.fine) s.requires.0.a s.requires.1.low s.requires.1.high (first c).end_by-low.ensures
+  low = let s = start c in chosen-read s.args.grid s.requires.0.a s.requires.1.low s.requires.1.high (first c).end_by-low.ensures
 
   high : bits c.end_by-high.result ≡ end_by (start c).args.d.a (start c).args.e.upper (start c).args.e.lower
-  high = let s = start c in chosen-read (unit_by s.args.fine) s.requires.0.a s.requires.1.high s.requires.1.low c.end_by-high.ensures
+  high = let s = start c in chosen-read s.args.grid s.requires.0.a s.requires.1.high s.requires.1.low c.end_by-high.ensures
 
 pub mixed_over-requires : goal.mixed_over-requires
 mixed_over-requires c =
     let s = start c in
     let l = s.requires.0 in
     let w = s.requires.1 in
-    rw (back l.a tt, low c) (within (unit_by s.args.fine) l w (chosen-under (unit_by s.args.fine) l.a w.low w.high))
+    rw (back l.a tt, low c) (within s.args.grid l w (chosen-under s.args.grid l.a w.low w.high))
 
 pub mixed_over-requires-2 : goal.mixed_over-requires-2
 mixed_over-requires-2 m =
@@ -117,7 +116,7 @@ mixed_over-requires-2 m =
     let s = start c in
     let l = s.requires.0 in
     let w = s.requires.1 in
-    rw (back l.a tt, high c) (within (unit_by s.args.fine) l w (chosen-under (unit_by s.args.fine) l.a w.high w.low))
+    rw (back l.a tt, high c) (within s.args.grid l w (chosen-under s.args.grid l.a w.high w.low))
 
 -- the two ends
 module _ (m : goal.After-mixed_over) where
@@ -125,20 +124,20 @@ module _ (m : goal.After-mixed_over) where
   both = m.before
 
   lower : let r = bits (grid both).in_grid-added.result +ℤ bits m.mixed_over.result in
-      SFits w64 r × (bits r ≡ (kappa_step (grid_by (start both).args.fine) (start both).args.d (start both).args.e).lower)
+      SFits w64 r × (bits r ≡ (kappa_step (grid_of (start both).args.grid) (start both).args.d (start both).args.e).lower)
   lower =
       let s = start both in
-      lower-end (unit_by s.args.fine) s.requires.0 s.requires.1 (added both) (rw (back s.requires.0.a tt, low both) at m.mixed_over.ensures)
+      lower-end s.args.grid s.requires.0 s.requires.1 (added both) (rw (back s.requires.0.a tt, low both) at m.mixed_over.ensures)
 
 module _ (n : goal.After-mixed_over-2) where
   abbrev both₂ : goal.After-end_by-high
   both₂ = n.before.before
 
   upper : let r = bits (grid both₂).in_grid-added.result +ℤ bits n.mixed_over-2.result in
-      SFits w64 r × (bits r ≡ (kappa_step (grid_by (start both₂).args.fine) (start both₂).args.d (start both₂).args.e).upper)
+      SFits w64 r × (bits r ≡ (kappa_step (grid_of (start both₂).args.grid) (start both₂).args.d (start both₂).args.e).upper)
   upper =
       let s = start both₂ in
-      upper-end (unit_by s.args.fine) s.requires.0 s.requires.1 (added both₂) (rw (back s.requires.0.a tt, high both₂) at n.mixed_over-2.ensures)
+      upper-end s.args.grid s.requires.0 s.requires.1 (added both₂) (rw (back s.requires.0.a tt, high both₂) at n.mixed_over-2.ensures)
 
 pub overflow_add-lower : goal.overflow_add-lower
 overflow_add-lower c = (lower c).0

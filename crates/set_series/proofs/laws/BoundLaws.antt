@@ -1,6 +1,6 @@
 -- How far from zero the time series lie: K in every year of a table whose K is in its limits, kappa a year on, and kappa in
 -- every year where nothing is added to it.
-use Rattle.std.specs.Prelude.{◌≡◌, ℕ, zero, suc, ◌+◌, ◌*◌, ◌≤◌, ◌<◌, ℤ, pos, negsuc, ◌+ℤ◌, ◌*ℤ◌}
+use Rattle.std.specs.Prelude.{◌≡◌, ℕ, zero, suc, ◌+◌, ◌*◌, ◌≤◌, ℤ, pos, negsuc, ◌+ℤ◌, ◌*ℤ◌}
 use Rattle.std.proofs.Common.{mul-le-mul_right, le_refl, arith, lit<}
 use Rattle.number_whole.proofs.laws.Split.{split, split-add, split-scale-left}
 use Rattle.number_whole.specs.code.Sizes.{Under, Within}

@@ -1,7 +1,6 @@
 -- A number with the least or the greatest product of two ends, over 10^8: by the end that the factor's sign chooses.
 use Rattle.std.specs.Prelude.{◌≡◌, refl, Bool, true, false, cond, ℤ, pos, ◌+ℤ◌, ◌*ℤ◌}
 use Rattle.std.proofs.Math.Path.{ap}
-use Rattle.std.proofs.Common.{◌∙◌}
 use Rattle.std.specs.Int.Signed.{non_neg}
 use Rattle.number_whole.specs.Division.{floor_div, ceil_div}
 use Rattle.number_whole.proofs.laws.Split.{split, split-add, split-scale-left}

@@ -1,29 +1,28 @@
 -- `mixed_over` meets its contract, unit by unit: the coarse sum fits.
 use mathlib.Core.Path.{◌≡◌, refl, sym, ap, subst, ◌∙◌}
 use mathlib.Core.Bool.{Bool, cond}
-use Prim.Native.Nat.{◌+◌, ◌*◌, ◌≤◌}
-use native.Mathlib.Nat.{mul-le-mul_left}
+use Prim.Native.Nat.{◌*◌}
 use native.Mathlib.Omega.{arith}
 use lib.Dec.{lit≤}
-use lib.IntN.{ℤ, pos, nat_abs, ◌+ℤ◌, ◌*ℤ◌}
+use lib.IntN.{ℤ, nat_abs, ◌+ℤ◌, ◌*ℤ◌}
 use mir.Syntax.{w64}
 use mir.Val.{SFits}
 use mir.Facts.{to_z-of_z}
 use Rattle.number_whole.specs.Division.{floor_div, ceil_div}
 use Rattle.number_whole.specs.code.Sizes.{Under, Divides}
-use Rattle.number_whole.proofs.laws.Bound.{bits, fits, under-pos, under-add, under-mul, under-weaken, divides}
+use Rattle.number_whole.proofs.laws.Bound.{bits, fits, under-add, under-mul, under-weaken, divides}
 use Rattle.number_whole.proofs.Signed.{sum, product}
+use Rattle.number_exponential.specs.declared.GridUnit.{GridUnit}
 use Rattle.number_exponential.specs.Units.{billionths, grid_of}
-use Rattle.number_exponential.specs.code.Flag.{unit_by, grid_by}
 use Rattle.set_params.specs.Limits.{kappa_limit}
-use Rattle.set_series.specs.Series.{coefficient_unit, in_grid}
+use Rattle.set_series.specs.Series.{coefficient_unit}
 use Rattle.set_series.proofs.laws.Finer.{in_grid-coarse}
 use Rattle.set_series.specs.code.Within.{mixed_over, mixed_limit, MixedWithin}
 use Rattle.set_series.proofs.mixed_over.Goals as goal
 
 -- what is asked, on the grid of a unit that is known
-asked : {b d : Bool} {p c z : ℤ} → b ≡ d → MixedWithin (grid_by b) p c z → MixedWithin (grid_by d) p c z
-asked {p} {c} {z} e w = subst (λ b. MixedWithin (grid_by b) p c z) e w
+asked : {b d : GridUnit} {p c z : ℤ} → b ≡ d → MixedWithin (grid_of b) p c z → MixedWithin (grid_of d) p c z
+asked {p} {c} {z} e w = subst (λ b. MixedWithin (grid_of b) p c z) e w
 
 -- each step of the coarse sum fits and is read as it is
 module _ {p c z : ℤ} (w : MixedWithin billionths p c z) (fp : SFits w64 p) (fc : SFits w64 c) (fz : SFits w64 z) where
@@ -52,15 +51,15 @@ module _ {p c z : ℤ} (w : MixedWithin billionths p c z) (fp : SFits w64 p) (fc
 
 -- ---- the function's needs
 
-asked₁ : (c : goal.Else-fine) → let s = c.before in MixedWithin billionths s.args.p s.args.c s.args.z
-unfolding grid_of unit_by
-asked₁ c = asked c.if-fine.false c.before.requires
+asked₁ : (c : goal.In-Coarse) → let s = c.before in MixedWithin billionths s.args.p s.args.c s.args.z
+unfolding grid_of
+asked₁ c = asked c.in-Coarse.is c.before.requires
 
 pub fine_over-requires : goal.fine_over-requires
-unfolding grid_of unit_by
+unfolding grid_of
 fine_over-requires c =
     let s = c.before in
-    rw (to_z-of_z s.ranges.p, to_z-of_z s.ranges.c, to_z-of_z s.ranges.z) (asked c.if-fine.true s.requires)
+    rw (to_z-of_z s.ranges.p, to_z-of_z s.ranges.c, to_z-of_z s.ranges.z) (asked c.in-Fine.is s.requires)
 
 pub overflow_mul-c : goal.overflow_mul-c
 overflow_mul-c c = let s = c.before in (mul (asked₁ c) s.ranges.p s.ranges.c s.ranges.z).0
@@ -73,20 +72,20 @@ outward_div-requires c =
     let s = c.before in
     sum-asked (asked₁ c) s.ranges.p s.ranges.c s.ranges.z (add (asked₁ c) s.ranges.p s.ranges.c s.ranges.z).1
 
-pub returns-then-fine : goal.returns-then-fine
-unfolding grid_of unit_by
-returns-then-fine c =
+pub returns-in-Fine : goal.returns-in-Fine
+unfolding grid_of
+returns-in-Fine c =
     let a = c.before in
     let s = a.before in
     to_z-of_z {w = w64} (record { sfits = c.fine_over.type_inv })
     ∙ rw (to_z-of_z s.ranges.p, to_z-of_z s.ranges.c, to_z-of_z s.ranges.z) at c.fine_over.ensures
-    ∙ sym (ap (λ b. mixed_over (grid_by b) s.args.p s.args.c s.args.z s.args.upper) a.if-fine.true)
+    ∙ sym (ap (λ b. mixed_over (grid_of b) s.args.p s.args.c s.args.z s.args.upper) a.in-Fine.is)
 
-pub returns : goal.returns
-unfolding grid_of unit_by
-returns c =
+pub returns-in-Coarse : goal.returns-in-Coarse
+unfolding grid_of
+returns-in-Coarse c =
     let a = c.before in
     let s = a.before in
     to_z-of_z {w = w64} (record { sfits = c.outward_div.type_inv }) ∙ coarse (asked₁ a) s.ranges.p s.ranges.c s.ranges.z s.args.upper
     (add (asked₁ a) s.ranges.p s.ranges.c s.ranges.z).1 c.outward_div.ensures
-    ∙ sym (ap (λ b. mixed_over (grid_by b) s.args.p s.args.c s.args.z s.args.upper) a.if-fine.false)
+    ∙ sym (ap (λ b. mixed_over (grid_of b) s.args.p s.args.c s.args.z s.args.upper) a.in-Coarse.is)

@@ -1,6 +1,5 @@
 -- `period_index` meets its contract: n·theta and the sum fit for a series in its limits.
 use mathlib.Core.Path.{◌≡◌, refl}
-use borrow.Author.Rules.{rules}
 use lib.IntN.{pos, ◌*ℤ◌}
 use mir.Syntax.{w64}
 use mir.Val.{SFits}

@@ -21,7 +21,7 @@ use Rattle.set_refusal.specs.declared.Refusal.{Refusal}
 use Rattle.set_refusal.specs.declared.Refusal.TheVariants.{Accepted, Malformed, OutOfLimits}
 use Rattle.sheet.specs.declared.Reading.{Reading}
 use Rattle.set_refusal.specs.Refusals.{refusal_number}
-use Rattle.set_params.specs.Set.{A, B, alpha, beta, ages}
+use Rattle.set_params.specs.Set.{ages}
 use Rattle.set_params.specs.code.Runs.{Whole}
 use Rattle.set_params.specs.code.Within.{StartWithin}
 use Rattle.set_params.specs.Limits.{first_start, within}

@@ -1,8 +1,6 @@
 -- `age_len` meets its contract: an age has one digit or two, the four lines have at most 23 bytes each, and their sum
 -- is the length of them all.
-use borrow.Author.Rules.{rules}
 use mathlib.Core.Path.{◌≡◌, ap}
-use mathlib.Core.Logic.{⊎_elim}
 use Prim.Native.Nat.{ℕ, ◌+◌, ◌≤◌}
 use native.Mathlib.Omega.{arith}
 use lib.IntN.{ℤ}

@@ -1,5 +1,4 @@
 -- `line_len` meets its contract: the key, the number, `=` and the line feed.
-use borrow.Author.Rules.{rules}
 use mathlib.Core.Path.{◌≡◌, ap, ◌∙◌}
 use native.Mathlib.Omega.{arith}
 use lib.IntN.{ℤ}

@@ -1,5 +1,4 @@
 -- `series_len` meets its contract: the four lines have at most 23 bytes each, and their sum is the length of them all.
-use borrow.Author.Rules.{rules}
 use mathlib.Core.Path.{◌≡◌, ap, ◌∙◌}
 use native.Mathlib.Omega.{arith}
 use Rattle.sheet_length.specs.code.Parts.{line_length}

@@ -1,8 +1,6 @@
--- `sheet_len` meets its contract. The loop's invariant: the length of the parts up to the ages before x. The measure is
--- how many ages are left.
-use borrow.Author.Rules.{rules}
+-- `sheet_len` meets its contract. The loop's invariant: the length of the parts up to the ages before x.
 use mathlib.Core.Path.{◌≡◌, sym, ap, ap₂, subst, ◌∙◌}
-use Prim.Native.Nat.{suc, ◌+◌, ◌-◌, ◌≤◌}
+use Prim.Native.Nat.{suc}
 use native.Mathlib.Numerals.{add-one}
 use native.Mathlib.Omega.{arith}
 use lib.IntN.{ℤ}
@@ -14,8 +12,8 @@ use Rattle.set_params.specs.laws.SetLaws.{four-age}
 use Rattle.set_params.specs.code.Within.{AgeWithin}
 use Rattle.set_limits.specs.laws.LimitsLaws.{in-limits-age}
 use Rattle.sheet.proofs.laws.SheetTrip.{sheet-length}
-use Rattle.sheet_length.specs.code.Parts.{start_text, age_text, ages_text}
-use Rattle.sheet_length.specs.laws.PartsLaws.{front_length, ages-none, ages-step, ages-grow, sheet-sum}
+use Rattle.sheet_length.specs.code.Parts.{start_text, age_text}
+use Rattle.sheet_length.specs.laws.PartsLaws.{ages-none, ages-step, ages-grow, sheet-sum}
 use Rattle.sheet_length.specs.laws.Held.{SeriesHeld, series-held}
 use Rattle.sheet_length.proofs.sheet_len.Goals as goal
 
@@ -78,10 +76,10 @@ loop-x-preserved c =
     let x = c.loop-x.x in
     c.age_len-len.ensures ∙ ap (λ (a : Age). length (age_text a x)) read in
     let x = c.loop-x.x in
-    (search rules, rw (add-one x) (omega (arith, told, ages-step set x, c.loop-x.invariant.1)))
+    rw (add-one x) (omega (arith, told, ages-step set x, c.loop-x.invariant))
 
 pub returns : goal.returns
 returns c =
     let set : Params = c.args.p in
     let e : c.loop-x.x ≡ ages = omega arith in
-    omega (arith, sheet-sum set, rw e at c.loop-x.invariant.1)
+    omega (arith, sheet-sum set, rw e at c.loop-x.invariant)

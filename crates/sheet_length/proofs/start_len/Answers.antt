@@ -1,5 +1,4 @@
 -- `start_len` meets its contract: no lines in a sheet of AG2014, else two of at most 23 bytes each.
-use borrow.Author.Rules.{rules}
 use mathlib.Core.Path.{sym, ap, ◌∙◌}
 use native.Mathlib.Omega.{arith}
 use lib.ListN.{length}

@@ -1,5 +1,4 @@
 -- `table_len` meets its contract: the first line of either table.
-use borrow.Author.Rules.{rules}
 use mathlib.Core.Path.{sym}
 use Rattle.text_tokens.specs.Text.{bytes_of}
 use Rattle.sheet.specs.Sheet.{table_text}

@@ -1,5 +1,4 @@
 -- `line_count` meets its contract: the first line is LILEE's, or another.
-use borrow.Author.Rules.{rules}
 use mathlib.Core.Path.{sym, ◌∙◌}
 use Rattle.text_tokens.specs.Text.{bytes_of}
 use Rattle.sheet.specs.Sheet.{table_text}

@@ -1,18 +1,23 @@
 -- `read` meets its contract: the length, then the sheet at the front, which nothing follows.
-use borrow.Author.Rules.{rules}
-use mathlib.Core.Path.{sym, ap, ◌∙◌}
-use mathlib.Core.Bool.{Bool, cond}
-use mathlib.Core.List.{[]}
-use Rattle.text_tokens.specs.Text.{malformed, taken}
-use Rattle.sheet.specs.Sheet.{reading_of}
-use Rattle.sheet_reader.specs.laws.SheetLaws.{too_long, whole-reading}
+use mathlib.Core.Path.{sym, ◌∙◌}
+use Rattle.sheet_reader.specs.laws.SheetLaws.{too_long, none-reading, followed-reading, whole-reading}
 use Rattle.sheet_reader.proofs.read.Goals as goal
+use Rattle.sheet_reader.proofs.read.Goals.{in_default-via-in-Some+else-bytes-next, in_default-via-in_default}
 
 pub returns-then-bytes-gt-MOST_BYTES : goal.returns-then-bytes-gt-MOST_BYTES
-returns-then-bytes-gt-MOST_BYTES c = c.malformed.ensures ∙ sym (too_long _ c.if-bytes-gt-MOST_BYTES.true)
+returns-then-bytes-gt-MOST_BYTES c = c.refused.ensures ∙ sym (too_long _ c.if-bytes-gt-MOST_BYTES.true)
 
-pub returns : goal.returns
-returns c =
+pub returns-in-Some : goal.returns-in-Some
+returns-in-Some c =
     c.reading_of.ensures
-    ∙ ap (λ (w : Bool). reading_of (cond w (taken c.front-got.result.set []) malformed)) c.at_end.ensures
-    ∙ whole-reading _ c.front-got.result c.front-got.ensures c.if-bytes-gt-MOST_BYTES.false
+    ∙ sym (whole-reading _ c.if-bytes-gt-MOST_BYTES.false _ _ c.in-Some.ensures c.if-bytes-next.true)
+
+pub returns-in_default : goal.returns-in_default
+returns-in_default c =
+    let short = c.if-bytes-gt-MOST_BYTES.false in
+    c.refused-in_default.ensures
+    ∙ sym
+    (elim c.in_default.branch [
+      | in_default-via-in-Some+else-bytes-next w ↦ followed-reading _ short _ _ w.in-Some.ensures w.if-bytes-next.false
+      | in_default-via-in_default w ↦ none-reading _ short w.in_default.ensures
+    ])

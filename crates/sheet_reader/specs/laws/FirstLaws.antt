@@ -1,10 +1,10 @@
 -- The sheet at the front of some bytes: where one is read there, its text is as many lines as its table says, and those alone are
 -- read as the same set; where none is, no number of first lines is one.
-use Rattle.std.specs.Prelude.{◌≡◌, Bool, cond, ◌&&◌, ℕ, zero, suc, ◌+◌, ◌-◌, ◌/◌, ◌%◌, ◌≤◌, T, ltb, ℤ, pos, negsuc, drop}
+use Rattle.std.specs.Prelude.{◌≡◌, Bool, ◌&&◌, ℕ, zero, suc, ◌+◌, ◌-◌, ◌/◌, ◌%◌, ◌≤◌, T, ltb, ℤ, pos, negsuc, drop}
 use Rattle.std.proofs.Math.Path.{refl, sym, ap}
 use Rattle.std.proofs.Common.{◌∙◌, arith, lt→ltb, length-append, length-drop}
 use Rattle.std.proofs.Math.Bool.{true, false}
-use mathlib.Core.List.{List, [], ◌∷◌, ◌++◌, append_assoc, append-nil}
+use mathlib.Core.List.{List, [], ◌∷◌, ◌++◌, append_assoc}
 use Rattle.std.proofs.Math.Decide.{dec_le}
 use Rattle.std.specs.Float.Ieee.Fits.{and_i, and_l, and_r}
 use Rattle.std.proofs.Math.ListN.{length}
@@ -28,8 +28,6 @@ use Rattle.sheet.specs.Sheet.{most_bytes, sheet_lines, for_ages, age_keys, if_li
 use Rattle.sheet.specs.Sheet.{sex_text, sheet_text, read_front, nothing_after, read_set, refused, reading_of, read_sheet}
 use Rattle.sheet.proofs.laws.SetTrip.{keys_length, values_length}
 use Rattle.sheet.proofs.laws.SheetTrip.{front_reads, front_read, set_reads, sheet-length}
-use Rattle.sheet_set.specs.declared.SetRead.{SetRead}
-use Rattle.sheet_set.specs.code.Ages.{set_read}
 use Rattle.sheet_reader.specs.Front.{table_at, front_lines, sheet_of, sheet_end}
 use Rattle.sheet_reader.specs.laws.SheetLaws.{too_long, not-too-long}
 
@@ -169,18 +167,12 @@ other-lines bs m = rw (text-missing bs 0 (table_text LiLee) m, table_at)
 
 -- ---- by what the code read
 
-module _ (bytes : List ℕ) (r : SetRead) (e : set_read bytes r ≡ read_front bytes) where
+module _ (bytes : List ℕ) (p : Params) (next : ℕ) (e : taken p (drop next bytes) ≡ read_front bytes) where
   -- its reading
-  pub first-reading : reading_of (cond r.ok (taken r.set []) malformed) ≡ sheet_of bytes
-  unfolding reading_of
-  first-reading = go r.ok refl
-    where
-      go : (b : Bool) → r.ok ≡ b → reading_of (cond b (taken r.set []) malformed) ≡ sheet_of bytes
-      go true o = sym (first_read bytes r.set (drop r.next bytes) (sym e ∙ rw o))
-      go false o = sym (first-none bytes (sym e ∙ rw o))
+  pub first-reading : sheet_of bytes ≡ reading_of (taken p [])
+  first-reading = first_read bytes p (drop next bytes) (sym e)
 
   -- and where it ends
-  pub first-place : r.ok ≡ true → sheet_end bytes + (length bytes - r.next) ≡ length bytes
-  first-place o =
-      ap (λ (n : ℕ). sheet_end bytes + n) (sym (length-drop r.next bytes))
-      ∙ first_ends bytes r.set (drop r.next bytes) (sym e ∙ rw o)
+  pub first-place : sheet_end bytes + (length bytes - next) ≡ length bytes
+  first-place =
+      ap (λ (n : ℕ). sheet_end bytes + n) (sym (length-drop next bytes)) ∙ first_ends bytes p (drop next bytes) (sym e)

@@ -1,30 +1,23 @@
--- The sheet in the steps of the code: its length, its first two lines, its other lines to their end, and the limits.
-use Rattle.std.specs.Prelude.{◌≡◌, ℕ, ◌+◌, ◌≤◌, ◌<◌, Bool, List, [], length, drop}
-use Rattle.std.proofs.Math.Path.{refl}
-use Rattle.std.proofs.Common.{sym, ap, ◌∙◌, arith}
-use Rattle.std.proofs.Math.Bool.{true, false, cond}
-use borrow.Author.Tests.{le-leb, lt-leb, leb-true, leb-false}
-use Rattle.std.proofs.Math.Dec.{leb}
+-- The sheet in the steps of the code: its length, its first two lines, what follows its lines, and the limits.
+use Rattle.std.specs.Prelude.{◌≡◌, ℕ, ◌+◌, ◌≤◌, ◌<◌, List, [], length, drop}
+use Rattle.std.proofs.Common.{sym, ap, ◌∙◌}
+use Rattle.std.proofs.Math.Bool.{true, false}
+use borrow.Author.Tests.{le-leb, lt-leb}
 use Rattle.std.proofs.Math.ListN.{drop_of_length-le}
 use Rattle.std.proofs.Math.Seq.{drop-cons}
-use Rattle.text_tokens.specs.Text.{bytes_of, malformed, taken}
+use Rattle.text_tokens.specs.Text.{bytes_of, Parse, malformed, taken}
 use Rattle.text_tokens.specs.code.Places.{text_at}
 use Rattle.text_tokens.specs.laws.TextLaws.{text-found, text-missing}
 use Rattle.set_params.specs.declared.Params.{Params}
-use Rattle.set_refusal.specs.declared.Refusal.{Refusal}
 use Rattle.set_refusal.specs.declared.Refusal.TheVariants.{Accepted, Malformed, OutOfLimits}
 use Rattle.set_params.specs.declared.Table.{Table}
 use Rattle.set_params.specs.declared.Table.TheVariants.{Ag2014, LiLee}
 use Rattle.set_params.specs.declared.Sex.TheVariants.{M, F}
-use Rattle.set_refusal.specs.Refusals.{refusal_number}
-use Rattle.set_params.specs.Set.{blank}
 use Rattle.set_limits.specs.InLimits.{in_limits}
 use Rattle.sheet.specs.Sheet.{most_bytes, table_text, sex_text, read_either, read_table, read_sex, read_front, nothing_after, read_set}
 use Rattle.sheet.specs.Sheet.{refused, reading_of, read_sheet}
-use Rattle.sheet_set.specs.declared.SetRead.{SetRead}
-use Rattle.sheet_set.specs.code.Ages.{set_read}
 use Rattle.sheet_set.specs.code.SetLines.{from_lines}
-use Rattle.sheet_reader.specs.code.Read.{from_sex, at_end, refusal_of}
+use Rattle.sheet_reader.specs.code.Read.{from_sex}
 use Rattle.text_tokens.specs.laws.Steps.{goes, stops}
 
 -- ---- its length
@@ -86,80 +79,34 @@ module _ (bytes : List ℕ) where
       unfolding from_sex read_sex
       sex-none m = stops _ (either-none sex_text M F bytes at n m)
 
--- ---- to the sheet's end
+-- ---- by what the code read at the front
 
--- nothing follows, the lines are malformed, or something follows
-pub ended : {ok : Bool} {next n : ℕ} → ok ≡ true → n ≤ next → at_end ok next n ≡ true
-unfolding at_end
-ended {next} {n} e h = rw (e, le-leb n next h)
+module _ (bytes : List ℕ) (short : length bytes ≤ most_bytes) where
+  by_front : (q : Parse Params) → q ≡ read_front bytes → read_sheet bytes ≡ reading_of (nothing_after q)
+  unfolding read_set
+  by_front q e = not-too-long bytes short ∙ ap (λ (r : Parse Params). reading_of (nothing_after r)) (sym e)
 
-pub unread : {ok : Bool} (next n : ℕ) → ok ≡ false → at_end ok next n ≡ false
-unfolding at_end
-unread next n e = rw e
+  -- no sheet, one that bytes follow, and one that nothing follows
+  pub none-reading : malformed ≡ read_front bytes → read_sheet bytes ≡ refused Malformed
+  unfolding nothing_after reading_of
+  none-reading e = by_front malformed e
 
-pub followed : {ok : Bool} {next n : ℕ} → ok ≡ true → next < n → at_end ok next n ≡ false
-unfolding at_end
-followed {next} {n} e h = rw (e, lt-leb n next h)
+  module _ (p : Params) (next : ℕ) (e : taken p (drop next bytes) ≡ read_front bytes) where
+    pub followed-reading : next < length bytes → read_sheet bytes ≡ refused Malformed
+    unfolding nothing_after reading_of
+    followed-reading h = by_front (taken p (drop next bytes)) e ∙ rw (drop-cons bytes next 0 h)
 
-module _ (bytes : List ℕ) (r : SetRead) where
-  -- what the code read is the set, where it came to the sheet's end
-  whole_set : nothing_after (set_read bytes r) ≡ cond (at_end r.ok r.next (length bytes)) (taken r.set []) malformed
-  unfolding nothing_after
-  whole_set = go r.ok refl (leb (length bytes) r.next) refl
-    where
-      go : (b : Bool) → r.ok ≡ b → (c : Bool) → leb (length bytes) r.next ≡ c
-          → nothing_after (set_read bytes r) ≡ cond (at_end r.ok r.next (length bytes)) (taken r.set []) malformed
-      go false e c f = rw (unread r.next (length bytes) e, e)
-      go true e true f =
-          let h = leb-true (length bytes) r.next f in
-          rw (ended e h, e, drop_of_length-le bytes h)
-      go true e false f =
-          let h = leb-false (length bytes) r.next f in
-          rw (followed e h, e, drop-cons bytes r.next 0 h)
+    pub whole-reading : length bytes ≤ next → read_sheet bytes ≡ reading_of (taken p [])
+    unfolding nothing_after
+    whole-reading h = by_front (taken p (drop next bytes)) e ∙ rw (drop_of_length-le bytes h)
 
--- ---- the refusal
+-- ---- the limits
 
--- the cases in their order: malformed, whatever the limits say, then out of limits, then accepted
-pub malformed-first : {w : Bool} (i : Bool) → w ≡ false → refusal_of w i ≡ Malformed
-unfolding refusal_of
-malformed-first i e = rw e
+-- a whole sheet is out of limits, or accepted
+pub out-of-limits : (p : Params) → in_limits p ≡ false → reading_of (taken p []) ≡ refused OutOfLimits
+unfolding reading_of
+out-of-limits p e = rw e
 
-pub then-out-of-limits : {w i : Bool} → w ≡ true → i ≡ false → refusal_of w i ≡ OutOfLimits
-unfolding refusal_of
-then-out-of-limits e f = rw (e, f)
-
-pub then-accepted : {w i : Bool} → w ≡ true → i ≡ true → refusal_of w i ≡ Accepted
-unfolding refusal_of
-then-accepted e f = rw (e, f)
-
--- a sheet that is or is not whole, with its set
-module _ (w : Bool) (p : Params) {f : Refusal} (d : f ≡ refusal_of w (in_limits p)) where
-  -- a refusal is given with the blank set
-  pub reading-refused : {s : Params} → s ≡ blank → (refusal_number f ≡ 0 → ⊥)
-      → reading_of (cond w (taken p []) malformed) ≡ record { refusal = f; set = s }
-  unfolding reading_of refused refusal_of refusal_number
-  reading-refused b h = rw (d, b) (go w (in_limits p) refl (λ k. h (ap refusal_number d ∙ k)))
-    where
-      go : (v i : Bool) → in_limits p ≡ i → (refusal_number (refusal_of v i) ≡ 0 → ⊥)
-          → reading_of (cond v (taken p []) malformed) ≡ refused (refusal_of v i)
-      go true true e h = absurd (h refl)
-      go true false e h = rw e
-      go false i e h = refl
-
-  -- and where there is none, the set is the one that was read
-  pub reading-accepted : refusal_number f ≡ 0 → reading_of (cond w (taken p []) malformed) ≡ record { refusal = f; set = p }
-  unfolding reading_of refusal_of refusal_number
-  reading-accepted h = rw d (go w (in_limits p) refl (ap refusal_number (sym d) ∙ h))
-    where
-      go : (v i : Bool) → in_limits p ≡ i → refusal_number (refusal_of v i) ≡ 0
-          → reading_of (cond v (taken p []) malformed) ≡ record { refusal = refusal_of v i; set = p }
-      go true true e h = rw e
-      go true false e h = absurd (omega arith)
-      go false i e h = absurd (omega arith)
-
--- what was read at the front, where nothing follows it, is the sheet that the bytes are
-pub whole-reading : (bytes : List ℕ) (r : SetRead) → set_read bytes r ≡ read_front bytes → length bytes ≤ most_bytes
-    → reading_of (cond (at_end r.ok r.next (length bytes)) (taken r.set []) malformed) ≡ read_sheet bytes
-unfolding read_set
-whole-reading bytes r e h =
-    ap reading_of (sym (whole_set bytes r) ∙ ap nothing_after e) ∙ sym (not-too-long bytes h)
+pub accepted : (p : Params) → in_limits p ≡ true → reading_of (taken p []) ≡ record { refusal = Accepted; set = p }
+unfolding reading_of
+accepted p e = rw e

@@ -1,10 +1,8 @@
 -- `age_at` meets its contract: each head is a name and then the age, one word of at most six bytes.
-use Prim.Native.Nat.{◌<◌}
 use native.Mathlib.Omega.{arith}
 use Rattle.text_tokens.specs.Text.{bytes_of}
 use Rattle.sheet.specs.Sheet.{age_keys}
 use Rattle.sheet_set.proofs.AgeText.{age-joins, age-sized, age-head}
-use borrow.Author.Rules.{rules}
 use Rattle.sheet_set.proofs.age_at.Goals as goal
 
 pub joined-level-requires : goal.joined-level-requires

@@ -4,7 +4,6 @@ use Prim.Native.Nat.{◌%◌}
 use native.Mathlib.Omega.{arith}
 use Rattle.text_tokens.specs.Text.{bytes_of}
 use Rattle.text_tokens.specs.laws.DecimalLaws.{text-small, text-two}
-use borrow.Author.Rules.{rules}
 use Rattle.sheet_set.proofs.age_text.Goals as goal
 
 pub returns-then-x-lt10 : goal.returns-then-x-lt10

@@ -1,49 +1,49 @@
 -- `start_lines` meets its contract: the two lines, each read or malformed.
-use mathlib.Core.Path.{◌≡◌, sym}
-use Prim.Native.Nat.{ℕ}
-use mathlib.Core.List.{List}
-use lib.ListN.{drop}
+use mathlib.Core.Path.{◌≡◌, sym, ap, ◌∙◌}
+use mir.Val.{of_z, to_z}
 use native.Mathlib.Omega.{arith}
-use Rattle.text_words.specs.code.ShortText.{Holds}
+use borrow.Author.Rules.{rules}
+use Rattle.std.specs.Int.{w64}
 use Rattle.text_words.specs.laws.ShortTextLaws.{holds-joins, holds-sized}
 use Rattle.text_tokens.specs.Text.{bytes_of}
-use Rattle.text_tokens.specs.code.Places.{number_read}
-use Rattle.text_tokens.specs.laws.ReadLaws.{held, read-malformed, read_taken}
-use Rattle.sheet.specs.Sheet.{read_line}
+use Rattle.sheet.specs.code.Lines.{lines_read}
 use Rattle.sheet.proofs.laws.FourLaws.{first-malformed, two-malformed, two-taken}
 use Rattle.sheet_set.specs.code.SetLines.{read_start}
 use Rattle.sheet_set.proofs.Joined.{joined-holds}
-use borrow.Author.Rules.{rules}
 use Rattle.sheet_set.proofs.start_lines.Goals as goal
 
 pub joined-head-requires : goal.joined-head-requires
-joined-head-requires c = holds-joins c.before.three.ensures c.three-2.ensures (omega arith) (omega arith)
+joined-head-requires c = holds-joins c.three.ensures c.three-2.ensures (omega arith) (omega arith)
 
 pub line_at-requires : goal.line_at-requires
-unfolding bytes_of
 line_at-requires c = holds-sized (joined-holds c.three.ensures c.three-2.ensures c.joined-head.ensures) (omega arith)
 
+pub returns-in_err-start : goal.returns-in_err-start
+unfolding read_start bytes_of
+returns-in_err-start c =
+    let start = joined-holds c.three.ensures c.three-2.ensures c.joined-head.ensures in
+    ap (lines_read c.args.bytes.now) c.from_residual.ensures
+    ∙ sym (first-malformed _ _ _ (sym (c.in_err-start.ensures (bytes_of "start") (record { text = start.holds }))))
+
 pub line_at-requires-2 : goal.line_at-requires-2
-unfolding bytes_of
 line_at-requires-2 c = holds-sized c.two.ensures (omega arith)
 
-pub returns-in_default : goal.returns-in_default
+pub returns-in_err-c : goal.returns-in_err-c
 unfolding read_start bytes_of
-returns-in_default c =
-    sym (first-malformed _ _ _ (read-malformed _ (c.line_at.ensures (bytes_of "start") (record { text = (joined-holds c.three.ensures c.three-2.ensures c.joined-head.ensures).holds })) c.in_default.is))
-
-pub returns-in_default-line_at : goal.returns-in_default-line_at
-unfolding read_start bytes_of
-returns-in_default-line_at c =
-    let e₁ = c.line_at-2.ensures (bytes_of "c") (record { text = c.two.ensures.holds }) in
-    sym
-    (two-malformed _ _ _ (read_taken _ (c.line_at.ensures (bytes_of "start") (record { text = (joined-holds c.three.ensures c.three-2.ensures c.joined-head.ensures).holds })) c.in-Number.is)
-    (read-malformed _ e₁ c.in_default-line_at.is))
+returns-in_err-c c =
+    let start = joined-holds c.three.ensures c.three-2.ensures c.joined-head.ensures in
+    ap (lines_read c.args.bytes.now) c.from_residual-in_err-c.ensures
+    ∙ sym
+    (two-malformed _ _ _ (sym (c.in_ok-start.ensures (bytes_of "start") (record { text = start.holds })))
+    (sym (c.in_err-c.ensures (bytes_of "c") (record { text = c.two.ensures.holds }))))
 
 pub returns : goal.returns
 unfolding read_start bytes_of
 returns c =
-    let e₁ = c.line_at-2.ensures (bytes_of "c") (record { text = c.two.ensures.holds }) in
-    rw (held c.in-Number.start c.in-Number.known_told-1-own.given.0.1, held c.in-Number-line_at.c c.in-Number-line_at.known_told-in-Number-line_at-2-1-own.given.0.1)
+    let start = joined-holds c.three.ensures c.three-2.ensures c.joined-head.ensures in
+    let start-held : to_z w64 (of_z w64 c.in_ok-start.start) ≡ c.in_ok-start.start = search rules in
+    let c-held : to_z w64 (of_z w64 c.in_ok-c.c) ≡ c.in_ok-c.c = search rules in
+    rw (start-held, c-held)
     (sym
-    (two-taken _ _ _ (read_taken _ (c.line_at.ensures (bytes_of "start") (record { text = (joined-holds c.three.ensures c.three-2.ensures c.joined-head.ensures).holds })) c.in-Number.is) (read_taken _ e₁ c.in-Number-line_at.is)))
+    (two-taken _ _ _ (sym (c.in_ok-start.ensures (bytes_of "start") (record { text = start.holds })))
+    (sym (c.in_ok-c.ensures (bytes_of "c") (record { text = c.two.ensures.holds })))))

@@ -1,14 +1,20 @@
 -- What the code's result says was read: a set, with the bytes from a place on, or malformed. And the reading of the ages' lines
 -- in the steps of the code.
-use Rattle.std.specs.Prelude.{ℕ, ◌+◌, ◌*◌, cond, List, [], ◌∷◌, ℤ, pos, get_or, drop}
+use Rattle.std.specs.Prelude.{ℕ, ◌+◌, ◌*◌, Option, Some, None, List, [], ◌∷◌, ℤ, pos, get_or, drop}
 use Rattle.text_tokens.specs.Text.{Parse, malformed, taken}
 use Rattle.set_params.specs.declared.Params.{Params}
 use Rattle.set_params.specs.Set.{ages}
 use Rattle.sheet.specs.Sheet.{for_ages, age_keys, read_lines}
 use Rattle.sheet_set.specs.declared.SetRead.{SetRead}
 
-abbrev pub set_read : List ℕ → SetRead → Parse Params
-set_read bytes r = cond r.ok (taken r.set (drop r.next bytes)) malformed
+abbrev pub set_read : List ℕ → Option SetRead → Parse Params
+set_read bytes None = malformed
+set_read bytes (Some r) = taken r.set (drop r.next bytes)
+
+-- and where the set is lent to be filled in
+abbrev pub ages_read : List ℕ → Params → Option ℕ → Parse Params
+ages_read bytes set None = malformed
+ages_read bytes set (Some next) = taken set (drop next bytes)
 
 -- of the values of the first n ages, those in place i of an age
 unfoldable pub run : ℕ → List ℤ → ℕ → List ℤ

@@ -1,5 +1,5 @@
--- The lines after the first two, and what the code's result says was read of those of the start and c.
-use Rattle.std.specs.Prelude.{ℕ, List, [], ◌∷◌, ℤ, pos, drop}
+-- The lines after the first two, and those of the start and c.
+use Rattle.std.specs.Prelude.{ℕ, List, [], ◌∷◌, ℤ, pos}
 use Rattle.text_tokens.specs.Text.{bytes_of, Parse, malformed, taken}
 use Rattle.set_params.specs.declared.Params.{Params}
 use Rattle.set_params.specs.declared.Table.{Table}
@@ -7,8 +7,6 @@ use Rattle.set_params.specs.declared.Table.TheVariants.{Ag2014, LiLee}
 use Rattle.set_params.specs.declared.Sex.{Sex}
 use Rattle.set_params.specs.Limits.{first_start}
 use Rattle.sheet.specs.Sheet.{keys, read_lines, completed, params_of}
-use Rattle.sheet_set.specs.declared.StartRead.{StartRead}
-use Rattle.sheet_set.specs.declared.StartRead.TheVariants.{Malformed, Start}
 
 -- the lines after the first two
 unfoldable pub from_lines : Table → Sex → List ℕ → Parse Params
@@ -20,7 +18,3 @@ from_lines table sex bs =
 unfoldable pub read_start : Table → List ℕ → Parse (List ℤ)
 read_start Ag2014 bs = taken (pos first_start ∷ pos 0 ∷ []) bs
 read_start LiLee bs = read_lines (bytes_of "start" ∷ bytes_of "c" ∷ []) bs
-
-abbrev pub start_read : List ℕ → StartRead → Parse (List ℤ)
-start_read bytes Malformed = malformed
-start_read bytes (Start next start c) = taken (start ∷ c ∷ []) (drop next bytes)

@@ -1,8 +1,9 @@
 -- Reading lines: what the lines in front give decides, or what follows goes on from there.
-use Rattle.std.specs.Prelude.{◌≡◌, refl, ℕ, zero, suc, ◌+◌, List, [], ◌∷◌, ◌++◌, ℤ}
-use Rattle.std.proofs.Common.{sym, ap, ◌∙◌, suc-add, zero-add}
+use Rattle.std.specs.Prelude.{◌≡◌, refl, ℕ, zero, suc, ◌+◌, List, [], ◌∷◌, ◌++◌, ℤ, pos, length, get_or}
+use Rattle.std.proofs.Common.{sym, ap, ◌∙◌, suc-add, zero-add, arith}
 use Rattle.text_tokens.specs.Text.{Parse, malformed, taken, and_then}
 use Rattle.sheet.specs.Sheet.{for_ages, read_line, read_lines}
+use Rattle.text_tokens.specs.laws.NumberTrip.{malformed-not-taken}
 use Rattle.text_tokens.specs.laws.Steps.{goes, stops}
 use Rattle.sheet.proofs.laws.FourLaws.{after}
 
@@ -56,3 +57,47 @@ pub more-malformed : (f : ℕ → List (List ℕ)) (bs : List ℕ) (k n : ℕ) �
 more-malformed f bs zero n e = rw (zero-add n) e
 more-malformed f bs (suc k) n e =
     rw (suc-add k n, ages-suc f (k + n)) (lines-malformed (for_ages f (k + n)) (f (k + n)) bs (more-malformed f bs k n e))
+
+-- ---- as many values as lines
+
+lines-length : (ks : List (List ℕ)) (bs : List ℕ) (vs : List ℤ) (rest : List ℕ) → read_lines ks bs ≡ taken vs rest
+    → length vs ≡ length ks
+unfolding read_lines
+lines-length [] bs vs rest e = let none : [] ≡ vs = cc in rw (← none)
+lines-length (k ∷ ks) bs vs rest e = by_line (read_line k bs) (lines-length ks) e
+  where
+    by_rest : (v : ℤ) (r : Parse (List ℤ)) → ((us : List ℤ) (end : List ℕ) → r ≡ taken us end → length us ≡ length ks)
+        → behind v r ≡ taken vs rest → length vs ≡ suc (length ks)
+    by_rest v malformed ih h = malformed-not-taken h
+    by_rest v (taken us end) ih h = let is : v ∷ us ≡ vs = cc in rw (← is) (ap suc (ih us end refl))
+
+    by_line : (q : Parse ℤ)
+        → ((next : List ℕ) (us : List ℤ) (end : List ℕ) → read_lines ks next ≡ taken us end → length us ≡ length ks)
+        → and_then q (λ v next. behind v (read_lines ks next)) ≡ taken vs rest → length vs ≡ suc (length ks)
+    by_line malformed ih h = malformed-not-taken h
+    by_line (taken v next) ih h = by_rest v (read_lines ks next) (ih next) h
+
+-- two values, and four, place by place
+two-places : (vs : List ℤ) → length vs ≡ 2 → vs ≡ get_or vs 0 (pos 0) ∷ get_or vs 1 (pos 0) ∷ []
+two-places [] h = absurd (omega arith)
+two-places (a ∷ []) h = absurd (omega arith)
+two-places (a ∷ b ∷ []) h = refl
+two-places (a ∷ b ∷ c ∷ vs) h = absurd (omega arith)
+
+four-places : (vs : List ℤ) → length vs ≡ 4
+    → vs ≡ get_or vs 0 (pos 0) ∷ get_or vs 1 (pos 0) ∷ get_or vs 2 (pos 0) ∷ get_or vs 3 (pos 0) ∷ []
+four-places [] h = absurd (omega arith)
+four-places (a ∷ []) h = absurd (omega arith)
+four-places (a ∷ b ∷ []) h = absurd (omega arith)
+four-places (a ∷ b ∷ c ∷ []) h = absurd (omega arith)
+four-places (a ∷ b ∷ c ∷ d ∷ []) h = refl
+four-places (a ∷ b ∷ c ∷ d ∷ e ∷ vs) h = absurd (omega arith)
+
+pub two-values : (ks : List (List ℕ)) (bs : List ℕ) {vs : List ℤ} {rest : List ℕ} → length ks ≡ 2
+    → read_lines ks bs ≡ taken vs rest → read_lines ks bs ≡ taken (get_or vs 0 (pos 0) ∷ get_or vs 1 (pos 0) ∷ []) rest
+two-values ks bs {vs} {rest} h e = e ∙ ap (λ (l : List ℤ). taken l rest) (two-places vs (lines-length ks bs vs rest e ∙ h))
+
+pub four-values : (ks : List (List ℕ)) (bs : List ℕ) {vs : List ℤ} {rest : List ℕ} → length ks ≡ 4
+    → read_lines ks bs ≡ taken vs rest
+    → read_lines ks bs ≡ taken (get_or vs 0 (pos 0) ∷ get_or vs 1 (pos 0) ∷ get_or vs 2 (pos 0) ∷ get_or vs 3 (pos 0) ∷ []) rest
+four-values ks bs {vs} {rest} h e = e ∙ ap (λ (l : List ℤ). taken l rest) (four-places vs (lines-length ks bs vs rest e ∙ h))

@@ -1,6 +1,6 @@
 -- The lines after the first two in the steps of the code: those of the series, which are malformed where any of them is, those of
 -- the start and c, and else the runs of the set that has their values.
-use Rattle.std.specs.Prelude.{◌≡◌, refl, ℕ, zero, suc, ◌+◌, ◌*◌, false, List, [], ◌∷◌, ◌++◌, ℤ, pos, get_or, take, drop}
+use Rattle.std.specs.Prelude.{◌≡◌, refl, ℕ, zero, suc, ◌+◌, ◌*◌, List, [], ◌∷◌, ◌++◌, ℤ, pos, get_or, take, drop}
 use Rattle.std.proofs.Common.{sym, ap, ◌∙◌, arith}
 use Rattle.text_tokens.specs.Text.{bytes_of, Parse, malformed, taken, and_then}
 use Rattle.text_tokens.specs.laws.Steps.{stops}
@@ -13,10 +13,9 @@ use Rattle.set_params.specs.Set.{ages}
 use Rattle.set_params.specs.Limits.{first_start}
 use Rattle.sheet.specs.Sheet.{for_ages, age_keys, if_li_lee, keys, read_lines, completed, run_from, params_of}
 use Rattle.sheet.proofs.laws.FourLaws.{after}
-use Rattle.sheet_set.specs.declared.SetRead.{SetRead}
-use Rattle.sheet_set.specs.code.Ages.{set_read, run, with_runs, from_ages}
+use Rattle.sheet_set.specs.code.Ages.{run, with_runs, from_ages}
 use Rattle.sheet_set.specs.code.SetLines.{from_lines, read_start}
-use Rattle.sheet_set.specs.laws.LinesLaws.{lines-malformed, lines_then}
+use Rattle.sheet_set.specs.laws.LinesLaws.{lines-malformed, lines_then, two-values}
 
 -- the keys of the series in every sheet, and of the start and c
 abbrev pub four_keys : List (List ℕ)
@@ -29,10 +28,6 @@ abbrev all_ages : List (List ℕ)
 all_ages = for_ages age_keys ages
 
 -- ---- malformed
-
--- where no set was read
-pub none_read : (bytes : List ℕ) (r : SetRead) {q : Parse Params} → r.ok ≡ false → q ≡ malformed → set_read bytes r ≡ q
-none_read bytes r e f = rw e (sym f)
 
 pub series-malformed : (t : Table) (sex : Sex) (bs : List ℕ) → read_lines four_keys bs ≡ malformed
     → from_lines t sex bs ≡ malformed
@@ -52,6 +47,13 @@ start-malformed LiLee sex bs {vs} {rest} e f =
 -- the start and c by the table
 pub start-by : {t u : Table} (bs : List ℕ) → t ≡ u → read_start t bs ≡ read_start u bs
 start-by bs e = ap (λ (t : Table). read_start t bs) e
+
+-- it has two values
+pub start-values : (t : Table) (bs : List ℕ) {vs : List ℤ} {rest : List ℕ} → read_start t bs ≡ taken vs rest
+    → read_start t bs ≡ taken (get_or vs 0 (pos 0) ∷ get_or vs 1 (pos 0) ∷ []) rest
+unfolding read_start
+start-values Ag2014 bs {vs} e = let is : vs ≡ pos first_start ∷ pos 0 ∷ [] = cc in rw is (rw is at e)
+start-values LiLee bs e = two-values start_keys bs refl e
 
 -- every number of a set, with these for its ages
 abbrev numbers : Params → List ℤ → List ℤ

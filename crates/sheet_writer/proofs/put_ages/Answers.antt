@@ -1,9 +1,7 @@
--- `put_ages` meets its contract. The loop's invariant: the lines of the ages passed are written. The measure is how
--- many ages are left.
-use borrow.Author.Rules.{rules}
+-- `put_ages` meets its contract. The loop's invariant: the lines of the ages passed are written.
 use mathlib.Core.Path.{◌≡◌, sym, ap, subst, ◌∙◌}
 use mathlib.Core.List.{◌++◌}
-use Prim.Native.Nat.{ℕ, suc, ◌-◌, ◌≤◌, ◌<◌}
+use Prim.Native.Nat.{ℕ, suc, ◌<◌}
 use native.Mathlib.Numerals.{add-one}
 use native.Mathlib.Omega.{arith}
 use Rattle.set_params.specs.declared.Age.{Age}
@@ -20,7 +18,7 @@ use Rattle.sheet_writer.proofs.put_ages.Goals as goal
 pub loop-age-init : goal.loop-age-init
 loop-age-init c =
     let s = c.args in
-    (omega arith, put_as (sym (ages-none s.p)) (put-none s.buffer.now s.at))
+    put_as (sym (ages-none s.p)) (put-none s.buffer.now s.at)
 
 pub put_age-place-requires : goal.put_age-place-requires
 put_age-place-requires c =
@@ -33,7 +31,7 @@ put_age-place-requires c =
     let x = c.loop-age.age in
     let h : x < ages = within in
     let w = subst AgeWithin (sym read) (in-limits-age c.args.p c.requires.0 x h) in
-    (w, h, room_as (sym text) (room-rest c.loop-age.invariant.1 (room x h)))
+    (w, h, room_as (sym text) (room-rest c.loop-age.invariant (room x h)))
 
 pub loop-age-preserved : goal.loop-age-preserved
 loop-age-preserved c =
@@ -45,15 +43,15 @@ loop-age-preserved c =
     room_as (ages-more p x) (record { fits = omega (arith, c.requires.1.fits, ages-grow p (suc x) ages (omega arith)) }) in
     let x = c.loop-age.age in
     let h : x < ages = within in
-    let more = put-join c.loop-age.invariant.1 (put_as text c.put_age-place.ensures) (room x h) in
-    (omega arith, rw (add-one x) (put_as (sym (ages-more c.args.p x)) more))
+    let more = put-join c.loop-age.invariant (put_as text c.put_age-place.ensures) (room x h) in
+    rw (add-one x) (put_as (sym (ages-more c.args.p x)) more)
 
 pub shape_of-buffer : goal.shape_of-buffer
 shape_of-buffer c =
-    let all : let s = c.args in let l = c.loop-age in Put s.buffer.now s.at (ages_text s.p ages) l.buffer l.place = let l = c.loop-age in let e : l.age ≡ ages = omega arith in rw (← e) l.invariant.1 in
+    let all : let s = c.args in let l = c.loop-age in Put s.buffer.now s.at (ages_text s.p ages) l.buffer l.place = let l = c.loop-age in let e : l.age ≡ ages = omega arith in rw (← e) l.invariant in
     put-length all c.requires.1
 
 pub returns : goal.returns
 returns c =
-    let all : let s = c.args in let l = c.loop-age in Put s.buffer.now s.at (ages_text s.p ages) l.buffer l.place = let l = c.loop-age in let e : l.age ≡ ages = omega arith in rw (← e) l.invariant.1 in
+    let all : let s = c.args in let l = c.loop-age in Put s.buffer.now s.at (ages_text s.p ages) l.buffer l.place = let l = c.loop-age in let e : l.age ≡ ages = omega arith in rw (← e) l.invariant in
     all

@@ -1,5 +1,4 @@
 -- `put_sheet` meets its contract: the five parts, one right after the other.
-use borrow.Author.Rules.{rules}
 use mathlib.Core.Path.{◌≡◌, sym, ap₂}
 use mathlib.Core.List.{◌++◌}
 use lib.IntN.{ℤ}
@@ -9,7 +8,7 @@ use Rattle.set_params.specs.Set.{ages}
 use Rattle.sheet.specs.Sheet.{table_text, sex_text}
 use Rattle.text_printing.specs.code.Put.{Room, Put}
 use Rattle.text_printing.specs.laws.PutLaws.{put_as, room_as, room-first, room-rest, put-join}
-use Rattle.sheet_length.specs.code.Parts.{series_text, start_text, ages_text}
+use Rattle.sheet_length.specs.code.Parts.{start_text, ages_text}
 use Rattle.sheet_length.specs.laws.Held.{SeriesHeld, series-held}
 use Rattle.sheet_length.specs.laws.PartsLaws.{lines_of, sheet-parts}
 use Rattle.sheet_writer.proofs.put_sheet.Goals as goal

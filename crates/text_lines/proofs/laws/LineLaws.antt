@@ -1,7 +1,10 @@
 -- Laws of lines: the first line and what follows it make up the bytes, and the lines are the first and those after it.
-use Rattle.std.specs.Prelude.{◌≡◌, refl, ℕ, zero, suc, ◌+◌, ◌≤◌, ◌<◌, Bool, true, false, List, [], ◌∷◌, ◌++◌, eqb, length, get_or, take, drop}
-use Rattle.std.proofs.Common.{sym, ap, ◌∙◌, arith, append_assoc, eq-eqb, ne_eqb, length-append, length-drop, drop_of_length-le, drop-cons}
+use Rattle.std.specs.Prelude.{◌≡◌, refl, ℕ, zero, suc, ◌+◌, ◌-◌, ◌≤◌, ◌<◌, Bool, true, false, List, [], ◌∷◌, ◌++◌, eqb, length, get_or, take, drop, cond, min, ltb, Some, None, position}
+use Rattle.std.proofs.Common.{sym, ap, ◌∙◌, arith, append_assoc, eq-eqb, ne_eqb, length-append, length-drop, take_all, drop_of_length-le, drop-cons}
 use Rattle.std.proofs.Math.Seq.{take-append_seam, drop-append_seam}
+use borrow.Author.Tests.{ltb-true, ltb-false}
+use Rattle.std.proofs.lemmas.Option.{none-some}
+use Rattle.std.specs.List.{position_or_len}
 use Rattle.text_lines.specs.Lines.{line_feed, first_line, after_line, first_lines, ahead, lines}
 use Rattle.text_lines.proofs.laws.AfterLines.{after_lines}
 
@@ -112,6 +115,53 @@ pub lines-within : (n : ℕ) (bs : List ℕ) → length (first_lines n bs) ≤ l
 unfolding first_lines
 lines-within zero bs = omega arith
 lines-within (suc n) bs = omega (arith, lines-length n bs, lines-within n (after_line bs), line-length bs)
+
+-- ---- by the place of the first line feed
+
+-- how many bytes stand before it
+abbrev before_feed : List ℕ → ℕ
+before_feed bs = position_or_len (λ (b : ℕ). eqb b line_feed) bs
+
+feed-place : (bs : List ℕ) → length (first_line bs) ≡ min (suc (before_feed bs)) (length bs)
+unfolding first_line
+feed-place [] = refl
+feed-place (b ∷ bs) = go (eqb b line_feed) refl (feed-place bs)
+  where
+    go : (x : Bool) → eqb b line_feed ≡ x → length (first_line bs) ≡ min (suc (before_feed bs)) (length bs)
+        → length (first_line (b ∷ bs)) ≡ min (suc (before_feed (b ∷ bs))) (length (b ∷ bs))
+    go true e ih = rw (first-feed b bs e, e) (omega arith)
+    go false e ih = rw (first_more b bs e, e) (omega arith)
+
+-- it stands at i, or nowhere
+module _ (bs : List ℕ) where
+  feed-found : {i : ℕ} → Some i ≡ position (λ (b : ℕ). eqb b line_feed) bs → length (first_line bs) ≡ i + 1
+  feed-found {i} = go (ltb (before_feed bs) (length bs)) refl
+    where
+      go : (x : Bool) → ltb (before_feed bs) (length bs) ≡ x → Some i ≡ cond x (Some (before_feed bs)) None
+          → length (first_line bs) ≡ i + 1
+      go true e f = let is : i ≡ before_feed bs = cc in omega (arith, feed-place bs, ltb-true)
+      go false e f = absurd (none-some i (sym f))
+
+  no_feed : None ≡ position (λ (b : ℕ). eqb b line_feed) bs → length (first_line bs) ≡ length bs
+  no_feed = go (ltb (before_feed bs) (length bs)) refl
+    where
+      go : (x : Bool) → ltb (before_feed bs) (length bs) ≡ x → None ≡ cond x (Some (before_feed bs)) None
+          → length (first_line bs) ≡ length bs
+      go true e f = absurd (none-some _ f)
+      go false e f = omega (arith, feed-place bs, ltb-false)
+
+-- the same of the bytes from a place on, as a slice of the code gives them
+module _ (bytes : List ℕ) (at : ℕ) where
+  rest-all : take (length bytes - at) (drop at bytes) ≡ drop at bytes
+  rest-all = take_all (length bytes - at) (drop at bytes) (omega (arith, length-drop at bytes))
+
+  pub place-found : {i : ℕ} → Some i ≡ position (λ (b : ℕ). eqb b line_feed) (take (length bytes - at) (drop at bytes))
+      → length (first_line (drop at bytes)) ≡ i + 1
+  place-found e = feed-found (drop at bytes) (rw rest-all at e)
+
+  pub place-none : None ≡ position (λ (b : ℕ). eqb b line_feed) (take (length bytes - at) (drop at bytes))
+      → length (first_line (drop at bytes)) ≡ length bytes - at
+  place-none e = no_feed (drop at bytes) (rw rest-all at e) ∙ length-drop at bytes
 
 -- ---- at a place
 

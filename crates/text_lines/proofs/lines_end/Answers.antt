@@ -2,7 +2,6 @@
 use mathlib.Core.Path.{◌≡◌, refl, ◌∙◌}
 use Prim.Native.Nat.{ℕ, zero, suc, ◌+◌, ◌-◌, ◌≤◌, ◌<◌}
 use native.Mathlib.Omega.{arith}
-use borrow.Author.Rules.{rules}
 use mathlib.Core.List.{List}
 use lib.ListN.{length, drop}
 use lib.Seq.{drop-drop}
@@ -29,18 +28,17 @@ unfolding first_lines
 none bytes at zero h = refl
 none bytes at (suc left) h = absurd (omega arith)
 
-pub loop-left-preserved : goal.loop-left-preserved
-loop-left-preserved c =
-    let l = c.before.before.loop-left in
-    let bytes = c.before.before.before.before.args.bytes.now in
-    let e : c.line_end-at.result ≡ l.at + length (first_line (drop l.at bytes)) = c.line_end-at.ensures in
-    rw e (place-within bytes l.at l.invariant.0, l.invariant.1 ∙ one_less bytes l.at l.left (omega arith))
+pub loop-preserved : goal.loop-preserved
+loop-preserved c =
+    let bytes = c.args.bytes.now in
+    let at = c.loop.at in
+    let left = c.args.count - c.loop.counter in
+    let e : c.line_end-at.result ≡ at + length (first_line (drop at bytes)) = c.line_end-at.ensures in
+    let one : c.args.count - (c.loop.counter + 1) ≡ left - 1 = omega arith in
+    record {
+      within = rw e (place-within bytes at c.loop.invariant.within);
+      ahead = rw (e, one) (c.loop.invariant.ahead ∙ one_less bytes at left (omega arith));
+    }
 
 pub returns : goal.returns
-returns c =
-    let l = c.before.loop-left in
-    let bytes = c.before.before.before.args.bytes.now in
-    omega (arith, l.invariant.1, none bytes l.at l.left (omega arith))
-
-pub loop-left-init : goal.loop-left-init
-loop-left-init c = (omega arith, omega arith)
+returns c = omega (arith, c.loop.invariant.ahead, none c.args.bytes.now c.loop.at (c.args.count - c.loop.counter) (omega arith))

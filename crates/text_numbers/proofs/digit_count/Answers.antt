@@ -2,7 +2,6 @@
 use mathlib.Core.Path.{ap, ◌∙◌}
 use Prim.Native.Nat.{ℕ, ◌/◌}
 use native.Mathlib.Omega.{arith}
-use borrow.Author.Rules.{rules}
 use lib.Count.{count_trailing_zeros, trailing_le}
 use Rattle.text_words.specs.code.Word.{byte_bits, word_bytes, bytes_in}
 use Rattle.text_words.specs.laws.LaneLaws.{lanes-length}

@@ -5,7 +5,6 @@ use Prim.Native.Nat.{ℕ, ◌≤◌}
 use lib.ListN.{length}
 use Rattle.text_tokens.specs.Number.{digits}
 use native.Mathlib.Omega.{arith}
-use borrow.Author.Rules.{rules}
 use Rattle.text_words.specs.code.Word.{word_bytes, bytes_in}
 use Rattle.text_numbers.proofs.WordSteps.{count_most, words-few, words-all, last-full}
 use Rattle.text_numbers.proofs.digits_at.Goals as goal

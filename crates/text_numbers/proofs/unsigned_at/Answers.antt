@@ -1,10 +1,8 @@
 -- `unsigned_at` meets its contract: the digits that were read are a number where they are 1 to 15 and the first is `0`
 -- only where it is alone.
-use borrow.Author.Rules.{rules}
 use mathlib.Core.Path.{sym}
 use mathlib.Core.Logic.{⊎_elim}
 use native.Mathlib.Omega.{arith}
-use borrow.Author.Tests.{ltb-true, ltb-false, eqb-true, eqb-false}
 use Rattle.text_tokens.proofs.NumberSteps.{count-within, malformed-none, malformed-long, malformed-zero, taken-one, taken_more}
 use Rattle.text_numbers.proofs.unsigned_at.Goals as goal
 use Rattle.text_numbers.proofs.unsigned_at.Goals.{else-run-gt1-via-then-run-gt1+else-bytes-at-eq48, else-run-gt1-via-else-run-gt1}

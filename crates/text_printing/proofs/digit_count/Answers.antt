@@ -1,9 +1,7 @@
 -- `digit_count` meets its contract: the digits counted and those of the rest are one more than those of the number.
-use mathlib.Core.Path.{◌≡◌, ap}
-use Prim.Native.Nat.{◌+◌, ◌^◌, ◌<◌}
+use mathlib.Core.Path.{ap}
 use native.Mathlib.Omega.{arith}
 use lib.ListN.{length, length-append}
-use Rattle.text_tokens.specs.Number.{most_digits, unsigned_text}
 use Rattle.text_printing.specs.laws.NumberLengths.{text-small, text-step, unsigned-length}
 use Rattle.text_printing.proofs.digit_count.Goals as goal
 

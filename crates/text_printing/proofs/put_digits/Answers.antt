@@ -2,7 +2,7 @@
 use native.Mathlib.Omega.{arith}
 use lib.ListN.{length-set}
 use Rattle.text_printing.specs.laws.NumberLengths.{unsigned-length}
-use Rattle.text_printing.proofs.Tail.{Tail, tail_none, tail_within, tail-further, tail_more, tail-last}
+use Rattle.text_printing.proofs.Tail.{tail_none, tail_within, tail-further, tail_more, tail-last}
 use Rattle.text_printing.proofs.put_digits.Goals as goal
 
 pub overflow_sub-place : goal.overflow_sub-place

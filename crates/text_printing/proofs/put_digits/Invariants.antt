@@ -1,7 +1,4 @@
-use native.Mathlib.Omega.{arith}
-use lib.ListN.{length-set}
-use Rattle.text_printing.specs.laws.NumberLengths.{unsigned-length}
-use Rattle.text_printing.proofs.Tail.{Tail, tail_none, tail_within, tail-further, tail_more, tail-last}
+use Rattle.text_printing.proofs.Tail.{Tail}
 use Rattle.text_printing.proofs.put_digits.Given as goal
 
 abbrev pub invariant-loop-rest : goal.invariant-loop-rest

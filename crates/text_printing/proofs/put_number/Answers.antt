@@ -3,7 +3,6 @@ use mathlib.Core.Path.{◌≡◌, sym, ap, ◌∙◌}
 use mathlib.Core.List.{◌∷◌}
 use Prim.Native.Nat.{ℕ}
 use native.Mathlib.Omega.{arith}
-use borrow.Author.Rules.{rules}
 use Rattle.std.specs.Prelude.{ℤ, pos, nat_abs, true, false}
 use Rattle.std.proofs.Common.{FitsSigned, to_z, of_z, w64}
 use lib.Signed.{lt_z}

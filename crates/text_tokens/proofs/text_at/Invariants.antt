@@ -1,15 +1,7 @@
-use mathlib.Core.Bool.{not}
-use mathlib.Core.Path.{◌≡◌, sym, ap, ◌∙◌}
-use Prim.Native.Nat.{ℕ, ◌+◌, ◌-◌, ◌≤◌}
-use native.Mathlib.Omega.{arith}
-use mathlib.Core.List.{List}
-use borrow.Author.Rules.{rules}
-use borrow.Author.Tests.{not-true, not-false}
-use lib.ListN.{length, drop, length-drop}
-use lib.Seq.{take_all}
-use Rattle.text_words.specs.code.Word.{word_bytes}
+use mathlib.Core.Path.{◌≡◌}
+use Prim.Native.Nat.{◌+◌, ◌-◌, ◌≤◌}
+use lib.ListN.{length, drop}
 use Rattle.text_tokens.specs.code.Places.{text_at}
-use Rattle.text_tokens.proofs.TextSteps.{text-start, text-short, text-run, text-other}
 use Rattle.text_tokens.proofs.text_at.Given as goal
 
 abbrev pub invariant-loop-done : goal.invariant-loop-done

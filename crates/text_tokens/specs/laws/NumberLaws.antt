@@ -1,10 +1,10 @@
 -- Reading a number: what it takes is below 10¹⁵ in size and leaves a shorter end of the bytes. The last laws pass from a
 -- place in a slice to the bytes from that place on.
-use Rattle.std.specs.Prelude.{◌≡◌, refl, ℕ, zero, suc, ◌+◌, ◌-◌, ◌^◌, ◌<◌, Bool, true, false, cond, List, [], ◌∷◌, eqb, ℤ, nat_abs, length, drop}
+use Rattle.std.specs.Prelude.{◌≡◌, refl, ℕ, zero, suc, ◌+◌, ◌-◌, ◌^◌, ◌<◌, Bool, true, false, cond, List, [], ◌∷◌, eqb, ℤ, nat_abs, length, drop, Some, None}
 use Rattle.std.proofs.Common.{sym, ap, subst, ◌∙◌, zero-lt-suc, arith, eqb-true, eq-eqb, ne_eqb, length-drop, drop-drop}
 use Rattle.std.proofs.Math.Nat.{pow-le-pow_right}
 use Rattle.std.proofs.lemmas.Bool.{eqb-false}
-use Rattle.text_tokens.specs.declared.NumberRead.TheVariants.{Malformed, Number}
+use Rattle.std.proofs.lemmas.Option.{some_pair_parts}
 use Rattle.text_tokens.specs.Text.{Parse, malformed, taken}
 use Rattle.text_tokens.specs.Number.{minus_sign, most_digits, digits, after_digits, value, well_formed}
 use Rattle.text_tokens.specs.Number.{read_unsigned, negated, positive, read_number}
@@ -103,24 +103,23 @@ at_place bytes at {rest} t =
     rw e (sym (t.left ∙ drop-drop (length (drop at bytes) - length rest) at bytes))
 
 -- the number v was read at the place, and next is the place after it
-pub number-found : (bytes : List ℕ) (at : ℕ) {v : ℤ} {next : ℕ} → number_at bytes at ≡ Number v next
+pub number-found : (bytes : List ℕ) (at : ℕ) {v : ℤ} {next : ℕ} → number_at bytes at ≡ Some (v, next)
     → read_number (drop at bytes) ≡ taken v (drop next bytes)
 unfolding number_at
 number-found bytes at {v} {next} e = go (read_number (drop at bytes)) refl e
   where
-    go : (p : Parse ℤ) → read_number (drop at bytes) ≡ p → placed (length bytes) p ≡ Number v next
+    go : (p : Parse ℤ) → read_number (drop at bytes) ≡ p → placed (length bytes) p ≡ Some (v, next)
         → read_number (drop at bytes) ≡ taken v (drop next bytes)
     go malformed q h = cc
     go (taken w rest) q h =
-        let ev : w ≡ v = cc in
-        let en : length bytes - length rest ≡ next = cc in
-        rw (← ev, ← en) (q ∙ ap (taken w) (sym (at_place bytes at (number-taken (drop at bytes) q))))
+        let parts = some_pair_parts _ _ _ _ h in
+        rw (← parts.0, ← parts.1) (q ∙ ap (taken w) (sym (at_place bytes at (number-taken (drop at bytes) q))))
 
 -- no number stands at the place
-pub number-malformed : (bytes : List ℕ) (at : ℕ) → number_at bytes at ≡ Malformed → read_number (drop at bytes) ≡ malformed
+pub number-malformed : (bytes : List ℕ) (at : ℕ) → number_at bytes at ≡ None → read_number (drop at bytes) ≡ malformed
 unfolding number_at
 number-malformed bytes at e = go (read_number (drop at bytes)) e
   where
-    go : (p : Parse ℤ) → placed (length bytes) p ≡ Malformed → p ≡ malformed
+    go : (p : Parse ℤ) → placed (length bytes) p ≡ None → p ≡ malformed
     go malformed h = refl
     go (taken v rest) h = cc

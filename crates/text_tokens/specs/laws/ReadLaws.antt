@@ -1,12 +1,10 @@
 -- What a test or a result of the code says was read.
-use Rattle.std.specs.Prelude.{◌≡◌, ℕ, ◌^◌, ◌<◌, Bool, true, false, not, List, ℤ, drop}
+use Rattle.std.specs.Prelude.{◌≡◌, ℕ, ◌^◌, ◌<◌, Bool, true, false, not, List, ℤ, drop, Option, Some, None}
 use Rattle.std.proofs.Common.{sym, ap, ◌∙◌, to_z-of_z}
 use Rattle.std.proofs.lemmas.Bool.{not-true, not-false}
 use Rattle.std.specs.Int.Signed.{mag}
 use Rattle.std.specs.Int.{w64}
 use mir.Val.{hbits, of_z, to_z}
-use Rattle.text_tokens.specs.declared.NumberRead.{NumberRead}
-use Rattle.text_tokens.specs.declared.NumberRead.TheVariants.{Malformed, Number}
 use Rattle.text_tokens.specs.Text.{Parse, malformed, taken}
 use Rattle.text_tokens.specs.code.Places.{number_read}
 
@@ -23,9 +21,9 @@ held z h = to_z-of_z {w = w64} (record { sfits = h })
 
 -- a number that was malformed, and one that was read
 module _ (bytes : List ℕ) where
-  pub read-malformed : {r : NumberRead} {q : Parse ℤ} → number_read bytes r ≡ q → r ≡ Malformed → q ≡ malformed
+  pub read-malformed : {r : Option (ℤ × ℕ)} {q : Parse ℤ} → number_read bytes r ≡ q → r ≡ None → q ≡ malformed
   read-malformed e f = sym e ∙ ap (number_read bytes) f
 
-  pub read_taken : {r : NumberRead} {q : Parse ℤ} {v : ℤ} {next : ℕ} → number_read bytes r ≡ q → r ≡ Number v next
+  pub read_taken : {r : Option (ℤ × ℕ)} {q : Parse ℤ} {v : ℤ} {next : ℕ} → number_read bytes r ≡ q → r ≡ Some (v, next)
       → q ≡ taken v (drop next bytes)
   read_taken e f = sym e ∙ ap (number_read bytes) f

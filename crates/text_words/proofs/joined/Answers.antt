@@ -2,7 +2,6 @@
 use mathlib.Core.Path.{refl, ap}
 use Prim.Native.Nat.{ℕ, ◌+◌}
 use native.Mathlib.Omega.{arith}
-use borrow.Author.Rules.{rules}
 use Rattle.text_words.specs.laws.ShortTextLaws.{shift-exact, side-fits, side-holds}
 use Rattle.text_words.proofs.joined.Goals as goal
 

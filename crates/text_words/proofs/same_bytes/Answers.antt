@@ -1,7 +1,6 @@
 -- `same_bytes` meets its contract: shifted to the top, only the first n bytes of each word are left.
 use native.Mathlib.Omega.{arith}
 use Rattle.text_words.specs.laws.ShortTextLaws.{shift-tells}
-use borrow.Author.Rules.{rules}
 use Rattle.text_words.proofs.same_bytes.Goals as goal
 
 pub returns : goal.returns

@@ -3,7 +3,6 @@ use native.Mathlib.Omega.{arith}
 use mathlib.Core.Path.{refl}
 use Rattle.text_words.specs.code.Word.{lane_sum, none, more}
 use Rattle.text_words.specs.laws.ShortTextLaws.{holds-sum}
-use borrow.Author.Rules.{rules}
 use Rattle.text_words.proofs.three.Goals as goal
 
 pub returns : goal.returns
