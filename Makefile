@@ -16,33 +16,29 @@ PREFIX := /usr/local
 ROOM := $(DESTDIR)$(PREFIX)
 PACKED := kulfizan-$(VERSION)
 
-all: target/crates
+all: kit
+	rt all check
 
 kit:
 	@tools/kit
 
 lib: $(LIB)/libkulfizan.a $(LIB)/libkulfizan.so
 
-# Every crate, as many at a time as there are processors; again only where a source is newer. tools/rt is the kit's rt.
-target/crates: $(SOURCES) | kit
-	@mkdir -p target
-	tools/rt all check --jobs $$(nproc) >target/crates.log 2>&1 || { cat target/crates.log; exit 1; }
-	mv target/crates.log $@
-
-$(LIB)/libkulfizan.a: target/crates
+# Proved again only where a source is newer.
+$(LIB)/libkulfizan.a: $(SOURCES) | kit
 	@mkdir -p $(LIB)
-	cd crates/kulfizan_c && ../../tools/rt lib >../../$(LIB)/log 2>&1 || { cat ../../$(LIB)/log; exit 1; }
+	cd crates/kulfizan_c && rt lib >../../$(LIB)/log 2>&1 || { cat ../../$(LIB)/log; exit 1; }
 	cp crates/kulfizan_c/out/libkulfizan_c.a $@
 
 $(LIB)/libkulfizan.so: $(LIB)/libkulfizan.a
 	gcc -shared -Wl,-soname,$(SONAME) -o $@ -Wl,--whole-archive $< -Wl,--no-whole-archive
 
-# `rt run` builds a program and runs it, here on nothing.
+# Built again only where a source is newer; `rt run` builds a program and runs it, here on nothing.
 programs: $(PROGRAMS:%=target/bin/%)
 
-target/bin/%: target/crates
+target/bin/%: $(SOURCES) | kit
 	@mkdir -p target/bin
-	cd crates/$* && ../../tools/rt run </dev/null >../../target/bin/$*.log 2>&1 || { cat ../../target/bin/$*.log; exit 1; }
+	cd crates/$* && rt run </dev/null >../../target/bin/$*.log 2>&1 || { cat ../../target/bin/$*.log; exit 1; }
 	cp crates/$*/out/$* $@
 	rm target/bin/$*.log
 

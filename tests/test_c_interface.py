@@ -1,7 +1,7 @@
 """The library's calls from other languages: every answer to a query of a sheet, with a rate, a date or neither, against a second
 implementation, the refusal, both ends and the figure, with every number that was lent; a couple's refusals that are decided by
 its sheets and its word; the year a target is reached against the library's own quotes of the 51 years; the whole run of an input,
-with every byte that was lent; the Python module's own functions; and the example in C.
+with every byte that was lent; the Python module's own functions; the example in C; and what the archive needs from outside.
 
 Sheets, sets and the two calls between them are tests/test_sheets.py, and which numbers are dates is tests/test_dates.py. An
 argument is taken as the seed.
@@ -12,6 +12,7 @@ import itertools
 import os
 import pathlib
 import random
+import re
 import shutil
 import subprocess
 import sys
@@ -493,6 +494,13 @@ def compare_example(count, draw):
             count.take(done.returncode == 2 and not done.stdout, f"the example with {words[1:]}")
 
 
+def compare_needs(count):
+    """The archive needs two functions from outside, so that a program without a C library has no more to bring."""
+    done = subprocess.run(["nm", "-u", ROOT / "target" / "lib" / "libkulfizan.a"], capture_output=True, text=True, check=False)
+    needs = set(re.findall(r"^ +U (\S+)$", done.stdout, re.M))
+    count.take(done.returncode == 0 and needs <= {"memcpy", "memset"}, f"libkulfizan.a needs {needs}: {done.stderr}")
+
+
 def main():
     seed = int(sys.argv[1]) if len(sys.argv) > 1 else SEED
     print(f"seed {seed}")
@@ -510,6 +518,7 @@ def main():
         compare_module(count, draw, module)
         compare_places(count, module)
         compare_example(count, draw)
+        compare_needs(count)
     return count.close()
 
 

@@ -45,9 +45,11 @@ pub fn put_text(buffer: &mut [u8], at: usize, text: &[u8]) -> usize
     requires { at + length text.now ≤ length buffer.old }
     ensures { (result ≡ at + length text.now) × (buffer.new ≡ overwritten buffer.old at text.now) }
 {
-    let end = at + text.len();
-    buffer[at..end].copy_from_slice(text);
-    end
+    // byte by byte: `copy_from_slice` wants `memmove` from outside, which the library for C does without
+    for (i, byte) in text.iter().enumerate() {
+        buffer[at + i] = *byte;
+    }
+    at + text.len()
 }
 
 // Writes the decimal digits of a number from a place on, the last digit first; the place after them.
